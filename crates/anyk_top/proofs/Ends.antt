@@ -1,5 +1,5 @@
 -- How a call ended, from the results of its parts.
-use Rattle.std.proofs.Common.{◌≡◌, ℕ, List, Option, Result, Ok, Err, OnOk, IfErr, inl, inr, refl, sym, subst}
+use Rattle.std.proofs.Common.{◌≡◌, ℕ, List, Option, Result, Ok, Err, OnOk, IfErr, inl, inr, refl, sym, subst, ap, ◌∙◌}
 use Rattle.outer_io.specs.Files.{Files}
 use Rattle.outer_io.specs.declared.writing.Unwritten.{Unwritten}
 use Rattle.refusal_lines.specs.declared.refusal.Refusal.{Refusal}
@@ -11,7 +11,9 @@ use Rattle.refusal_lines.specs.SinkState.{SinkState}
 use Rattle.verdict.specs.Outcome.{GotNothing, HasLine, IsReason, IsCaused, IsComplete, IsCut, Outcome, Outside}
 use Rattle.verdict.specs.Words.{Asked, Command, no_command, built}
 use Rattle.verdict.proofs.Whole.{done_outcome, ended_outcome}
-use Rattle.anyk_top.specs.CommandLine.{IsEarly}
+use Rattle.cmd_words.specs.declared.fault.WordsFault.{WordsFault}
+use Rattle.cmd_words.specs.declared.fault.WordsFault.TheVariants as fault
+use Rattle.anyk_top.specs.CommandLine.{IsEarly, rejected_as}
 use Rattle.anyk_top.specs.Endings.{Finished, HasSent}
 
 -- ---- the line of a refusal
@@ -74,16 +76,17 @@ built_outcome command told old new e e' (Err refusal) status complete fits cause
 
 -- ---- how a call ends if its arguments are not a command
 
-early_reason : (asked : Asked) (told : Option Files) (old new : Outside) (a : Reason) → IsEarly asked a → GotNothing old new → HasLine old new (line_of a)
-    → Outcome asked told old new (status_of a)
-early_reason asked told old new reason.Usage early nothing line =
+early_reason : (asked : Asked) (told : Option Files) (old new : Outside) (f : WordsFault) → IsEarly asked f → GotNothing old new → HasLine old new (line_of (rejected_as f))
+    → Outcome asked told old new (status_of (rejected_as f))
+early_reason asked told old new fault.Usage early nothing line =
     ended_outcome asked told old new reason.Usage (record { fits = early; caused = tt; cut = nothing; line = line }) (λ h. inl refl)
-early_reason asked told old new reason.NoMemory early nothing line =
+early_reason asked told old new fault.NoMemory early nothing line =
     ended_outcome asked told old new reason.NoMemory (record { fits = tt; caused = tt; cut = inl nothing; line = line }) (λ h. inr refl)
-early_reason asked told old new a early nothing line = absurd early
 
-pub early_outcome : (asked : Asked) (told : Option Files) (old new : Outside) (refusal : Refusal) (status : ℕ) → IsEarly asked (reason_of refusal) → GotNothing old new
-    → Finished (errors_of old) (errors_of new) (Err refusal) status → Outcome asked told old new status
-early_outcome asked told old new refusal status early nothing (is, sent) =
+pub early_outcome : (asked : Asked) (told : Option Files) (old new : Outside) (f : WordsFault) (refusal : Refusal) (status : ℕ) → IsEarly asked f
+    → reason_of refusal ≡ rejected_as f → GotNothing old new → Finished (errors_of old) (errors_of new) (Err refusal) status → Outcome asked told old new status
+early_outcome asked told old new f refusal status early same nothing (is, sent) =
     let P : ℕ → Type 0 = Outcome asked told old new in
-    subst P (sym is) (early_reason asked told old new (reason_of refusal) early nothing (has_line old new (line_of (reason_of refusal)) sent))
+    let Q : Reason → Type 0 = λ a. HasLine old new (line_of a) in
+    subst P (sym (is ∙ ap status_of same)) (early_reason asked told old new f early nothing
+    (subst Q same (has_line old new (line_of (reason_of refusal)) sent)))

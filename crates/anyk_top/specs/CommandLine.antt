@@ -2,6 +2,8 @@
 use Rattle.std.specs.Prelude.{◌≡◌, ℕ, List, Option, Some, None}
 use Rattle.refusal_lines.specs.Reason as reason
 use Rattle.refusal_lines.specs.Reason.{Reason}
+use Rattle.cmd_words.specs.declared.fault.WordsFault.{WordsFault}
+use Rattle.cmd_words.specs.declared.fault.WordsFault.TheVariants as fault
 use Rattle.cmd_words.specs.Commands.{CommandSaid, run_said, session_said, plan_said, prove_said, verify_said, load_said}
 use Rattle.task_plan.specs.Tasks.{words_of}
 use Rattle.verdict.specs.Words.{Words, Asked, no_command, built, run, plan, session, load, prove, verify}
@@ -25,8 +27,12 @@ asked_of (Some (prove_said said)) = built (prove (words_of said))
 asked_of (Some (verify_said said)) = asked_verify said.proof (words_of said)
 asked_of (Some (load_said engine number rows)) = built (load number rows)
 
+-- why a call ends if its arguments are rejected
+abbrev pub rejected_as : WordsFault → Reason
+rejected_as fault.Usage = reason.Usage
+rejected_as fault.NoMemory = reason.NoMemory
+
 -- the arguments are not a command, or memory ran out
-abbrev pub IsEarly : Asked → Reason → Type 0
-IsEarly asked reason.Usage = asked ≡ no_command
-IsEarly asked reason.NoMemory = Unit {0}
-IsEarly asked other = ⊥
+abbrev pub IsEarly : Asked → WordsFault → Type 0
+IsEarly asked fault.Usage = asked ≡ no_command
+IsEarly asked fault.NoMemory = Unit {0}

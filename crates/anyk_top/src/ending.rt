@@ -1,7 +1,11 @@
 //! How a call ends.
+ghost use Rattle.std.specs.Prelude.{◌≡◌};
+ghost use Rattle.refusal_lines.specs.RefusalReasons.{reason_of};
 ghost use Rattle.refusal_lines.specs.SinkState.{state_of};
+ghost use Rattle.anyk_top.specs.CommandLine.{rejected_as};
 ghost use Rattle.anyk_top.specs.Endings.{Finished};
 
+use cmd_words::WordsFault;
 use outer_io::Sink;
 use refusal_lines::{Refusal, write_line};
 
@@ -16,5 +20,15 @@ pub(crate) fn finish<E: Sink>(err: &mut E, outcome: Result<(), Refusal<'_>>) -> 
             let _ = write_line(err, refusal);
             refusal.status()
         }
+    }
+}
+
+/// The refusal of arguments that are rejected.
+pub(crate) fn refusal_of<'a>(fault: WordsFault) -> Refusal<'a>
+    ensures { reason_of result ≡ rejected_as fault }
+{
+    match fault {
+        WordsFault::Usage => Refusal::Usage,
+        WordsFault::NoMemory => Refusal::NoMemory,
     }
 }

@@ -10,7 +10,7 @@ ghost use Rattle.verdict.specs.Sides.{outside};
 
 use crate::answering::answer;
 use crate::asking::read_request;
-use crate::ending::finish;
+use crate::ending::{finish, refusal_of};
 use hash_keys::Keys;
 use outer_io::{Shelf, Sink};
 use std::alloc::Global;
@@ -71,7 +71,7 @@ pub fn run_keyed<F: Shelf, S: Sink, E: Sink, L: Ledger>(
             drop(request);
             status
         }
-        Err(refusal) => finish(err, Err(refusal)),
+        Err(fault) => finish(err, Err(refusal_of(fault))),
     }
 }
 

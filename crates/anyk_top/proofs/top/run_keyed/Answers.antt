@@ -23,7 +23,7 @@ returns-in-Ok-clause-outcome g c =
     c.answer.result c.finish-status.result c.answer.ensures.done c.answer.ensures.fits c.answer.ensures.caused c.answer.ensures.cut c.finish-status.ensures)
 
 pub returns-in-Err-clause-outcome : goal.returns-in-Err-clause-outcome
-returns-in-Err-clause-outcome g c = early_outcome _ _ _ _ c.in-Err.refusal _ c.in-Err.ensures.early (appends_nothing _) c.finish.ensures
+returns-in-Err-clause-outcome g c = early_outcome _ _ _ _ c.in-Err.fault _ _ c.in-Err.ensures.early c.refusal_of.ensures (appends_nothing _) c.finish.ensures
 
 pub returns-in-Ok-clause-bounded : goal.returns-in-Ok-clause-bounded
 returns-in-Ok-clause-bounded g c = rw c.in-Ok.ensures.built c.answer.ensures.bounded
