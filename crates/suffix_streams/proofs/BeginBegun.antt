@@ -122,7 +122,7 @@ module _ {R : Type 0} (d : ℕ) (key : R → KeyOf d 16) (t : List (NodeView R))
       let ahead = first_ahead d key t formed free run_of q h f (group_list d key t q h) (λ i. part_list d key t q (get_or (members t q h) i 0) (child_count t q)) l (formed.inhabited q h l lg) x.only.2.0 x.only.2.1
       (group_is_ranking d key t q h l) (λ i li. row_is_ranking d key t formed q (get_or (members t q h) i 0) l) in
       let known : Known q h f = omega (arith, ap (λ (p : Pair). p.right) x.only.2.0, row_one q (get_or (members t q h) f.tag.member 0)) in
-      let parts : Parts q h f = first_own d key t formed free es nodes q h 0 f.tag l (formed.inhabited q h l lg) x.only.2.0 x.only.2.2 x.only.2.3 (λ c few. record { found = λ some. absurd (omega (arith, some, ap length (b.no_products q (get_or (members t q h) 0 0)))); first = λ none. refl }) in
+      let parts : Parts q h f = first_own d key t formed free es nodes q h 0 f.tag l (formed.inhabited q h l lg) x.only.2.0 x.only.2.2 x.only.2.3 x.only.2.4 (λ c few. record { found = λ some. absurd (omega (arith, some, ap length (b.no_products q (get_or (members t q h) 0 0)))); first = λ none. refl }) in
       record {
         head_in = x.head_in;
         head_node = x.node;

@@ -93,7 +93,7 @@ module _ {R : Type 0} (d : ℕ) (key : R → KeyOf d 16) (t : List (NodeView R))
 
   -- a first solution keeps its parts
   first_before : (q g : ℕ) (queue : List (Entry R Source)) → HasFirst d key t es q g queue → HasFirst d key t (es ++ (e ∷ [])) q g queue
-  first_before q g queue x = (x.0, x.1, (x.2.0, x.2.1, λ c kids. still (x.2.2 c kids), x.2.3))
+  first_before q g queue x = (x.0, x.1, (x.2.0, x.2.1, λ c kids. still (x.2.2 c kids), x.2.3, x.2.4))
     where
       still : {r c : ℕ} {cell : Cell} → IsFirstCell t es q r c cell → IsFirstCell t (es ++ (e ∷ [])) q r c cell
       still {r} {c} {cell} f = record {

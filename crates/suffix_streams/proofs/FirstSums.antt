@@ -1,7 +1,7 @@
 -- The first solution of a row, as the sum of first solutions.
 use Rattle.std.proofs.Common.{◌≡◌, ℕ, zero, suc, ◌+◌, ◌<◌, ◌≤◌, List, length, get_or, refl, sym, ap, ◌∙◌, subst, arith}
 use Rattle.stream_store.specs.declared.entry.Linked.{Linked}
-use Rattle.tdp_core.specs.TreeView.{NodeView, rows, members, child_count, group_named}
+use Rattle.tdp_core.specs.TreeView.{NodeView, rows, number, members, child_count, group_named}
 use Rattle.tdp_core.specs.WellFormed.{IsFormed, IsTieFreeTree}
 use Rattle.tdp_core.proofs.TreeFacts.{member_is_row}
 use Rattle.tdp_model.specs.KeyTuple.{KeyOf, key_add, key_none}
@@ -36,9 +36,11 @@ module _ {R : Type 0} (d : ℕ) (key : R → KeyOf d 16) (t : List (NodeView R))
 
   -- the source of the first solution of member j has its parts
   pub first_own : (q g j : ℕ) (s : Source) → q < length t → j < length (members t q g) → run_of s ≡ record { left = j; right = 0 } → HasFirstParts t es q (get_or (members t q g) j 0) s.cell → s.row ≡ get_or (members t q g) j 0
+      → s.number ≡ number t q (get_or (members t q g) j 0)
       → ((c : ℕ) → c ≤ child_count t q → IsKnownPart nodes q (get_or (members t q g) j 0) c 0) → HasOwnParts d key t es nodes q g s
-  first_own q g j s l member run parts row known = (
+  first_own q g j s l member run parts row numbered known = (
     row ∙ ap (λ (p : Pair). get_or (members t q g) p.left 0) (sym run),
+    numbered ∙ ap (λ (p : Pair). number t q (get_or (members t q g) p.left 0)) (sym run),
     λ c kids.
         subst (λ (p : Pair). IsSumOf d key t es nodes q (get_or (members t q g) p.left 0) c p.right s.cell) (sym run)
         (first_sum_of q (get_or (members t q g) j 0) c s.cell l (member_is_row d key t formed q g j l member) (omega (arith, kids)) (parts c kids) (known c (omega (arith, kids)))),

@@ -55,7 +55,7 @@ module _ {R : Type 0} (d : ℕ) (key : R → KeyOf d 16) (t : List (NodeView R))
       → All (λ (e : Entry R Source). HasOwnParts d key t es' nodes' q g e.tag) xs
   parts_stay q g keeps xs a =
       All-weaker (λ (e : Entry R Source). HasOwnParts d key t es nodes q g e.tag) (λ (e : Entry R Source). HasOwnParts d key t es' nodes' q g e.tag)
-      (λ e h. (h.0, λ c kids. sum_stays q (get_or (members t q g) e.tag.member 0) c e.tag.place e.tag.cell (keeps (get_or (members t q g) e.tag.member 0) c e.tag.cell.left (omega (arith, kids))) (h.1 c kids))) xs a
+      (λ e h. (h.0, h.1, λ c kids. sum_stays q (get_or (members t q g) e.tag.member 0) c e.tag.place e.tag.cell (keeps (get_or (members t q g) e.tag.member 0) c e.tag.cell.left (omega (arith, kids))) (h.2 c kids))) xs a
 
   pub stream_stays : (q g : ℕ) → stream_of nodes' q g ≡ stream_of nodes q g → stream es' q g ≡ stream es q g → ((r : ℕ) → row_known nodes q r ≤ row_known nodes' q r)
       → ((r k p : ℕ) → k < child_count t q → IsKnownPart nodes q r k p → IsKnownPart nodes' q r k p) → IsStreamOf d key t es nodes q g → IsStreamOf d key t es' nodes' q g

@@ -9,7 +9,7 @@ use Rattle.std.proofs.lemmas.List.Sorted.{All-permutation}
 use Rattle.stream_store.specs.declared.entry.Linked.{Linked}
 use Rattle.take2_heap.specs.declared.entry.Entry.{Entry}
 use Rattle.take2_heap.specs.Order.{IsLeast}
-use Rattle.tdp_core.specs.TreeView.{NodeView, rows, members, child_count, group_count, best}
+use Rattle.tdp_core.specs.TreeView.{NodeView, rows, number, members, child_count, group_count, best}
 use Rattle.tdp_core.specs.WellFormed.{IsTieFreeTree}
 use Rattle.tdp_core.proofs.TreeFacts.{member_is_row}
 use Rattle.rankings.specs.Order.{IsAscending}
@@ -154,7 +154,7 @@ pub record IsNextOffer {R : Type 0} (d : ℕ) (key : R → KeyOf d 16) (t : List
   pub none : offer ≡ None → row_known nodes q r ≤ place
   pub run : (e : Entry R Source) → offer ≡ Some e → run_of e.tag ≡ record { left = member; right = place }
   pub known : (e : Entry R Source) → offer ≡ Some e → place < row_known nodes q r
-  pub parts : (e : Entry R Source) → offer ≡ Some e → (e.tag.row ≡ r) × ((c : ℕ) → child_count t q ≡ suc c → IsSumOf d key t es nodes q r c place e.tag.cell)
+  pub parts : (e : Entry R Source) → offer ≡ Some e → (e.tag.row ≡ r) × (e.tag.number ≡ number t q r) × ((c : ℕ) → child_count t q ≡ suc c → IsSumOf d key t es nodes q r c place e.tag.cell)
   pub rank : (e : Entry R Source) → offer ≡ Some e → key e.rank ≡ get_or (part_list d key t q r (length (products_of nodes q r))) place (key_none d 16)
 
 module _ {R : Type 0} (d : ℕ) (key : R → KeyOf d 16) (t : List (NodeView R)) (es : List (Linked (Found R))) (nodes : List (NodeStreamsView R)) (h : IsStreams d key t es nodes) (q g : ℕ)
@@ -217,9 +217,10 @@ module _ {R : Type 0} (d : ℕ) (key : R → KeyOf d 16) (t : List (NodeView R))
         next.run e s ∙ ap (λ (z : Source). (let p : Pair = record { left = z.member; right = z.place + 1 } in p)) (sym is_source),
         (
           (next.parts e s).0 ∙ is_row ∙ ap (λ (p : Pair). get_or (members t q g) p.left 0) (sym (next.run e s)),
+          (next.parts e s).1 ∙ ap (number t q) is_row ∙ ap (λ (p : Pair). number t q (get_or (members t q g) p.left 0)) (sym (next.run e s)),
           λ c kids.
               subst (λ (p : Pair). IsSumOf d key t es nodes q (get_or (members t q g) p.left 0) c p.right e.tag.cell) (sym (next.run e s))
-              (subst (λ z. IsSumOf d key t es nodes q z c (source.place + 1) e.tag.cell) is_row ((next.parts e s).1 c kids)),
+              (subst (λ z. IsSumOf d key t es nodes q z c (source.place + 1) e.tag.cell) is_row ((next.parts e s).2 c kids)),
         ),
       )
 
@@ -255,7 +256,7 @@ module _ {R : Type 0} (d : ℕ) (key : R → KeyOf d 16) (t : List (NodeView R))
   below_parts : IsTieFreeTree t → (k : ℕ) (o : Option (Entry R Source)) → IsFirstBelow d key t es q g (top.tag.place + 1) k o → MaybeHolds Parts o
   below_parts apart k None f = tt
   below_parts apart k (Some e) f =
-      first_own d key t h.tree apart es nodes q g k e.tag l f.1 f.2.0 f.2.2 f.2.3 (λ c few. first_known d key t es nodes h q (get_or (members t q g) k 0) c l (member_is_row d key t h.tree q g k l f.1) few)
+      first_own d key t h.tree apart es nodes q g k e.tag l f.1 f.2.0 f.2.2 f.2.3 f.2.4 (λ c few. first_known d key t es nodes h q (get_or (members t q g) k 0) c l (member_is_row d key t h.tree q g k l f.1) few)
 
   left_facts : MaybeHolds Held left × MaybeHolds Known left × IsBelow d key n lists run_of (run_of top.tag) (2 * top.tag.member + 1) left
   left_facts = below_facts (2 * top.tag.member + 1) left on_left
@@ -303,12 +304,12 @@ module _ {R : Type 0} (d : ℕ) (key : R → KeyOf d 16) (t : List (NodeView R))
 -- the offer that was made
 pub next_offer : {R : Type 0} (d : ℕ) (key : R → KeyOf d 16) (t : List (NodeView R)) (es : List (Linked (Found R))) (nodes : List (NodeStreamsView R)) (q r member place m p : ℕ) (offer : Option (Entry R Source)) → m ≡ member → p ≡ place
     → IfNone offer (row_known nodes q r ≤ p) → IfSome offer (λ e. (e.tag.member ≡ m) × (e.tag.place ≡ p)) → IfSome offer (λ e. p < row_known nodes q r)
-    → IfSome offer (λ e. (e.tag.row ≡ r) × ((c : ℕ) → child_count t q ≡ c + 1 → IsSumOf d key t es nodes q r c p e.tag.cell)) → IfSome offer (λ e. key e.rank ≡ get_or (part_list d key t q r (length (products_of nodes q r))) p (key_none d 16)) → IsNextOffer d key t es nodes q r member place offer
+    → IfSome offer (λ e. (e.tag.row ≡ r) × (e.tag.number ≡ number t q r) × ((c : ℕ) → child_count t q ≡ c + 1 → IsSumOf d key t es nodes q r c p e.tag.cell)) → IfSome offer (λ e. key e.rank ≡ get_or (part_list d key t q r (length (products_of nodes q r))) p (key_none d 16)) → IsNextOffer d key t es nodes q r member place offer
 next_offer {R} d key t es nodes q r member place m p offer em ep none source known parts rank =
     subst (λ z. IsNextOffer d key t es nodes q r member z offer) ep (subst (λ z. IsNextOffer d key t es nodes q r z p offer) em (cases offer none source known parts rank))
   where
     cases : (o : Option (Entry R Source)) → IfNone o (row_known nodes q r ≤ p) → IfSome o (λ e. (e.tag.member ≡ m) × (e.tag.place ≡ p)) → IfSome o (λ e. p < row_known nodes q r)
-        → IfSome o (λ e. (e.tag.row ≡ r) × ((c : ℕ) → child_count t q ≡ c + 1 → IsSumOf d key t es nodes q r c p e.tag.cell)) → IfSome o (λ e. key e.rank ≡ get_or (part_list d key t q r (length (products_of nodes q r))) p (key_none d 16)) → IsNextOffer d key t es nodes q r m p o
+        → IfSome o (λ e. (e.tag.row ≡ r) × (e.tag.number ≡ number t q r) × ((c : ℕ) → child_count t q ≡ c + 1 → IsSumOf d key t es nodes q r c p e.tag.cell)) → IfSome o (λ e. key e.rank ≡ get_or (part_list d key t q r (length (products_of nodes q r))) p (key_none d 16)) → IsNextOffer d key t es nodes q r m p o
     cases None a b c f k = record { none = λ e. a; run = λ e s. absurd (clash e s); known = λ e s. absurd (clash e s); parts = λ e s. absurd (clash e s); rank = λ e s. absurd (clash e s) }
       where
         clash : (e : Entry R Source) → None ≡ Some e → ⊥
@@ -319,8 +320,8 @@ next_offer {R} d key t es nodes q r member place m p offer em ep none source kno
           subst (λ (z : Entry R Source). run_of z.tag ≡ record { left = m; right = p }) (same_of e s)
           (ap (λ (z : ℕ). (let y : Pair = record { left = z; right = x.tag.place } in y)) b.0 ∙ ap (λ (z : ℕ). (let y : Pair = record { left = m; right = z } in y)) b.1);
       known = λ e s. c;
-      parts = λ e s. subst (λ (z : Entry R Source). (z.tag.row ≡ r) × ((i : ℕ) → child_count t q ≡ suc i → IsSumOf d key t es nodes q r i p z.tag.cell)) (same_of e s)
-          (f.0, λ i kids. f.1 i (omega (arith, kids)));
+      parts = λ e s. subst (λ (z : Entry R Source). (z.tag.row ≡ r) × (z.tag.number ≡ number t q r) × ((i : ℕ) → child_count t q ≡ suc i → IsSumOf d key t es nodes q r i p z.tag.cell)) (same_of e s)
+          (f.0, f.1, λ i kids. f.2 i (omega (arith, kids)));
       rank = λ e s. subst (λ (z : Entry R Source). key z.rank ≡ get_or (part_list d key t q r (length (products_of nodes q r))) p (key_none d 16)) (same_of e s) k;
     }
       where

@@ -4,7 +4,7 @@ use Rattle.std.proofs.lemmas.List.{get_or-set_same}
 use Rattle.stream_store.specs.declared.entry.Linked.{Linked}
 use Rattle.take2_heap.specs.declared.entry.Entry.{Entry}
 use Rattle.rank_key.specs.Bits.{bit_length}
-use Rattle.tdp_core.specs.TreeView.{NodeView, parent, rows, members, child_count, group_count}
+use Rattle.tdp_core.specs.TreeView.{NodeView, parent, rows, number, members, child_count, group_count}
 use Rattle.tdp_core.proofs.TreeFacts.{member_is_row}
 use Rattle.tdp_model.specs.Below.{is_below}
 use Rattle.tdp_model.specs.KeyTuple.{KeyOf}
@@ -43,6 +43,7 @@ pub record IsTopRead {R : Type 0} (t : List (NodeView R)) (n : List (NodeStreams
   pub member : top.tag.member < length (members t f.node f.group)
   pub known : top.tag.place < row_known n f.node (get_or (members t f.node f.group) top.tag.member 0)
   pub row : top.tag.row ≡ get_or (members t f.node f.group) top.tag.member 0
+  pub numbered : top.tag.number ≡ number t f.node (get_or (members t f.node f.group) top.tag.member 0)
 
 -- x are the lists of the node that were read
 pub top_read : {R : Type 0} {d : ℕ} {key : R → KeyOf d 16} {t : List (NodeView R)} {es : List (Linked (Found R))} {n : List (NodeStreamsView R)} {entry : ℕ} {f : Found R} (o : IsOwned d key t es n entry f) (x : NodeStreamsView R) (top : Entry R Source)
@@ -52,7 +53,7 @@ top_read {R} {d} {key} {t} {es} {n} {entry} {f} o x top read there is =
     let some0 : 0 < length (stream_of n f.node f.group).queue = subst (λ z. 0 < length (stream_at z f.group).queue) (sym lists) there in
     let first0 : top ≡ get_or (stream_of n f.node f.group).queue 0 top = is ∙ ap (λ z. get_or (stream_at z f.group).queue 0 top) (sym lists) in
     let known0 = top_known d key t es n o.formed f.node f.group top o.node o.group some0 first0 in
-    record { some = some0; first = first0; member = known0.1; known = known0.0; row = known0.2 }
+    record { some = some0; first = first0; member = known0.1; known = known0.0; row = known0.2; numbered = known0.3 }
 
 pub row_within : {R : Type 0} {d : ℕ} {key : R → KeyOf d 16} {t : List (NodeView R)} {es : List (Linked (Found R))} {n : List (NodeStreamsView R)} {entry : ℕ} {f : Found R} {top : Entry R Source} (o : IsOwned d key t es n entry f) (p : IsTopRead t n f top)
     (row : ℕ) → row ≡ get_or (members t f.node f.group) top.tag.member 0 → row < rows t f.node
@@ -133,9 +134,9 @@ row_searched {R} d key t u u2 es es1 b m o v row count s1 s2 same_tree same_entr
 module _ {R : Type 0} {d : ℕ} {key : R → KeyOf d 16} {t : List (NodeView R)} {es : List (Linked (Found R))} {n : List (NodeStreamsView R)} {entry : ℕ} {f : Found R} (o : IsOwned d key t es n entry f) (s0 s1 : ℕ) where
   -- the steps of a call that only opens a row
   pub only_opened : s1 ≤ s0 + 4 + 3 * child_count t f.node
-      → IsWithinSteps t n (is_below (parent t) (node_of es entry)) (λ k. 12 + 4 * k + 20 * kids_size t (node_of es entry) (child_count t (node_of es entry)) * (1 + k)) s0 s1
+      → IsWithinSteps t n (is_below (parent t) (node_of es entry)) (λ k. 14 + 4 * k + 20 * kids_size t (node_of es entry) (child_count t (node_of es entry)) * (1 + k)) s0 s1
   only_opened steps =
-      subst (λ v. IsWithinSteps t n (is_below (parent t) v) (λ k. 12 + 4 * k + 20 * kids_size t v (child_count t v) * (1 + k)) s0 s1) (sym o.node_is)
+      subst (λ v. IsWithinSteps t n (is_below (parent t) v) (λ k. 14 + 4 * k + 20 * kids_size t v (child_count t v) * (1 + k)) s0 s1) (sym o.node_is)
       (opened_within d key t o.formed.tree n f.node s0 s1 steps)
 
 module _ {R : Type 0} {d : ℕ} {key : R → KeyOf d 16} {t : List (NodeView R)} {es b : List (Linked (Found R))} {n m z : List (NodeStreamsView R)} {entry : ℕ} {f : Found R} {top : Entry R Source} {row count s0 s1 s2 : ℕ} (o : IsOwned d key t es n entry f)
@@ -149,10 +150,10 @@ module _ {R : Type 0} {d : ℕ} {key : R → KeyOf d 16} {t : List (NodeView R)}
       (queues_of d key t f.node row count o.node c.few es b n m z s.formed a.above s.extended a.queues s.queues)
 
   -- s3 are the steps at the end
-  pub searched_steps : (s3 : ℕ) → ((k : ℕ) → ((v g : ℕ) → bit_length (length (members t v g) + 1) ≤ k) → s3 ≤ s2 + 8 + 3 * child_count t f.node + 4 * k)
-      → IsWithinSteps t n (is_below (parent t) (node_of es entry)) (λ k. 12 + 4 * k + 20 * kids_size t (node_of es entry) (child_count t (node_of es entry)) * (1 + k)) s0 s3
+  pub searched_steps : (s3 : ℕ) → ((k : ℕ) → ((v g : ℕ) → bit_length (length (members t v g) + 1) ≤ k) → s3 ≤ s2 + 10 + 3 * child_count t f.node + 4 * k)
+      → IsWithinSteps t n (is_below (parent t) (node_of es entry)) (λ k. 14 + 4 * k + 20 * kids_size t (node_of es entry) (child_count t (node_of es entry)) * (1 + k)) s0 s3
   searched_steps s3 last =
-      subst (λ v. IsWithinSteps t n (is_below (parent t) v) (λ k. 12 + 4 * k + 20 * kids_size t v (child_count t v) * (1 + k)) s0 s3) (sym o.node_is)
+      subst (λ v. IsWithinSteps t n (is_below (parent t) v) (λ k. 14 + 4 * k + 20 * kids_size t v (child_count t v) * (1 + k)) s0 s3) (sym o.node_is)
       (call_within d key t o.formed.tree n f.node s0 s1 count s2 s3 m a.formed.all_nodes c.all a.queues a.steps s.steps last)
 
   -- the search leaves the stream as it was after the row was opened

@@ -6,7 +6,7 @@ use Rattle.std.proofs.lemmas.List.Elements.{All-get_or}
 use Rattle.stream_store.specs.declared.entry.Linked.{Linked}
 use Rattle.take2_heap.specs.declared.entry.Entry.{Entry}
 use Rattle.take2_heap.specs.Order.{IsLeast}
-use Rattle.tdp_core.specs.TreeView.{NodeView, rows, members, child_count, group_count}
+use Rattle.tdp_core.specs.TreeView.{NodeView, rows, number, members, child_count, group_count}
 use Rattle.tdp_core.specs.WellFormed.{IsTieFreeTree}
 use Rattle.tdp_model.specs.KeyTuple.{KeyOf, key_none}
 use Rattle.tdp_model.specs.Product.{run_key}
@@ -101,7 +101,7 @@ pub queue_passed : {R : Type 0} {d : ℕ} {key : R → KeyOf d 16} {t : List (No
     → 0 < length (stream_of n v g).queue → ((x : Entry R Source) → (get_or (stream_of n v g).queue 0 x).tag.member ≡ m)
     → ((x : Entry R Source) → (get_or (stream_of n v g).queue 0 x).tag.place + 1 ≡ p) → r ≡ get_or (members t v g) m 0 → length (products_of n v r) ≡ child_count t v → IsReached d key t n v r (child_count t v) p
     → IfNone offer (row_known n v r ≤ p) → IfSome offer (λ e. (e.tag.member ≡ m) × (e.tag.place ≡ p)) → IfSome offer (λ e. p < row_known n v r)
-    → IfSome offer (λ e. (e.tag.row ≡ r) × ((c : ℕ) → child_count t v ≡ c + 1 → IsSumOf d key t es n v r c p e.tag.cell)) → IfSome offer (λ e. key e.rank ≡ get_or (part_list d key t v r (length (products_of n v r))) p (key_none d 16))
+    → IfSome offer (λ e. (e.tag.row ≡ r) × (e.tag.number ≡ number t v r) × ((c : ℕ) → child_count t v ≡ c + 1 → IsSumOf d key t es n v r c p e.tag.cell)) → IfSome offer (λ e. key e.rank ≡ get_or (part_list d key t v r (length (products_of n v r))) p (key_none d 16))
     → ((x : Entry R Source) → IsLeast d key (get_or (stream_of n v g).queue 0 x) (stream_of n v g).queue) → IsQueuePassed d key t es n v g q
 queue_passed {R} {d} {key} {t} {es} {n} {last} {v} {g} {r} top apart m p offer q h moved some member place row whole reached none source known parts rank least =
     let l : v < length t = top.node in

@@ -110,14 +110,14 @@ pub record IsChildAsked {R : Type 0} (d : ℕ) (key : R → KeyOf d 16) (t : Lis
   pub formed : IsStreams d key t b o
   pub grown : IsGrown (parent t) (child t v (count - 1)) es m b o
   pub queues : AreQueuesGrown (is_below (parent t) (child t v (count - 1))) m o
-  pub steps : IsWithinSteps t m (is_below (parent t) (child t v (count - 1))) (λ k. 12 + 4 * k + 20 * kids_size t (child t v (count - 1)) (child_count t (child t v (count - 1))) * (1 + k)) s0 s1
+  pub steps : IsWithinSteps t m (is_below (parent t) (child t v (count - 1))) (λ k. 14 + 4 * k + 20 * kids_size t (child t v (count - 1)) (child_count t (child t v (count - 1))) * (1 + k)) s0 s1
   pub own : lists_of o v ≡ lists_of m v
   pub left : cell.left < part_known o v r (count - 1)
   pub in_row : count - 1 < length (products_of o v r)
 
 pub child_asked : {R : Type 0} {d : ℕ} {key : R → KeyOf d 16} {t : List (NodeView R)} {es : List (Linked (Found R))} {n m : List (NodeStreamsView R)} {v r count : ℕ} {cell : Cell} (a : IsRoomMade d key t es n m v r count cell)
     (u : List (NodeView R)) (b : List (Linked (Found R))) (o : List (NodeStreamsView R)) (s0 s1 : ℕ) → u ≡ t → IsStreams d key u b o → IsGrown (parent t) (node_of es cell.right) es m b o → AreQueuesGrown (is_below (parent t) (node_of es cell.right)) m o
-    → IsWithinSteps t m (is_below (parent t) (node_of es cell.right)) (λ k. 12 + 4 * k + 20 * kids_size t (node_of es cell.right) (child_count t (node_of es cell.right)) * (1 + k)) s0 s1 → IsChildAsked d key t es b m o v r count cell s0 s1
+    → IsWithinSteps t m (is_below (parent t) (node_of es cell.right)) (λ k. 14 + 4 * k + 20 * kids_size t (node_of es cell.right) (child_count t (node_of es cell.right)) * (1 + k)) s0 s1 → IsChildAsked d key t es b m o v r count cell s0 s1
 child_asked {R} {d} {key} {t} {es} {n} {m} {v} {r} {count} {cell} a u b o s0 s1 same h grown queues steps =
     let g : IsGrown (parent t) (child t v (count - 1)) es m b o = subst (λ q. IsGrown (parent t) q es m b o) a.known.node grown in
     let own : lists_of o v ≡ lists_of m v = g.above v a.below in
@@ -125,7 +125,7 @@ child_asked {R} {d} {key} {t} {es} {n} {m} {v} {r} {count} {cell} a u b o s0 s1 
       formed = subst (λ (z : List (NodeView R)). IsStreams d key z b o) same h;
       grown = g;
       queues = subst (λ q. AreQueuesGrown (is_below (parent t) q) m o) a.known.node queues;
-      steps = subst (λ q. IsWithinSteps t m (is_below (parent t) q) (λ k. 12 + 4 * k + 20 * kids_size t q (child_count t q) * (1 + k)) s0 s1) a.known.node steps;
+      steps = subst (λ q. IsWithinSteps t m (is_below (parent t) q) (λ k. 14 + 4 * k + 20 * kids_size t q (child_count t q) * (1 + k)) s0 s1) a.known.node steps;
       own = own;
       left = omega (arith, a.known.left, ap (λ z. known_of z r (count - 1)) own);
       in_row = omega (arith, a.still_in_row, ap (λ z. length (get_or z.products r [])) own);

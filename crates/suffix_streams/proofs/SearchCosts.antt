@@ -31,7 +31,7 @@ spread : (a c b : ℕ) → 20 * (a + c) * (1 + b) ≡ 20 * a * (1 + b) + 20 * c 
 spread a c b = grind arith
 
 -- the steps at one child, and those below it
-child_sum : (s0 s1 s3 s4 below left sub all b c : ℕ) → 1 ≤ b → s1 ≤ s0 + (12 + 4 * b + below) → s3 + 6 * c ≤ s1 + 1 + left → s4 ≤ s3 + 9 + 3 * b → below + 20 * (1 + b) ≤ sub → all ≡ left + sub → s4 + 6 * suc c ≤ s0 + all
+child_sum : (s0 s1 s3 s4 below left sub all b c : ℕ) → 1 ≤ b → s1 ≤ s0 + (14 + 4 * b + below) → s3 + 6 * c ≤ s1 + 1 + left → s4 ≤ s3 + 9 + 3 * b → below + 20 * (1 + b) ≤ sub → all ≡ left + sub → s4 + 6 * suc c ≤ s0 + all
 child_sum s0 s1 s3 s4 below left sub all b c one a d e f g = omega (arith, one, a, d, e, f, g)
 
 module _ {R : Type 0} (d : ℕ) (key : R → KeyOf d 16) (t : List (NodeView R)) (formed : IsFormed d key t) where
@@ -40,7 +40,7 @@ module _ {R : Type 0} (d : ℕ) (key : R → KeyOf d 16) (t : List (NodeView R))
   none_within v c b s a = omega (arith, kids_many d key t formed v c a, much (kids_size t v c) b)
 
   -- a search with one more child
-  pub child_within : (v c b s0 s1 s3 s4 : ℕ) → v < length t → c < child_count t v → 1 ≤ b → s1 ≤ s0 + (12 + 4 * b + 20 * kids_size t (child t v c) (child_count t (child t v c)) * (1 + b))
+  pub child_within : (v c b s0 s1 s3 s4 : ℕ) → v < length t → c < child_count t v → 1 ≤ b → s1 ≤ s0 + (14 + 4 * b + 20 * kids_size t (child t v c) (child_count t (child t v c)) * (1 + b))
       → s3 + 6 * c ≤ s1 + 1 + 20 * kids_size t v c * (1 + b) → s4 ≤ s3 + 9 + 3 * b → s4 + 6 * suc c ≤ s0 + 20 * kids_size t v (suc c) * (1 + b)
   child_within v c b s0 s1 s3 s4 l a one x y z =
       let smaller : kids_size t (child t v c) (child_count t (child t v c)) + 1 ≤ subtree_size t (child t v c) = kids_smaller d key t formed (child t v c) (child_count t (child t v c)) (kid d key t formed v c a).within (omega arith) in
@@ -54,7 +54,7 @@ module _ {R : Type 0} (d : ℕ) (key : R → KeyOf d 16) (t : List (NodeView R))
       one_share b = omega arith
 
   -- what a call takes at a node is within the node's own share
-  pub subtree_within_steps : (nodes : List (NodeStreamsView R)) (visited : ℕ → ℕ) (v old new : ℕ) → v < length t → IsWithinSteps t nodes visited (λ b. 12 + 4 * b + 20 * kids_size t v (child_count t v) * (1 + b)) old new
+  pub subtree_within_steps : (nodes : List (NodeStreamsView R)) (visited : ℕ → ℕ) (v old new : ℕ) → v < length t → IsWithinSteps t nodes visited (λ b. 14 + 4 * b + 20 * kids_size t v (child_count t v) * (1 + b)) old new
       → IsWithinSteps t nodes visited (λ b. 20 * subtree_size t v * (1 + b)) old new
   subtree_within_steps nodes visited v old new l h k b one bits few queues =
       let smaller : kids_size t v (child_count t v) + 1 ≤ subtree_size t v = kids_smaller d key t formed v (child_count t v) l (omega arith) in

@@ -48,14 +48,14 @@ module _ {R : Type 0} (d : ℕ) (key : R → KeyOf d 16) (t : List (NodeView R))
 
   -- the steps of a search: s1 after the child's call, s3 after the search with the other children, s4 at the end
   pub search_within : (s0 s1 s2 s3 s4 : ℕ) → AreQueuesGrown (is_below (parent t) (child t v c)) n m
-      → IsWithinSteps t n (is_below (parent t) (child t v c)) (λ b. 12 + 4 * b + 20 * kids_size t (child t v c) (child_count t (child t v c)) * (1 + b)) s0 s1 → s2 ≤ s1 + 1
+      → IsWithinSteps t n (is_below (parent t) (child t v c)) (λ b. 14 + 4 * b + 20 * kids_size t (child t v c) (child_count t (child t v c)) * (1 + b)) s0 s1 → s2 ≤ s1 + 1
       → IsWithinSteps t m (λ w. below_kids t v c w + cond (nat_eq w v) 1 0) (λ b. 20 * kids_size t v c * (1 + b)) s2 (s3 + 6 * c)
       → s4 ≤ s3 + 9 + 3 * bit_length (length (product_of n v r c).frontier + 1)
       → IsWithinSteps t n (λ w. below_kids t v (suc c) w + cond (nat_eq w v) 1 0) (λ b. 20 * kids_size t v (suc c) * (1 + b)) s0 (s4 + 6 * suc c)
   search_within s0 s1 s2 s3 s4 grown call read search step k b one bits few queues =
       let own : length (product_of n v r c).frontier ≤ k = queues v r c (omega (arith, same_is v v refl)) in
       let digits : bit_length (length (product_of n v r c).frontier + 1) ≤ b = omega (arith, bits, bit_length_rises (length (product_of n v r c).frontier + 1) (k + 1) (omega (arith, own))) in
-      let called : s1 ≤ s0 + (12 + 4 * b + 20 * kids_size t (child t v c) (child_count t (child t v c)) * (1 + b)) = call k b one bits few (λ w s j l. queues w s j (omega (arith, l))) in
+      let called : s1 ≤ s0 + (14 + 4 * b + 20 * kids_size t (child t v c) (child_count t (child t v c)) * (1 + b)) = call k b one bits few (λ w s j l. queues w s j (omega (arith, l))) in
       let searched : s3 + 6 * c ≤ s2 + 20 * kids_size t v c * (1 + b) = search k b one bits few (queues_apart d key t h.tree v c k n m h1.all_nodes in_tree in_kids one grown queues) in
       child_within d key t h.tree v c b s0 s1 s3 s4 in_tree in_kids (some_bits k b one bits) called (omega (arith, searched, read)) (omega (arith, step, digits))
 

@@ -5,7 +5,7 @@ use Rattle.std.proofs.lemmas.Bool.Decides.{nat_tests}
 use Rattle.std.proofs.lemmas.List.Elements.{All-get_or}
 use Rattle.stream_store.specs.declared.entry.Linked.{Linked}
 use Rattle.take2_heap.specs.declared.entry.Entry.{Entry}
-use Rattle.tdp_core.specs.TreeView.{NodeView, parent, rows, members, child_count, group_count, group_named}
+use Rattle.tdp_core.specs.TreeView.{NodeView, parent, rows, number, members, child_count, group_count, group_named}
 use Rattle.tdp_core.specs.WellFormed.{IsFormed}
 use Rattle.tdp_model.specs.Below.{is_below}
 use Rattle.tdp_model.specs.KeyTuple.{KeyOf, key_below, key_add, key_none}
@@ -217,18 +217,18 @@ module _ {R : Type 0} (d : ℕ) (key : R → KeyOf d 16) (t : List (NodeView R))
       (s'.head_node ∙ sym (grown.nodes (stream_of nodes q g).head s.head_in ∙ s.head_node)) (s'.head_group ∙ sym (grown.groups (stream_of nodes q g).head s.head_in ∙ s.head_group))
       (s'.head_place ∙ sym (grown.places (stream_of nodes q g).head s.head_in ∙ s.head_place))
 
-  -- the source of the last solution is known, and its member is in the group
+  -- the source of the last solution is known, its member is in the group, and it has that member's row and number
   pub top_known : (q g : ℕ) (e : Entry R Source) → q < length t → g < group_count t q → 0 < length (stream_of nodes q g).queue → e ≡ get_or (stream_of nodes q g).queue 0 e
-      → (e.tag.place < row_known nodes q (get_or (members t q g) e.tag.member 0)) × (e.tag.member < length (members t q g)) × (e.tag.row ≡ get_or (members t q g) e.tag.member 0)
+      → (e.tag.place < row_known nodes q (get_or (members t q g) e.tag.member 0)) × (e.tag.member < length (members t q g)) × (e.tag.row ≡ get_or (members t q g) e.tag.member 0) × (e.tag.number ≡ number t q (get_or (members t q g) e.tag.member 0))
   top_known q g e l in_group some at =
       let s = h.streams q g l in_group in
       let k : e.tag.place < row_known nodes q (get_or (members t q g) e.tag.member 0) =
       subst (λ (z : Entry R Source). z.tag.place < row_known nodes q (get_or (members t q g) z.tag.member 0)) (sym at) (All-get_or (λ (z : Entry R Source). z.tag.place < row_known nodes q (get_or (members t q g) z.tag.member 0)) (stream_of nodes q g).queue 0 e some s.known) in
       let m : e.tag.member < length (members t q g) =
       (subst (IsHeld d key (run_key (key_none d 16) (λ j. part_list d key t q (get_or (members t q g) j 0) (child_count t q))) (InRuns d (length (members t q g)) (λ j. part_list d key t q (get_or (members t q g) j 0) (child_count t q))) run_of) (sym at) (All-get_or (IsHeld d key (run_key (key_none d 16) (λ j. part_list d key t q (get_or (members t q g) j 0) (child_count t q))) (InRuns d (length (members t q g)) (λ j. part_list d key t q (get_or (members t q g) j 0) (child_count t q))) run_of) (stream_of nodes q g).queue 0 e some s.merge.held)).0.0 in
-      let r : e.tag.row ≡ get_or (members t q g) e.tag.member 0 =
-      (subst (λ (z : Entry R Source). HasOwnParts d key t es nodes q g z.tag) (sym at) (All-get_or (λ (z : Entry R Source). HasOwnParts d key t es nodes q g z.tag) (stream_of nodes q g).queue 0 e some s.parts)).0 in
-      (k, m, r)
+      let own : HasOwnParts d key t es nodes q g e.tag =
+      subst (λ (z : Entry R Source). HasOwnParts d key t es nodes q g z.tag) (sym at) (All-get_or (λ (z : Entry R Source). HasOwnParts d key t es nodes q g z.tag) (stream_of nodes q g).queue 0 e some s.parts) in
+      (k, m, own.0, own.1)
 
 -- # The effect of a call
 

@@ -1,5 +1,5 @@
 -- The cells that a step of a product offers, and the two changes of the product as one.
-use Rattle.std.proofs.Common.{◌≡◌, ◌↔◌, ℕ, ◌+◌, ◌<◌, ◌≤◌, Option, Some, None, IsSome, is_some, true, false, MatchOption, IfSome, List, [], ◌∷◌, length, get_or, slice_set, refl, sym, ap, ◌∙◌, subst, arith}
+use Rattle.std.proofs.Common.{◌≡◌, ◌↔◌, ℕ, zero, suc, ◌+◌, ◌<◌, ◌≤◌, Option, Some, None, IsSome, is_some, true, false, MatchOption, IfSome, List, [], ◌∷◌, length, get_or, slice_set, refl, sym, ap, ◌∙◌, subst, arith}
 use Rattle.std.proofs.lemmas.List.{get_or-set_same, set-set}
 use Rattle.std.proofs.lemmas.List.Elements.{All-get_or}
 use Rattle.stream_store.specs.declared.entry.Linked.{Linked}
@@ -56,6 +56,15 @@ module _ {R : Type 0} (d : ℕ) (key : R → KeyOf d 16) (t : List (NodeView R))
       h.streams (child t v c) (group_named t v r c) (kid d key t h.tree v c (child_in d key t es nodes h v r c l row in_row)).within (named_stream d key t es nodes h v r c l row (child_in d key t es nodes h v r c l row in_row)) in
       subst (λ (z : Cell). IsCell d key t es nodes v r c z) (sym m.2)
       (record { left = m.1; right = omega (arith, e, s.head_in); node = ap (λ z. node_of es z) e ∙ s.head_node; group = ap (λ z. group_of es z) e ∙ s.head_group })
+
+-- What is beside a cell, by the head of the child's stream. In the first product one left part is known, so nothing is beside, whatever entry was given.
+pub at_head : (c known given head : ℕ) (cell : Cell) → (0 < c → given ≡ head) → (c ≡ 0 → known ≡ 1) → (o : Option Cell)
+    → MatchOption o (cell.right ≡ given → known ≤ cell.left + 1) (λ x. (cell.right ≡ given) × (cell.left + 1 < known) × (x ≡ record { left = cell.left + 1; right = given }))
+    → MatchOption o (cell.right ≡ head → known ≤ cell.left + 1) (λ x. (cell.right ≡ head) × (cell.left + 1 < known) × (x ≡ record { left = cell.left + 1; right = head }))
+at_head zero known given head cell same one None m = λ e. omega (arith, one refl)
+at_head zero known given head cell same one (Some x) m = absurd (omega (arith, m.1, one refl))
+at_head (suc c) known given head cell same one o m =
+    subst (λ h. MatchOption o (cell.right ≡ h → known ≤ cell.left + 1) (λ x. (cell.right ≡ h) × (cell.left + 1 < known) × (x ≡ record { left = cell.left + 1; right = h }))) (same (omega arith)) m
 
 -- if only one left part is known, no cell beside is offered
 pub none_beside : {R : Type 0} (d : ℕ) (key : R → KeyOf d 16) (t : List (NodeView R)) (es : List (Linked (Found R))) (v r c : ℕ) (cell : Cell) (head known : ℕ) → known ≤ 1 → (o : Option Cell) (e : Option (Entry R Cell))

@@ -32,9 +32,9 @@ module _ {R : Type 0} (d : ℕ) (key : R → KeyOf d 16) (t : List (NodeView R))
   pub rows_within : (v : ℕ) → v ≤ length t → rows_from d key t v ≤ row_count t
   rows_within v l = omega (arith, rows_falls v l, rows_whole)
 
-  share : (m a n : ℕ) → 1 ≤ m → a ≤ n → 4 * a ≤ 16 * m * (1 + n)
+  share : (m a n : ℕ) → 1 ≤ m → a ≤ n → 5 * a ≤ 16 * m * (1 + n)
   share m a n some l = let x : 16 * (1 + n) ≤ 16 * m * (1 + n) = grind arith in omega (arith, x)
 
   -- the steps for the nodes from v
-  pub start_steps : IsFormed d key t → (v : ℕ) → v ≤ length t → 4 * rows_from d key t v ≤ 16 * length t * (1 + row_count t)
+  pub start_steps : IsFormed d key t → (v : ℕ) → v ≤ length t → 5 * rows_from d key t v ≤ 16 * length t * (1 + row_count t)
   start_steps formed v l = share (length t) (rows_from d key t v) (row_count t) formed.shaped.some_node (rows_within v l)

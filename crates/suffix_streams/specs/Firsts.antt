@@ -3,7 +3,7 @@ use Rattle.std.specs.Prelude.{◌≡◌, ◌≢◌, ℕ, suc, ◌+◌, ◌-◌, 
 use Rattle.std.specs.List.Sorted.{IsPermutation}
 use Rattle.take2_heap.specs.declared.entry.Entry.{Entry}
 use Rattle.stream_store.specs.declared.entry.Linked.{Linked}
-use Rattle.tdp_core.specs.TreeView.{NodeView, members, best, child_count, group_named}
+use Rattle.tdp_core.specs.TreeView.{NodeView, members, best, number, child_count, group_named}
 use Rattle.tdp_model.specs.KeyTuple.{KeyOf}
 use Rattle.stream_model.specs.Offers.{offers}
 use Rattle.stream_cells.specs.declared.cell.Cell.{Cell}
@@ -40,6 +40,7 @@ module _ {R : Type 0} (d : ℕ) (key : R → KeyOf d 16) (t : List (NodeView R))
       × (key e.rank ≡ best t d key q (slice_index (members t q g) j))
       × HasFirstParts t es q (slice_index (members t q g) j) e.tag.cell
       × (e.tag.row ≡ slice_index (members t q g) j)
+      × (e.tag.number ≡ number t q (slice_index (members t q g) j))
 
   -- the first solution of member j, if there is one, and if the place passed, before this one, is 0
   abbrev pub IsFirstBelow : ℕ → ℕ → Option (Entry R Source) → Type 0

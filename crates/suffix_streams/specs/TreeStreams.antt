@@ -3,7 +3,7 @@ use Rattle.std.specs.Prelude.{◌≡◌, ℕ, zero, suc, ◌+◌, ◌^◌, ◌<�
 use Rattle.std.specs.List.{All}
 use Rattle.take2_heap.specs.declared.entry.Entry.{Entry}
 use Rattle.stream_store.specs.declared.entry.Linked.{Linked}
-use Rattle.tdp_core.specs.TreeView.{NodeView, members, group_named, child_count, group_count, rows}
+use Rattle.tdp_core.specs.TreeView.{NodeView, members, group_named, child_count, group_count, rows, number}
 use Rattle.tdp_core.specs.WellFormed.{IsFormed}
 use Rattle.rank_key.specs.Keys.{KeyFits}
 use Rattle.tdp_model.specs.KeyTuple.{KeyOf, key_add, key_none}
@@ -135,11 +135,12 @@ pub record IsSumOf {R : Type 0} (d : ℕ) (key : R → KeyOf d 16) (t : List (No
       (slice_index_or (group_list d key t (child t v c) (group_named t v r c))
       (place_of es cell.right) (key_none d 16))
 
--- the source, of a solution of group g of node q, has its member's row, and its cell has the parts
--- of the solution, if the node has children
+-- the source, of a solution of group g of node q, has its member's row and that row's number, and
+-- its cell has the parts of the solution, if the node has children
 abbrev pub HasOwnParts : {R : Type 0} (d : ℕ) → (R → KeyOf d 16) → List (NodeView R)
     → List (Linked (Found R)) → List (NodeStreamsView R) → ℕ → ℕ → Source → Type 0
 HasOwnParts d key t es nodes q g s = (s.row ≡ slice_index (members t q g) s.member)
+    × (s.number ≡ number t q (slice_index (members t q g) s.member))
     × ((c : ℕ) → child_count t q ≡ suc c
     → IsSumOf d key t es nodes q (slice_index (members t q g) s.member) c s.place s.cell)
 

@@ -120,7 +120,7 @@ fn first_stream<R: Rank, A: Allocator + Clone, L: Ledger>(
         × (R.key e.value.solution.rank
         ≡ slice_index_or (group_list R.KEYS R.key tree.now node group) 0 (key_none R.KEYS 16))
         × ((d : Entry R Source) → e.value.solution ≡ slice_index_or s.queue 0 d)) }
-    ensures cost { steps.new ≤ steps.old + 4 }
+    ensures cost { steps.new ≤ steps.old + 5 }
 {
     let solution = first_solution(tree, nodes, entries, node, group, 0, steps);
     entries.reserve(1)?;
@@ -164,7 +164,7 @@ pub(crate) fn begin_node<R: Rank, A: Allocator + Clone, L: Ledger>(
         (node + 1) }
     ensures begun { OnOk result
         (IsBegunFrom R.KEYS R.key tree.now entries.new.entries nodes.new.items node) }
-    ensures cost { steps.new ≤ steps.old + 4 * rows tree.now node }
+    ensures cost { steps.new ≤ steps.old + 5 * rows tree.now node }
 {
     for group in 0..tree.groups(node) {
         let stream = first_stream(tree, nodes.as_slice(), entries, node, group, steps)?;

@@ -21,7 +21,7 @@ use stream_store::Store;
 use take2_heap::Entry;
 use tdp_core::Tree;
 
-/// The first solution of a member of a group. It takes at most three steps.
+/// The first solution of a member of a group. It takes at most four steps.
 pub(crate) fn first_solution<R: Rank, A: Allocator + Clone, L: Ledger>(
     tree: &Tree<R>,
     nodes: &[NodeStreams<R, A>],
@@ -38,9 +38,10 @@ pub(crate) fn first_solution<R: Rank, A: Allocator + Clone, L: Ledger>(
     requires headed { IsHeaded R.KEYS R.key tree.now entries.now.entries nodes.now node
         (slice_index (members tree.now node group) member) }
     ensures first { IsFirstOf R.KEYS R.key tree.now entries.now.entries node group member result }
-    ensures cost { steps.new ≤ steps.old + 3 }
+    ensures cost { steps.new ≤ steps.old + 4 }
 {
     let row = source_row(tree, node, group, member, steps);
+    let number = tree.row_at(node, row, steps).row;
     let rank = tree.best(node, row, steps);
     let cell = first_cell(tree, nodes, entries, node, row, steps);
     Entry {
@@ -49,6 +50,7 @@ pub(crate) fn first_solution<R: Rank, A: Allocator + Clone, L: Ledger>(
             member,
             place: 0,
             row,
+            number,
             cell,
         },
     }
@@ -70,7 +72,7 @@ fn first_below<R: Rank, A: Allocator + Clone, L: Ledger>(
     requires group { group < group_count tree.now node }
     ensures below { IsFirstBelow R.KEYS R.key tree.now entries.now.entries node group 1 member
         result }
-    ensures cost { steps.new ≤ steps.old + 3 }
+    ensures cost { steps.new ≤ steps.old + 4 }
 {
     if member >= tree.group_len(node, group) as u64 {
         return None;
@@ -95,7 +97,7 @@ fn firsts_below<R: Rank, A: Allocator + Clone, L: Ledger>(
         (2 * member + 1) result.0 }
     ensures right { IsFirstBelow R.KEYS R.key tree.now entries.now.entries node group 1
         (2 * member + 2) result.1 }
-    ensures cost { steps.new ≤ steps.old + 6 }
+    ensures cost { steps.new ≤ steps.old + 8 }
 {
     let left = 2 * member as u64 + 1;
     (
@@ -135,7 +137,7 @@ pub(crate) fn pass_last<R: Rank, A: Allocator + Clone, L: Ledger>(
         → IsLeast R.KEYS R.key (slice_index_or (stream_of nodes.old.items node group).queue 0 d)
         (stream_of nodes.old.items node group).queue }
     ensures cost { steps.new
-        ≤ steps.old + 6 + 2 * bit_length (length (stream_of nodes.old.items node group).queue)
+        ≤ steps.old + 8 + 2 * bit_length (length (stream_of nodes.old.items node group).queue)
         + bit_length (length (stream_of nodes.old.items node group).queue + 1)
         + bit_length (length (stream_of nodes.new.items node group).queue) }
 {

@@ -1,6 +1,6 @@
 //! Reading entries and products, which changes nothing.
 ghost use Rattle.std.specs.Prelude.{◌≡◌, ℕ, ◌+◌, ◌*◌, ◌<◌, ◌≤◌, length, slice_index_or, IfOk, OnOk, IfSome, IfNone};
-ghost use Rattle.tdp_core.specs.TreeView.{child_count, group_named, rows};
+ghost use Rattle.tdp_core.specs.TreeView.{child_count, group_named, number as row_number, rows};
 ghost use Rattle.tdp_core.specs.WellFormed.{IsFormed, IsTieFreeTree};
 ghost use Rattle.tdp_model.specs.KeyTuple.{key_add, key_none};
 ghost use Rattle.tdp_model.specs.Product.{pair_key};
@@ -45,6 +45,35 @@ pub(crate) fn child_head<R: Rank, A: Allocator + Clone, L: Ledger>(
     let group = tree.group_of(node, row, child as u32, steps);
     let child_node = nodes[node as usize].child(child);
     nodes[child_node as usize].head(group)
+}
+
+/// What a sum's right part must be for another sum to be beside it: the first entry of the group that
+/// the row names for the child. A row has one solution without children, so no sum is beside another
+/// in its first product, and `right` is returned there.
+pub(crate) fn head_beside<R: Rank, A: Allocator + Clone, L: Ledger>(
+    tree: &Tree<R>,
+    nodes: &[NodeStreams<R, A>],
+    entries: &Store<Found<R>, A>,
+    node: u32,
+    row: u32,
+    child: usize,
+    right: EntryId,
+    steps: &mut Steps<L>,
+) -> EntryId
+    requires formed { IsFormed R.KEYS R.key tree.now }
+    requires node { node < length tree.now }
+    requires row { row < rows tree.now node }
+    requires child { child < child_count tree.now node }
+    requires headed { IsHeaded R.KEYS R.key tree.now entries.now.entries nodes.now node row }
+    ensures head { 0 < child → result
+        ≡ (stream_of nodes.now (child_node tree.now node child)
+        (group_named tree.now node row child)).head }
+    ensures cost { steps.new ≤ steps.old + 1 }
+{
+    if child == 0 {
+        return right;
+    }
+    child_head(tree, nodes, entries, node, row, child, steps)
 }
 
 /// The parts of the first solution of a row: the first solution of the row with its children but
@@ -219,13 +248,14 @@ pub(crate) fn offered<R: Rank, A: Allocator + Clone, L: Ledger>(
 }
 
 /// The solution of an opened row at a place, as the next one of the member of a group that the row
-/// is. `None` if it is not known.
+/// is. `number` is the row's number, from 1. `None` if the solution is not known.
 pub(crate) fn row_offer<R: Rank, A: Allocator + Clone, L: Ledger>(
     tree: &Tree<R>,
     nodes: &[NodeStreams<R, A>],
     entries: &Store<Found<R>, A>,
     node: u32,
     row: u32,
+    number: u32,
     member: u32,
     place: u32,
     steps: &mut Steps<L>,
@@ -233,13 +263,15 @@ pub(crate) fn row_offer<R: Rank, A: Allocator + Clone, L: Ledger>(
     requires formed { IsStreams R.KEYS R.key tree.now entries.now.entries nodes.now }
     requires node { node < length tree.now }
     requires row { row < rows tree.now node }
+    requires number { number ≡ row_number tree.now node row }
     requires opened { length (products_of nodes.now node row) ≡ child_count tree.now node }
     requires place { 0 < place }
     ensures none { IfNone result (row_known nodes.now node row ≤ place) }
     ensures source { IfSome result (λ e. (e.tag.member ≡ member) × (e.tag.place ≡ place)) }
     ensures known { IfSome result (λ e. place < row_known nodes.now node row) }
-    ensures parts { IfSome result (λ e. (e.tag.row ≡ row) × ((c : ℕ)
-        → child_count tree.now node ≡ c + 1
+    ensures parts { IfSome result (λ e. (e.tag.row ≡ row)
+        × (e.tag.number ≡ row_number tree.now node row)
+        × ((c : ℕ) → child_count tree.now node ≡ c + 1
         → IsSumOf R.KEYS R.key tree.now entries.now.entries nodes.now node row c place
         e.tag.cell)) }
     ensures key { IfSome result (λ e. R.key e.rank
@@ -262,6 +294,7 @@ pub(crate) fn row_offer<R: Rank, A: Allocator + Clone, L: Ledger>(
             member,
             place,
             row,
+            number,
             cell,
         },
     })

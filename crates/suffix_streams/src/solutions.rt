@@ -1,7 +1,7 @@
 //! The next solution of a stream, and the steps at the nodes below it.
 ghost use Rattle.std.specs.Prelude.{◌≡◌, ◌≢◌, ℕ, ◌+◌, ◌*◌, ◌<◌, ◌≤◌, Option, None, cond, nat_eq, length, slice_set, slice_index, slice_index_or, IfOk, OnOk, OnErr, IsOk, IsSome};
 ghost use Rattle.take2_heap.specs.declared.entry.Entry.{Entry};
-ghost use Rattle.tdp_core.specs.TreeView.{parent, rows, child_count, group_count, group_named, members};
+ghost use Rattle.tdp_core.specs.TreeView.{parent, rows, number as row_number, child_count, group_count, group_named, members};
 ghost use Rattle.tdp_core.specs.WellFormed.{IsTieFreeTree};
 ghost use Rattle.tdp_model.specs.Below.{is_below};
 ghost use Rattle.rank_key.specs.Bits.{bit_length};
@@ -16,7 +16,7 @@ ghost use Rattle.suffix_streams.specs.Growing.{IsStoreGrown, IsGrown, IsExtended
 
 use crate::members::pass_last;
 use crate::node::NodeStreams;
-use crate::reads::{child_head, made_products, offered, row_offer};
+use crate::reads::{head_beside, made_products, offered, row_offer};
 use crate::stream::Found;
 use rank_key::Rank;
 use std::alloc::Allocator;
@@ -63,7 +63,7 @@ impl<'t, R: Rank, A: Allocator + Clone> Solutions<'t, R, A> {
             (node_of self.old.entries.entries entry)) self.old.nodes.items self.new.nodes.items }
         ensures cost { IsWithinSteps self.old.tree.now self.old.nodes.items
             (is_below (parent self.old.tree.now) (node_of self.old.entries.entries entry))
-            (λ b. 12 + 4 * b + 20
+            (λ b. 14 + 4 * b + 20
             * kids_size self.old.tree.now (node_of self.old.entries.entries entry)
             (child_count self.old.tree.now (node_of self.old.entries.entries entry))
             * (1 + b)) steps.old steps.new }
@@ -89,6 +89,7 @@ impl<'t, R: Rank, A: Allocator + Clone> Solutions<'t, R, A> {
             found.node,
             found.group,
             row,
+            source.number,
             source.member,
             place,
             steps,
@@ -182,13 +183,14 @@ impl<'t, R: Rank, A: Allocator + Clone> Solutions<'t, R, A> {
         let cell = top.tag;
         make_room(&self.alloc, &mut self.nodes, node, row, child)?;
         let below = self.after(cell.right, steps)?;
-        let head = child_head(
+        let head = head_beside(
             self.tree,
             self.nodes.as_slice(),
             &self.entries,
             node,
             row,
             child,
+            cell.right,
             steps,
         );
         let known = self.nodes[node as usize].known(row, child);
@@ -259,8 +261,9 @@ impl<'t, R: Rank, A: Allocator + Clone> Solutions<'t, R, A> {
         Ok(())
     }
 
-    /// Finds one more solution of a product, if there is one. `cell` is the last one found, `below`
-    /// is the entry after its right part, and `head` is the first entry of the child's stream.
+    /// Finds one more solution of a product, if there is one. `cell` is the last one found, and
+    /// `below` is the entry after its right part. `head` is the first entry of the child's stream,
+    /// or any entry if the product is the row's first.
     fn step<L: Ledger>(
         &mut self,
         node: u32,
@@ -281,12 +284,12 @@ impl<'t, R: Rank, A: Allocator + Clone> Solutions<'t, R, A> {
         requires cell { (d : Entry R Cell)
             → (slice_index_or (product_of self.old.nodes.items node row child).frontier 0 d).tag
             ≡ cell.now }
-        requires head { head
+        requires head { 0 < child → head
             ≡ (stream_of self.old.nodes.items (child_node self.old.tree.now node child)
             (group_named self.old.tree.now node row child)).head }
         requires below { IsAnswered R.KEYS R.key self.old.tree.now self.old.entries.entries
             cell.now.right below }
-        requires across { cell.now.right ≡ head
+        requires across { 0 < child → cell.now.right ≡ head
             → IsReached R.KEYS R.key self.old.tree.now self.old.nodes.items node row child
             (cell.now.left + 1) }
         requires room { 0 < (product_of self.old.nodes.items node row child).room }
@@ -336,14 +339,15 @@ impl<'t, R: Rank, A: Allocator + Clone> Solutions<'t, R, A> {
     }
 
     /// Passes the last solution of a group, which `last` stands for, and links the one that
-    /// follows, if there is one. The last solution comes from this member, whose row is `row`, and
-    /// `place` is the place of the row's next solution.
+    /// follows, if there is one. The last solution comes from this member, whose row is `row` and
+    /// has this number, and `place` is the place of the row's next solution.
     fn advance<L: Ledger>(
         &mut self,
         last: EntryId,
         node: u32,
         group: u32,
         row: u32,
+        number: u32,
         member: u32,
         place: u32,
         steps: &mut Steps<L>,
@@ -363,6 +367,7 @@ impl<'t, R: Rank, A: Allocator + Clone> Solutions<'t, R, A> {
             → (slice_index_or (stream_of self.old.nodes.items node group).queue 0 d).tag.place + 1
             ≡ place }
         requires row { row ≡ slice_index (members self.old.tree.now node group) member }
+        requires number { number ≡ row_number self.old.tree.now node row }
         requires count { length (products_of self.old.nodes.items node row)
             ≡ child_count self.old.tree.now node }
         requires place { IsReached R.KEYS R.key self.old.tree.now self.old.nodes.items node row
@@ -384,7 +389,7 @@ impl<'t, R: Rank, A: Allocator + Clone> Solutions<'t, R, A> {
         ensures answer { IsAnswered R.KEYS R.key self.old.tree.now self.new.entries.entries last
             result }
         ensures cost { steps.new
-            ≤ steps.old + 8 + 3 * child_count self.old.tree.now node
+            ≤ steps.old + 10 + 3 * child_count self.old.tree.now node
             + 4 * bit_length (length (members self.old.tree.now node group) + 1) }
     {
         let offer = row_offer(
@@ -393,6 +398,7 @@ impl<'t, R: Rank, A: Allocator + Clone> Solutions<'t, R, A> {
             &self.entries,
             node,
             row,
+            number,
             member,
             place,
             steps,

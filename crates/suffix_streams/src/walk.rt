@@ -1,7 +1,7 @@
-//! Reading the rows of a solution, from entry to entry. Each row number is added at its item to the
-//! numbers that were read before.
+//! Reading the rows of a solution, from entry to entry, each of which has the number of its own row.
+//! Each row number is added at its item to the numbers that were read before.
 ghost use Rattle.std.specs.Prelude.{◌≡◌, ℕ, ◌+◌, ◌*◌, ◌<◌, ◌≤◌, length, slice_index_or};
-ghost use Rattle.tdp_core.specs.TreeView.{child_count, group_named, rank, rows};
+ghost use Rattle.tdp_core.specs.TreeView.{child_count, group_named, number as row_number, rank, rows};
 ghost use Rattle.tdp_core.specs.WellFormed.{IsFormed, IsTieFreeTree};
 ghost use Rattle.tdp_model.specs.KeyTuple.{key_add, key_none};
 ghost use Rattle.tdp_model.specs.Product.{pair_key};
@@ -51,19 +51,28 @@ impl<'t, R: Rank, A: Allocator + Clone> Solutions<'t, R, A> {
         let row = source.row;
         let count = self.nodes[found.node as usize].child_count();
         if count == 0 {
-            add_own_row(self.tree, found.node, row, numbers, steps);
+            add_own_row(self.tree, found.node, row, source.number, numbers);
         } else {
-            self.add_sum_rows(found.node, row, count - 1, &source.cell, numbers, steps);
+            self.add_sum_rows(
+                found.node,
+                row,
+                source.number,
+                count - 1,
+                &source.cell,
+                numbers,
+                steps,
+            );
         }
     }
 
     /// Adds the row numbers of a solution of a row with its first `count` children, at a known
-    /// place.
+    /// place. `number` is the row's own.
     #[cycle(walk)]
     fn add_part_rows<L: Ledger>(
         &self,
         node: u32,
         row: u32,
+        number: u32,
         count: usize,
         place: u32,
         numbers: &mut [u32; 16],
@@ -74,6 +83,7 @@ impl<'t, R: Rank, A: Allocator + Clone> Solutions<'t, R, A> {
         requires tie_free { IsTieFreeTree self.now.tree.now }
         requires node { node < length self.now.tree.now }
         requires row { row < rows self.now.tree.now node }
+        requires number { number ≡ row_number self.now.tree.now node row }
         requires count { count ≤ child_count self.now.tree.now node }
         requires place { IsKnownPart self.now.nodes.items node row count place }
         requires fits { AreAddable R.KEYS numbers.old
@@ -85,20 +95,21 @@ impl<'t, R: Rank, A: Allocator + Clone> Solutions<'t, R, A> {
         ensures cost { steps.new ≤ steps.old + 1 + 4 * kids_size self.now.tree.now node count }
     {
         if count == 0 {
-            add_own_row(self.tree, node, row, numbers, steps);
+            add_own_row(self.tree, node, row, number, numbers);
         } else {
             let cell = self.part_cell(node, row, count - 1, place, steps);
-            self.add_sum_rows(node, row, count - 1, &cell, numbers, steps);
+            self.add_sum_rows(node, row, number, count - 1, &cell, numbers, steps);
         }
     }
 
     /// Adds the row numbers of the sum of a cell's parts: a known solution of a row with its first
-    /// `child` children, and an entry of the next child's group.
+    /// `child` children, and an entry of the next child's group. `number` is the row's own.
     #[cycle(walk)]
     fn add_sum_rows<L: Ledger>(
         &self,
         node: u32,
         row: u32,
+        number: u32,
         child: usize,
         cell: &Cell,
         numbers: &mut [u32; 16],
@@ -109,6 +120,7 @@ impl<'t, R: Rank, A: Allocator + Clone> Solutions<'t, R, A> {
         requires tie_free { IsTieFreeTree self.now.tree.now }
         requires node { node < length self.now.tree.now }
         requires row { row < rows self.now.tree.now node }
+        requires number { number ≡ row_number self.now.tree.now node row }
         requires child { child < child_count self.now.tree.now node }
         requires parts { (place : ℕ)
             × IsSumOf R.KEYS R.key self.now.tree.now self.now.entries.entries self.now.nodes.items
@@ -128,7 +140,7 @@ impl<'t, R: Rank, A: Allocator + Clone> Solutions<'t, R, A> {
         ensures cost { steps.new
             ≤ steps.old + 4 * kids_size self.now.tree.now node (child + 1) }
     {
-        self.add_part_rows(node, row, child, cell.left, numbers, steps);
+        self.add_part_rows(node, row, number, child, cell.left, numbers, steps);
         self.add_entry_rows(cell.right, numbers, steps);
     }
 
@@ -172,20 +184,13 @@ impl<'t, R: Rank, A: Allocator + Clone> Solutions<'t, R, A> {
 }
 
 /// Adds the row number of a row at the item of its node.
-fn add_own_row<R: Rank, L: Ledger>(
-    tree: &Tree<R>,
-    node: u32,
-    row: u32,
-    numbers: &mut [u32; 16],
-    steps: &mut Steps<L>,
-)
+fn add_own_row<R: Rank>(tree: &Tree<R>, node: u32, row: u32, number: u32, numbers: &mut [u32; 16])
     requires formed { IsFormed R.KEYS R.key tree.now }
     requires node { node < length tree.now }
     requires row { row < rows tree.now node }
+    requires number { number ≡ row_number tree.now node row }
     requires fits { AreAddable R.KEYS numbers.old (rank tree.now R.KEYS R.key node row) }
     ensures added { AreAdded R.KEYS numbers.old (rank tree.now R.KEYS R.key node row) numbers.new }
-    ensures cost { steps.new ≡ steps.old + 1 }
 {
-    let own = tree.row_at(node, row, steps);
-    numbers[tree.shape(node).item as usize] += own.row;
+    numbers[tree.shape(node).item as usize] += number;
 }

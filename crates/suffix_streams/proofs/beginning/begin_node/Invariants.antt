@@ -6,5 +6,5 @@ use Rattle.suffix_streams.proofs.beginning.begin_node.Given as goal
 abbrev pub invariant-loop-group : goal.invariant-loop-group
 invariant-loop-group g l = record {
   begun : IsBegunIn g.R.Rank.KEYS g.R.Rank.key l.fn.tree l.entries.entries l.nodes.items l.fn.node l.group;
-  cost : l.steps ≤ l.initial.steps + 4 * l.group;
+  cost : l.steps ≤ l.initial.steps + 5 * l.group;
 }

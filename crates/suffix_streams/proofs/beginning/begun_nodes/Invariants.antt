@@ -7,6 +7,6 @@ use Rattle.suffix_streams.proofs.beginning.begun_nodes.Given as goal
 abbrev pub invariant-loop-node : goal.invariant-loop-node
 invariant-loop-node g l = record {
   begun : IsBegunFrom g.R.Rank.KEYS g.R.Rank.key l.fn.tree l.entries.entries l.nodes.items l.node;
-  cost : l.steps ≤ l.initial.steps + 4 * rows_from g.R.Rank.KEYS g.R.Rank.key l.fn.tree l.node;
+  cost : l.steps ≤ l.initial.steps + 5 * rows_from g.R.Rank.KEYS g.R.Rank.key l.fn.tree l.node;
   within : l.node ≤ length l.fn.tree;
 }

@@ -51,6 +51,7 @@ returns-clause-cost g c =
 pub returns-clause-parts : goal.returns-clause-parts
 returns-clause-parts g c = (
   refl,
+  c.requires.number,
   λ i kids.
       let at = goal.at.returns-clause-parts g c in
       let n = c.args.nodes.now in

@@ -2,7 +2,7 @@ use Rattle.std.proofs.Common.{◌≡◌, ℕ, suc, ◌+◌, ◌-◌, ◌*◌, �
 use Rattle.std.proofs.lemmas.Bool.{cases_eq}
 use Rattle.stream_store.specs.declared.entry.Linked.{Linked}
 use Rattle.rank_key.specs.Bits.{bit_length}
-use Rattle.tdp_core.specs.TreeView.{NodeView, parent, rows, members, child_count, group_named}
+use Rattle.tdp_core.specs.TreeView.{NodeView, parent, rows, number, members, child_count, group_named}
 use Rattle.tdp_core.specs.WellFormed.{IsTieFreeTree}
 use Rattle.tdp_core.proofs.Children.{kids_below_most}
 use Rattle.suffix_streams.specs.declared.stream.Found.{Found}
@@ -58,10 +58,10 @@ module _ (g : Over) (t : ℕ) where
   child_of : (c : search-After-after g t) → IsRoomMade g.R.Rank.KEYS g.R.Rank.key c.args.self.now.tree.now c.args.self.now.entries.entries c.args.self.now.nodes.items c.make_room.new.nodes.items c.args.node c.args.row c.args.count c.in-Some.top.tag → IsChildAsked g.R.Rank.KEYS g.R.Rank.key c.args.self.now.tree.now c.args.self.now.entries.entries c.after.new.self.entries.entries c.make_room.new.nodes.items c.after.new.self.nodes.items c.args.node c.args.row c.args.count c.in-Some.top.tag c.args.steps.now c.after.new.steps
   child_of c a = child_asked a c.after.new.self.tree.now c.after.new.self.entries.entries c.after.new.self.nodes.items c.args.steps.now c.after.new.steps c.after.ensures.tree c.after.ensures.formed c.after.ensures.grown c.after.ensures.queues c.after.ensures.cost
 
-  left_of : (c : search-After-extend g t) → IsRoomMade g.R.Rank.KEYS g.R.Rank.key c.args.self.now.tree.now c.args.self.now.entries.entries c.args.self.now.nodes.items c.make_room.new.nodes.items c.args.node c.args.row c.args.count c.in-Some.top.tag → IsChildAsked g.R.Rank.KEYS g.R.Rank.key c.args.self.now.tree.now c.args.self.now.entries.entries c.after.new.self.entries.entries c.make_room.new.nodes.items c.after.new.self.nodes.items c.args.node c.args.row c.args.count c.in-Some.top.tag c.args.steps.now c.after.new.steps → IsLeftSearched g.R.Rank.KEYS g.R.Rank.key c.args.self.now.tree.now c.extend.new.self.tree.now c.after.new.self.entries.entries c.extend.new.self.entries.entries c.make_room.new.nodes.items c.after.new.self.nodes.items c.extend.new.self.nodes.items c.args.node c.args.row c.args.count c.child_head-head.new.steps c.extend.new.steps
+  left_of : (c : search-After-extend g t) → IsRoomMade g.R.Rank.KEYS g.R.Rank.key c.args.self.now.tree.now c.args.self.now.entries.entries c.args.self.now.nodes.items c.make_room.new.nodes.items c.args.node c.args.row c.args.count c.in-Some.top.tag → IsChildAsked g.R.Rank.KEYS g.R.Rank.key c.args.self.now.tree.now c.args.self.now.entries.entries c.after.new.self.entries.entries c.make_room.new.nodes.items c.after.new.self.nodes.items c.args.node c.args.row c.args.count c.in-Some.top.tag c.args.steps.now c.after.new.steps → IsLeftSearched g.R.Rank.KEYS g.R.Rank.key c.args.self.now.tree.now c.extend.new.self.tree.now c.after.new.self.entries.entries c.extend.new.self.entries.entries c.make_room.new.nodes.items c.after.new.self.nodes.items c.extend.new.self.nodes.items c.args.node c.args.row c.args.count c.head_beside-head.new.steps c.extend.new.steps
   left_of c a b =
       let kids : c.args.count ≤ child_count c.args.self.now.tree.now c.args.node = count_few g.R.Rank.KEYS g.R.Rank.key c.args.self.now.tree.now c.args.self.now.entries.entries c.args.self.now.nodes.items c.requires.formed c.args.node c.args.row c.args.count c.requires.node c.requires.row c.requires.count in
-      left_searched a b (searched g.R.Rank.KEYS g.R.Rank.key c.args.self.now.tree.now c.after.new.self.tree.now c.args.node c.args.row (c.args.count - 1) c.after.new.self.entries.entries c.after.new.self.nodes.items c.extend.new.self.tree.now c.extend.new.self.entries.entries c.extend.new.self.nodes.items c.left_search-earlier.result.0 c.child_head-head.new.steps c.extend.new.steps c.after.ensures.tree c.extend.ensures.tree (omega (arith, kids)) (all_or_none c.in-Some.top.tag.right c.child_head-head.result c.left_search-earlier.result.0 (c.args.count - 1) c.left_search-earlier.result.1 (c.in-Some.top.tag.left + 1) c.left_search-earlier.ensures.beside c.left_search-earlier.ensures.apart) c.extend.ensures.formed c.extend.ensures.extended c.extend.ensures.queues c.extend.ensures.cost)
+      left_searched a b (searched g.R.Rank.KEYS g.R.Rank.key c.args.self.now.tree.now c.after.new.self.tree.now c.args.node c.args.row (c.args.count - 1) c.after.new.self.entries.entries c.after.new.self.nodes.items c.extend.new.self.tree.now c.extend.new.self.entries.entries c.extend.new.self.nodes.items c.left_search-earlier.result.0 c.head_beside-head.new.steps c.extend.new.steps c.after.ensures.tree c.extend.ensures.tree (omega (arith, kids)) (all_or_none c.in-Some.top.tag.right c.head_beside-head.result c.left_search-earlier.result.0 (c.args.count - 1) c.left_search-earlier.result.1 (c.in-Some.top.tag.left + 1) c.left_search-earlier.ensures.beside c.left_search-earlier.ensures.apart) c.extend.ensures.formed c.extend.ensures.extended c.extend.ensures.queues c.extend.ensures.cost)
 
 pub after-returns-in-Some-clause-answer : goal.after-returns-in-Some-clause-answer
 after-returns-in-Some-clause-answer g t c =
@@ -297,6 +297,14 @@ after-advance-requires-clause-row g t c =
     let p = top_of g t at.In-Some-top o in
     subst (λ (z : List (NodeView g.row.R.Denot)). c.in-Some-top.top.tag.row ≡ get_or (members z c.get-found.result.now.node c.get-found.result.now.group) c.in-Some-top.top.tag.member 0) (sym (c.extend.ensures.tree ∙ c.open_row.ensures.tree)) p.row
 
+pub after-advance-requires-clause-number : goal.after-advance-requires-clause-number
+after-advance-requires-clause-number g t c =
+    let at = goal.at.after-advance-requires-clause-number g t c in
+    let o = entry_owned g t at.After-get-found in
+    let p = top_of g t at.In-Some-top o in
+    p.numbered ∙ ap (number c.args.self.now.tree.now c.get-found.result.now.node) (sym p.row)
+    ∙ ap (λ (z : List (NodeView g.row.R.Denot)). number z c.get-found.result.now.node c.in-Some-top.top.tag.row) (sym (c.extend.ensures.tree ∙ c.open_row.ensures.tree))
+
 pub after-advance-requires-clause-member : goal.after-advance-requires-clause-member
 after-advance-requires-clause-member g t c =
     let at = goal.at.after-advance-requires-clause-member g t c in
@@ -362,8 +370,8 @@ after-returns-clause-cost g t c =
     let a = row_of g t at.After-open_row o p in
     let k = counted_of g t at.After-child_count-count o a in
     let s = search_of g t at.After-extend in
-    let last : c.advance.new.steps ≤ c.extend.new.steps + 8 + 3 * child_count c.args.self.now.tree.now c.get-found.result.now.node + 4 * bit_length (length (members c.args.self.now.tree.now c.get-found.result.now.node c.get-found.result.now.group) + 1) =
-    subst (λ (z : List (NodeView g.row.R.Denot)). c.advance.new.steps ≤ c.extend.new.steps + 8 + 3 * child_count z c.get-found.result.now.node + 4 * bit_length (length (members z c.get-found.result.now.node c.get-found.result.now.group) + 1)) (c.extend.ensures.tree ∙ c.open_row.ensures.tree) c.advance.ensures.cost in
+    let last : c.advance.new.steps ≤ c.extend.new.steps + 10 + 3 * child_count c.args.self.now.tree.now c.get-found.result.now.node + 4 * bit_length (length (members c.args.self.now.tree.now c.get-found.result.now.node c.get-found.result.now.group) + 1) =
+    subst (λ (z : List (NodeView g.row.R.Denot)). c.advance.new.steps ≤ c.extend.new.steps + 10 + 3 * child_count z c.get-found.result.now.node + 4 * bit_length (length (members z c.get-found.result.now.node c.get-found.result.now.group) + 1)) (c.extend.ensures.tree ∙ c.open_row.ensures.tree) c.advance.ensures.cost in
     searched_steps o a k s c.advance.new.steps (λ b members. omega (arith, last, members c.get-found.result.now.node c.get-found.result.now.group))
 
 pub search-after-requires : goal.search-after-requires
@@ -379,7 +387,7 @@ search-extend-requires g t c κs within =
     let b = child_of g t at.After-after a in
     let in_tree = subst (λ (z : List (NodeView g.row.R.Denot)). c.args.node < length z) (sym c.after.ensures.tree) c.requires.node in
     let in_node = subst (λ (z : List (NodeView g.row.R.Denot)). c.args.row < rows z c.args.node) (sym c.after.ensures.tree) c.requires.row in
-    elim (cases_eq c.in-Some.top.tag.right c.child_head-head.result) [
+    elim (cases_eq c.in-Some.top.tag.right c.head_beside-head.result) [
       | inl e ↦ (omega (arith, c.decreases, a.last, ap length c.after.ensures.tree, (c.left_search-earlier.ensures.beside e).0), (within.0, (within.1.0, (within.1.1, (c.after.ensures.formed, (subst IsTieFreeTree (sym c.after.ensures.tree) c.requires.tie_free, (in_tree, (in_node, (omega (arith, b.in_row, (c.left_search-earlier.ensures.beside e).0), left_within c.after.new.self.nodes.items c.args.node c.args.row (c.args.count - 1) c.left_search-earlier.result.0 c.left_search-earlier.result.1 c.in-Some.top.tag.left b.left (c.left_search-earlier.ensures.beside e).0 (c.left_search-earlier.ensures.beside e).1)))))))))
       | inr n ↦ (omega (arith, c.decreases, a.last, ap length c.after.ensures.tree, (c.left_search-earlier.ensures.apart n).0), (within.0, (within.1.0, (within.1.1, (c.after.ensures.formed, (subst IsTieFreeTree (sym c.after.ensures.tree) c.requires.tie_free, (in_tree, (in_node, (omega (arith, (c.left_search-earlier.ensures.apart n).0), none_within_known c.after.new.self.nodes.items c.args.node c.args.row c.left_search-earlier.result.0 c.left_search-earlier.result.1 (c.left_search-earlier.ensures.apart n).1)))))))))
     ]
@@ -493,16 +501,16 @@ search-returns-in_err-below-clause-cost g t c =
     let b = child_of g t at.After-after a in
     asked_within a b
 
-pub search-child_head-head-requires-clause-headed : goal.search-child_head-head-requires-clause-headed
-search-child_head-head-requires-clause-headed g t c =
+pub search-head_beside-head-requires-clause-headed : goal.search-head_beside-head-requires-clause-headed
+search-head_beside-head-requires-clause-headed g t c =
     let in_tree = subst (λ (z : List (NodeView g.row.R.Denot)). c.args.node < length z) (sym c.after.ensures.tree) c.requires.node in
     let in_node = subst (λ (z : List (NodeView g.row.R.Denot)). c.args.row < rows z c.args.node) (sym c.after.ensures.tree) c.requires.row in
     subst (λ (z : List (NodeStreamsView g.row.R.Denot)). IsHeaded g.R.Rank.KEYS g.R.Rank.key c.after.new.self.tree.now c.after.new.self.entries.entries z c.args.node c.args.row) (sym c.as_slice.ensures.value)
     (headed_of g.R.Rank.KEYS g.R.Rank.key c.after.new.self.tree.now c.after.new.self.entries.entries c.after.new.self.nodes.items c.after.ensures.formed c.args.node c.args.row in_tree in_node)
 
-pub search-child_head-head-requires-clause-child : goal.search-child_head-head-requires-clause-child
-search-child_head-head-requires-clause-child g t c =
-    let at = goal.at.search-child_head-head-requires-clause-child g t c in
+pub search-head_beside-head-requires-clause-child : goal.search-head_beside-head-requires-clause-child
+search-head_beside-head-requires-clause-child g t c =
+    let at = goal.at.search-head_beside-head-requires-clause-child g t c in
     let a = room_of g t at.After-make_room in
     subst (λ (z : List (NodeView g.row.R.Denot)). c.args.count - 1 < child_count z c.args.node) (sym c.after.ensures.tree) a.in_kids
 
@@ -528,7 +536,7 @@ search-returns-in_err-extend-clause-cost g t c =
     let a = room_of g t at.After-make_room in
     let b = child_of g t at.After-after a in
     let l = left_of g t at.After-extend a b in
-    left_steps a b l c.extend.new.steps (omega (arith, c.child_head-head.ensures.cost)) (omega arith)
+    left_steps a b l c.extend.new.steps (omega (arith, c.head_beside-head.ensures.cost)) (omega arith)
 
 pub search-step-requires-clause-tie_free : goal.search-step-requires-clause-tie_free
 search-step-requires-clause-tie_free g t c =
@@ -579,14 +587,14 @@ search-step-requires-clause-cell g t c =
     λ x. ap (λ (z : ProductView g.row.R.Denot). (get_or z.frontier 0 x).tag) l.product ∙ a.first x
 
 pub search-step-requires-clause-head : goal.search-step-requires-clause-head
-search-step-requires-clause-head g t c =
+search-step-requires-clause-head g t c later =
     let at = goal.at.search-step-requires-clause-head g t c in
     let a = room_of g t at.After-make_room in
     let b = child_of g t at.After-after a in
     let l = left_of g t at.After-extend a b in
-    let head = subst (λ (z : List (NodeView g.row.R.Denot)). c.child_head-head.result ≡ (stream_of c.after.new.self.nodes.items (child z c.args.node (c.args.count - 1)) (group_named z c.args.node c.args.row (c.args.count - 1))).head) c.after.ensures.tree
-    (subst (λ (n : List (NodeStreamsView g.row.R.Denot)). c.child_head-head.result ≡ (stream_of n (child c.after.new.self.tree.now c.args.node (c.args.count - 1)) (group_named c.after.new.self.tree.now c.args.node c.args.row (c.args.count - 1))).head) c.as_slice.ensures.value c.child_head-head.ensures.head) in
-    subst (λ (y : List (NodeView g.row.R.Denot)). c.child_head-head.result ≡ (stream_of c.extend.new.self.nodes.items (child y c.args.node (c.args.count - 1)) (group_named y c.args.node c.args.row (c.args.count - 1))).head) (sym l.searched.tree) (head ∙ sym l.head)
+    let head = subst (λ (z : List (NodeView g.row.R.Denot)). c.head_beside-head.result ≡ (stream_of c.after.new.self.nodes.items (child z c.args.node (c.args.count - 1)) (group_named z c.args.node c.args.row (c.args.count - 1))).head) c.after.ensures.tree
+    (subst (λ (n : List (NodeStreamsView g.row.R.Denot)). c.head_beside-head.result ≡ (stream_of n (child c.after.new.self.tree.now c.args.node (c.args.count - 1)) (group_named c.after.new.self.tree.now c.args.node c.args.row (c.args.count - 1))).head) c.as_slice.ensures.value (c.head_beside-head.ensures.head later)) in
+    subst (λ (y : List (NodeView g.row.R.Denot)). c.head_beside-head.result ≡ (stream_of c.extend.new.self.nodes.items (child y c.args.node (c.args.count - 1)) (group_named y c.args.node c.args.row (c.args.count - 1))).head) (sym l.searched.tree) (head ∙ sym l.head)
 
 pub search-step-requires-clause-below : goal.search-step-requires-clause-below
 search-step-requires-clause-below g t c =
@@ -599,7 +607,7 @@ search-step-requires-clause-below g t c =
 
 pub search-step-requires-clause-across : goal.search-step-requires-clause-across
 search-step-requires-clause-across g t c =
-    λ e. left_reached g.R.Rank.KEYS g.R.Rank.key c.extend.new.self.tree.now c.after.new.self.tree.now c.extend.new.self.nodes.items c.args.node c.args.row (c.args.count - 1) c.left_search-earlier.result.0 c.left_search-earlier.result.1 (c.in-Some.top.tag.left + 1) (sym c.extend.ensures.tree) (c.left_search-earlier.ensures.beside e).0 (c.left_search-earlier.ensures.beside e).1 c.in_ok-extend.ensures.reached
+    λ later e. left_reached g.R.Rank.KEYS g.R.Rank.key c.extend.new.self.tree.now c.after.new.self.tree.now c.extend.new.self.nodes.items c.args.node c.args.row (c.args.count - 1) c.left_search-earlier.result.0 c.left_search-earlier.result.1 (c.in-Some.top.tag.left + 1) (sym c.extend.ensures.tree) (c.left_search-earlier.ensures.beside e).0 (c.left_search-earlier.ensures.beside e).1 c.in_ok-extend.ensures.reached
 
 pub search-step-requires-clause-room : goal.search-step-requires-clause-room
 search-step-requires-clause-room g t c =
@@ -664,7 +672,7 @@ search-returns-clause-cost g t c =
     let a = room_of g t at.After-make_room in
     let b = child_of g t at.After-after a in
     let l = left_of g t at.After-extend a b in
-    left_steps a b l c.step.new.steps (omega (arith, c.child_head-head.ensures.cost)) c.step.ensures.cost
+    left_steps a b l c.step.new.steps (omega (arith, c.head_beside-head.ensures.cost)) c.step.ensures.cost
 
 pub search-left_search-earlier-requires : goal.search-left_search-earlier-requires
 search-left_search-earlier-requires g t c =
@@ -776,8 +784,8 @@ pub search-returns-in_err-extend-clause-formed : goal.search-returns-in_err-exte
 search-returns-in_err-extend-clause-formed g t c =
     c.extend.ensures.formed
 
-pub search-child_head-head-requires-clause-formed : goal.search-child_head-head-requires-clause-formed
-search-child_head-head-requires-clause-formed g t c =
+pub search-head_beside-head-requires-clause-formed : goal.search-head_beside-head-requires-clause-formed
+search-head_beside-head-requires-clause-formed g t c =
     c.after.ensures.formed.tree
 
 pub after-returns-in-Some-clause-formed : goal.after-returns-in-Some-clause-formed
@@ -877,12 +885,12 @@ pub search-overflow_sub-child : goal.search-overflow_sub-child
 search-overflow_sub-child g t c =
     omega (arith, c.requires.some)
 
-pub search-child_head-head-requires-clause-node : goal.search-child_head-head-requires-clause-node
-search-child_head-head-requires-clause-node g t c =
+pub search-head_beside-head-requires-clause-node : goal.search-head_beside-head-requires-clause-node
+search-head_beside-head-requires-clause-node g t c =
     omega (arith, c.requires.node, ap length c.after.ensures.tree)
 
-pub search-child_head-head-requires-clause-row : goal.search-child_head-head-requires-clause-row
-search-child_head-head-requires-clause-row g t c =
+pub search-head_beside-head-requires-clause-row : goal.search-head_beside-head-requires-clause-row
+search-head_beside-head-requires-clause-row g t c =
     subst (λ (z : List (NodeView g.row.R.Denot)). c.args.row < rows z c.args.node) (sym c.after.ensures.tree) c.requires.row
 
 pub search-index-requires-2 : goal.search-index-requires-2

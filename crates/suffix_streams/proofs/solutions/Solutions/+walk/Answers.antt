@@ -1,5 +1,5 @@
 use Rattle.std.proofs.Common.{◌≡◌, ℕ, ◌+◌, ◌-◌, ◌<◌, suc, length, get_or, refl, sym, ap, ◌∙◌, subst, arith}
-use Rattle.tdp_core.specs.TreeView.{parent, rows, child_count, group_named, rank}
+use Rattle.tdp_core.specs.TreeView.{parent, rows, number, child_count, group_named, rank}
 use Rattle.tdp_core.proofs.Children.{kids_below_most}
 use Rattle.tdp_model.specs.KeyTuple.{key_add, key_none}
 use Rattle.tdp_model.specs.Product.{pair_key}
@@ -31,6 +31,9 @@ module _ (g : Over) (t : ℕ) where
   row_of : (c : add_entry_rows-After-child_count-count g t) → IsSourceAt g.R.Rank.KEYS g.R.Rank.key c.args.self.now.tree.now c.args.self.now.entries.entries c.args.self.now.nodes.items c.args.entry c.get-found.result.now.node c.get-found.result.now.group c.get-found.result.now.solution.tag → c.get-found.result.now.solution.tag.row < rows c.args.self.now.tree.now c.get-found.result.now.node
   row_of c s = subst (λ z. z < rows c.args.self.now.tree.now c.get-found.result.now.node) (sym s.parts.0) s.row
 
+  number_of : (c : add_entry_rows-After-child_count-count g t) → IsSourceAt g.R.Rank.KEYS g.R.Rank.key c.args.self.now.tree.now c.args.self.now.entries.entries c.args.self.now.nodes.items c.args.entry c.get-found.result.now.node c.get-found.result.now.group c.get-found.result.now.solution.tag → c.get-found.result.now.solution.tag.number ≡ number c.args.self.now.tree.now c.get-found.result.now.node c.get-found.result.now.solution.tag.row
+  number_of c s = s.parts.1 ∙ ap (number c.args.self.now.tree.now c.get-found.result.now.node) (sym s.parts.0)
+
   -- the key of the entry's solution, by its row
   key_of : (c : add_entry_rows-After-child_count-count g t) → IsSourceAt g.R.Rank.KEYS g.R.Rank.key c.args.self.now.tree.now c.args.self.now.entries.entries c.args.self.now.nodes.items c.args.entry c.get-found.result.now.node c.get-found.result.now.group c.get-found.result.now.solution.tag
       → get_or (part_list g.R.Rank.KEYS g.R.Rank.key c.args.self.now.tree.now c.get-found.result.now.node c.get-found.result.now.solution.tag.row (child_count c.args.self.now.tree.now c.get-found.result.now.node)) c.get-found.result.now.solution.tag.place (key_none g.R.Rank.KEYS 16)
@@ -43,7 +46,7 @@ module _ (g : Over) (t : ℕ) where
   own_parts : (c : add_entry_rows-After-child_count-count g t) → IsSourceAt g.R.Rank.KEYS g.R.Rank.key c.args.self.now.tree.now c.args.self.now.entries.entries c.args.self.now.nodes.items c.args.entry c.get-found.result.now.node c.get-found.result.now.group c.get-found.result.now.solution.tag
       → (k : ℕ) → child_count c.args.self.now.tree.now c.get-found.result.now.node ≡ suc k → IsSumOf g.R.Rank.KEYS g.R.Rank.key c.args.self.now.tree.now c.args.self.now.entries.entries c.args.self.now.nodes.items c.get-found.result.now.node c.get-found.result.now.solution.tag.row k c.get-found.result.now.solution.tag.place c.get-found.result.now.solution.tag.cell
   own_parts c s k kids =
-      subst (λ r. IsSumOf g.R.Rank.KEYS g.R.Rank.key c.args.self.now.tree.now c.args.self.now.entries.entries c.args.self.now.nodes.items c.get-found.result.now.node r k c.get-found.result.now.solution.tag.place c.get-found.result.now.solution.tag.cell) (sym s.parts.0) (s.parts.1 k kids)
+      subst (λ r. IsSumOf g.R.Rank.KEYS g.R.Rank.key c.args.self.now.tree.now c.args.self.now.entries.entries c.args.self.now.nodes.items c.get-found.result.now.node r k c.get-found.result.now.solution.tag.place c.get-found.result.now.solution.tag.cell) (sym s.parts.0) (s.parts.2 k kids)
 
   -- without children it is the row's own solution
   own_is : (c : add_entry_rows-After-child_count-count g t) → IsSourceAt g.R.Rank.KEYS g.R.Rank.key c.args.self.now.tree.now c.args.self.now.entries.entries c.args.self.now.nodes.items c.args.entry c.get-found.result.now.node c.get-found.result.now.group c.get-found.result.now.solution.tag → c.child_count-count.result ≡ 0
@@ -95,6 +98,11 @@ add_entry_rows-add_own_row-requires-clause-row g t c =
     let at = goal.at.add_entry_rows-add_own_row-requires-clause-row g t c in
     row_of g t at.After-child_count-count (source_of g t at.After-get-found)
 
+pub add_entry_rows-add_own_row-requires-clause-number : goal.add_entry_rows-add_own_row-requires-clause-number
+add_entry_rows-add_own_row-requires-clause-number g t c =
+    let at = goal.at.add_entry_rows-add_own_row-requires-clause-number g t c in
+    number_of g t at.After-child_count-count (source_of g t at.After-get-found)
+
 pub add_entry_rows-add_own_row-requires-clause-fits : goal.add_entry_rows-add_own_row-requires-clause-fits
 add_entry_rows-add_own_row-requires-clause-fits g t c =
     let at = goal.at.add_entry_rows-add_own_row-requires-clause-fits g t c in
@@ -114,7 +122,6 @@ add_entry_rows-returns-then-count-eq0-clause-cost g t c =
     omega (
       arith,
       c.get-found.ensures.cost,
-      c.add_own_row.ensures.cost,
       kids_smaller g.R.Rank.KEYS g.R.Rank.key tree c.requires.formed.tree c.get-found.result.now.node c.child_count-count.result s.node (omega (arith, kids)),
       ap (λ v. subtree_size tree v) s.owner,
     )
@@ -143,10 +150,13 @@ add_entry_rows-add_sum_rows-requires g t c κs within =
                   (
                     row_of g t at.After-child_count-count s,
                     (
-                      omega (arith, last),
+                      number_of g t at.After-child_count-count s,
                       (
-                        (f.solution.tag.place, own_parts g t at.After-child_count-count s (c.child_count-count.result - 1) last),
-                        subst (AreAddable g.R.Rank.KEYS c.args.numbers.now) (sym (sum_is g t at.After-child_count-count s (c.child_count-count.result - 1) last)) c.requires.fits,
+                        omega (arith, last),
+                        (
+                          (f.solution.tag.place, own_parts g t at.After-child_count-count s (c.child_count-count.result - 1) last),
+                          subst (AreAddable g.R.Rank.KEYS c.args.numbers.now) (sym (sum_is g t at.After-child_count-count s (c.child_count-count.result - 1) last)) c.requires.fits,
+                        ),
                       ),
                     ),
                   ),
@@ -185,6 +195,9 @@ add_entry_rows-returns-else-count-eq0-clause-cost g t c =
 
 -- # The rows of a row's solution with its first children
 
+pub add_part_rows-add_own_row-requires-clause-number : goal.add_part_rows-add_own_row-requires-clause-number
+add_part_rows-add_own_row-requires-clause-number g t c = c.requires.number
+
 pub add_part_rows-add_own_row-requires-clause-fits : goal.add_part_rows-add_own_row-requires-clause-fits
 add_part_rows-add_own_row-requires-clause-fits g t c =
     let known = known_own g.R.Rank.KEYS g.R.Rank.key c.args.self.now.tree.now c.args.self.now.entries.entries c.args.self.now.nodes.items c.requires.formed c.args.node c.args.row c.args.count c.args.place (omega arith) c.requires.place in
@@ -204,7 +217,7 @@ add_part_rows-add_sum_rows-requires g t c κs within =
     let at = goal.at.add_part_rows-add_sum_rows-requires g t c in
     let more : c.args.count - 1 + 1 ≡ c.args.count = omega (arith, c.if-count-eq0.false) in
     let fits = subst (AreAddable g.R.Rank.KEYS c.args.numbers.now) (sym (part_is g t at.After-part_cell-cell more)) c.requires.fits in
-    (omega (arith, c.decreases, c.if-count-eq0.false), (within.0, (within.1.0, (within.1.1, (c.requires.formed, (c.requires.tie_free, (c.requires.node, (c.requires.row, (omega (arith, c.requires.count, c.if-count-eq0.false), ((c.args.place, c.part_cell-cell.ensures.sum), fits))))))))))
+    (omega (arith, c.decreases, c.if-count-eq0.false), (within.0, (within.1.0, (within.1.1, (c.requires.formed, (c.requires.tie_free, (c.requires.node, (c.requires.row, (c.requires.number, (omega (arith, c.requires.count, c.if-count-eq0.false), ((c.args.place, c.part_cell-cell.ensures.sum), fits)))))))))))
 
 pub add_part_rows-returns-else-count-eq0-clause-added : goal.add_part_rows-returns-else-count-eq0-clause-added
 add_part_rows-returns-else-count-eq0-clause-added g t c =
@@ -223,7 +236,7 @@ add_sum_rows-add_part_rows-requires g t c κs within =
     let x = c.args.cell.now in
     let fits = left_addable d c.args.numbers.now (get_or (part_list d key tree c.args.node c.args.row c.args.child) x.left (key_none d 16))
     (get_or (group_list d key tree (child tree c.args.node c.args.child) (group_named tree c.args.node c.args.row c.args.child)) (place_of es x.right) (key_none d 16)) c.requires.fits in
-    (omega (arith, c.decreases), (within.0, (within.1.0, (within.1.1, (c.requires.formed, (c.requires.tie_free, (c.requires.node, (c.requires.row, (omega (arith, c.requires.child), (c.requires.parts.1.left, fits))))))))))
+    (omega (arith, c.decreases), (within.0, (within.1.0, (within.1.1, (c.requires.formed, (c.requires.tie_free, (c.requires.node, (c.requires.row, (c.requires.number, (omega (arith, c.requires.child), (c.requires.parts.1.left, fits)))))))))))
 
 module _ (g : Over) (t : ℕ) where
   -- the key of the right part, by its entry
@@ -339,7 +352,7 @@ add_entry_rows-add_own_row-requires-clause-formed g t c =
 
 pub add_part_rows-returns-then-count-eq0-clause-cost : goal.add_part_rows-returns-then-count-eq0-clause-cost
 add_part_rows-returns-then-count-eq0-clause-cost g t c =
-    omega (arith, c.add_own_row.ensures.cost)
+    omega arith
 
 pub add_part_rows-returns-else-count-eq0-clause-cost : goal.add_part_rows-returns-else-count-eq0-clause-cost
 add_part_rows-returns-else-count-eq0-clause-cost g t c =

@@ -1,6 +1,6 @@
 use Rattle.std.proofs.Common.{◌≡◌, ◌≢◌, ℕ, ◌+◌, ◌*◌, ◌<◌, ◌≤◌, None, Some, IfSome, IfNone, is_some, List, [], length, get_or, refl, sym, ap, ◌∙◌, subst, arith}
 use Rattle.take2_heap.specs.Order.{IsLeast}
-use Rattle.tdp_core.specs.TreeView.{members, child_count}
+use Rattle.tdp_core.specs.TreeView.{number, members, child_count}
 use Rattle.tdp_model.specs.KeyTuple.{key_none}
 use Rattle.stream_store.specs.declared.entry.Linked.{Linked}
 use Rattle.suffix_streams.specs.declared.stream.Found.{Found}
@@ -33,10 +33,10 @@ module _ (g : Over) where
       group_top g.R.Rank.KEYS g.R.Rank.key c.args.self.now.tree.now c.args.self.now.entries.entries c.args.self.now.nodes.items c.args.last c.args.node c.args.group c.args.row c.args.member c.requires.formed c.requires.last c.requires.node c.requires.group c.requires.top c.requires.member c.requires.row
 
   -- the offer, in terms of the nodes
-  offer_of : (c : After-pass_last g) → IfNone c.row_offer-offer.result (row_known c.args.self.now.nodes.items c.args.node c.args.row ≤ c.args.place) × IfSome c.row_offer-offer.result (λ e. (e.tag.member ≡ c.args.member) × (e.tag.place ≡ c.args.place)) × IfSome c.row_offer-offer.result (λ e. c.args.place < row_known c.args.self.now.nodes.items c.args.node c.args.row) × IfSome c.row_offer-offer.result (λ e. (e.tag.row ≡ c.args.row) × ((i : ℕ) → child_count c.args.self.now.tree.now c.args.node ≡ i + 1 → IsSumOf g.R.Rank.KEYS g.R.Rank.key c.args.self.now.tree.now c.args.self.now.entries.entries c.args.self.now.nodes.items c.args.node c.args.row i c.args.place e.tag.cell))
+  offer_of : (c : After-pass_last g) → IfNone c.row_offer-offer.result (row_known c.args.self.now.nodes.items c.args.node c.args.row ≤ c.args.place) × IfSome c.row_offer-offer.result (λ e. (e.tag.member ≡ c.args.member) × (e.tag.place ≡ c.args.place)) × IfSome c.row_offer-offer.result (λ e. c.args.place < row_known c.args.self.now.nodes.items c.args.node c.args.row) × IfSome c.row_offer-offer.result (λ e. (e.tag.row ≡ c.args.row) × (e.tag.number ≡ number c.args.self.now.tree.now c.args.node c.args.row) × ((i : ℕ) → child_count c.args.self.now.tree.now c.args.node ≡ i + 1 → IsSumOf g.R.Rank.KEYS g.R.Rank.key c.args.self.now.tree.now c.args.self.now.entries.entries c.args.self.now.nodes.items c.args.node c.args.row i c.args.place e.tag.cell))
       × IfSome c.row_offer-offer.result (λ e. g.R.Rank.key e.rank ≡ get_or (part_list g.R.Rank.KEYS g.R.Rank.key c.args.self.now.tree.now c.args.node c.args.row (length (products_of c.args.self.now.nodes.items c.args.node c.args.row))) c.args.place (key_none g.R.Rank.KEYS 16))
   offer_of c =
-      subst (λ (z : List (NodeStreamsView g.row.R.Denot)). IfNone c.row_offer-offer.result (row_known z c.args.node c.args.row ≤ c.args.place) × IfSome c.row_offer-offer.result (λ e. (e.tag.member ≡ c.args.member) × (e.tag.place ≡ c.args.place)) × IfSome c.row_offer-offer.result (λ e. c.args.place < row_known z c.args.node c.args.row) × IfSome c.row_offer-offer.result (λ e. (e.tag.row ≡ c.args.row) × ((i : ℕ) → child_count c.args.self.now.tree.now c.args.node ≡ i + 1 → IsSumOf g.R.Rank.KEYS g.R.Rank.key c.args.self.now.tree.now c.args.self.now.entries.entries z c.args.node c.args.row i c.args.place e.tag.cell))
+      subst (λ (z : List (NodeStreamsView g.row.R.Denot)). IfNone c.row_offer-offer.result (row_known z c.args.node c.args.row ≤ c.args.place) × IfSome c.row_offer-offer.result (λ e. (e.tag.member ≡ c.args.member) × (e.tag.place ≡ c.args.place)) × IfSome c.row_offer-offer.result (λ e. c.args.place < row_known z c.args.node c.args.row) × IfSome c.row_offer-offer.result (λ e. (e.tag.row ≡ c.args.row) × (e.tag.number ≡ number c.args.self.now.tree.now c.args.node c.args.row) × ((i : ℕ) → child_count c.args.self.now.tree.now c.args.node ≡ i + 1 → IsSumOf g.R.Rank.KEYS g.R.Rank.key c.args.self.now.tree.now c.args.self.now.entries.entries z c.args.node c.args.row i c.args.place e.tag.cell))
       × IfSome c.row_offer-offer.result (λ e. g.R.Rank.key e.rank ≡ get_or (part_list g.R.Rank.KEYS g.R.Rank.key c.args.self.now.tree.now c.args.node c.args.row (length (products_of z c.args.node c.args.row))) c.args.place (key_none g.R.Rank.KEYS 16))) c.as_slice.ensures.value
       (c.row_offer-offer.ensures.none, c.row_offer-offer.ensures.source, c.row_offer-offer.ensures.known, c.row_offer-offer.ensures.parts, c.row_offer-offer.ensures.key)
 
@@ -49,7 +49,7 @@ module _ (g : Over) where
   old_queue c o = (c.requires.formed.streams c.args.node c.args.group o.node o.group).few
 
   -- the steps of passing, in digits of the number of members
-  digits_of : (c : After-pass_last g) → (o : IsGroupTop g.R.Rank.KEYS g.R.Rank.key c.args.self.now.tree.now c.args.self.now.entries.entries c.args.self.now.nodes.items c.args.last c.args.node c.args.group c.args.row) → c.pass_last.new.steps ≤ c.args.steps.now + 6 + 3 * child_count c.args.self.now.tree.now c.args.node + 4 * bit_length (length (members c.args.self.now.tree.now c.args.node c.args.group) + 1)
+  digits_of : (c : After-pass_last g) → (o : IsGroupTop g.R.Rank.KEYS g.R.Rank.key c.args.self.now.tree.now c.args.self.now.entries.entries c.args.self.now.nodes.items c.args.last c.args.node c.args.group c.args.row) → c.pass_last.new.steps ≤ c.args.steps.now + 8 + 3 * child_count c.args.self.now.tree.now c.args.node + 4 * bit_length (length (members c.args.self.now.tree.now c.args.node c.args.group) + 1)
   digits_of c o =
       let n : ℕ = length (members c.args.self.now.tree.now c.args.node c.args.group) in
       let old : length (stream_of c.args.self.now.nodes.items c.args.node c.args.group).queue ≤ n = old_queue c o in
@@ -211,6 +211,9 @@ pub row_offer-offer-requires-clause-node : goal.row_offer-offer-requires-clause-
 row_offer-offer-requires-clause-node g c =
     let at = goal.at.row_offer-offer-requires-clause-node g c in
     (top_of g at.After-as_slice).node
+
+pub row_offer-offer-requires-clause-number : goal.row_offer-offer-requires-clause-number
+row_offer-offer-requires-clause-number g c = c.requires.number
 
 pub row_offer-offer-requires-clause-opened : goal.row_offer-offer-requires-clause-opened
 row_offer-offer-requires-clause-opened g c = ap (λ (z : List (NodeStreamsView g.row.R.Denot)). length (products_of z c.args.node c.args.row)) c.as_slice.ensures.value ∙ c.requires.count

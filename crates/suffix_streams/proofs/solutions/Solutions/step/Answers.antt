@@ -1,4 +1,4 @@
-use Rattle.std.proofs.Common.{◌≡◌, ◌+◌, ◌*◌, ◌<◌, ◌≤◌, ◌^◌, suc, inl, inr, refl, Option, IfSome, MatchOption, List, [], length, slice_set, get_or, sym, ap, ◌∙◌, subst, arith}
+use Rattle.std.proofs.Common.{◌≡◌, ℕ, ◌+◌, ◌*◌, ◌<◌, ◌≤◌, ◌^◌, suc, inl, inr, refl, Option, IfSome, MatchOption, List, [], length, slice_set, get_or, sym, ap, ◌∙◌, subst, arith}
 use Rattle.std.proofs.lemmas.Bool.{cases_lt}
 use Rattle.std.proofs.lemmas.List.{get_or-set_same}
 use Rattle.std.specs.List.{All}
@@ -6,18 +6,19 @@ use Rattle.rank_key.specs.Bits.{bit_length}
 use Rattle.take2_heap.specs.Order.{IsLeast}
 use Rattle.stream_cells.specs.declared.cell.Cell.{Cell}
 use Rattle.suffix_streams.specs.NodeStreamsView.{NodeStreamsView, product_at, known_of, with_product}
-use Rattle.suffix_streams.specs.TreeStreams.{HasParts, IsCell, IsStreams, pair_of, node_of, group_of, lists_of, product_of, part_known}
-use Rattle.tdp_core.specs.TreeView.{group_named}
+use Rattle.suffix_streams.specs.TreeStreams.{HasParts, IsCell, IsStreams, pair_of, node_of, group_of, lists_of, product_of, stream_of, part_known}
+use Rattle.tdp_core.specs.TreeView.{NodeView, group_named}
 use Rattle.rank_key.proofs.BitLemmas.{bit_length_rises}
 use Rattle.suffix_streams.specs.Rankings.{child, part_list, group_list}
 use Rattle.suffix_streams.specs.Frontiers.{IsFrontier}
 use Rattle.suffix_streams.specs.Growing.{IsReached}
+use Rattle.suffix_streams.proofs.Searching.{reached_none}
 use Rattle.suffix_streams.proofs.State.{count_more}
 use Rattle.suffix_streams.proofs.Heads.{lists_at}
 use Rattle.suffix_streams.proofs.Stores.{set_length}
 use Rattle.suffix_streams.proofs.Entries.{parts_of}
 use Rattle.suffix_streams.proofs.Changes.{counts_kept, lists_same}
-use Rattle.suffix_streams.proofs.StepCells.{cell_known, down_cell_known, beside_cell_known, none_beside, one_change, no_top}
+use Rattle.suffix_streams.proofs.StepCells.{cell_known, down_cell_known, beside_cell_known, at_head, none_beside, one_change, no_top}
 use Rattle.suffix_streams.proofs.ProductPass.{IsProductPassed, IsSumKept, product_passed, product_ends, sum_kept}
 use Rattle.suffix_streams.proofs.solutions.Solutions.step.Given.{Over}
 use Rattle.suffix_streams.proofs.solutions.Solutions.step.Goals.{After-keep, After-known-known, After-pass_product, After-product_top}
@@ -25,14 +26,28 @@ use Rattle.suffix_streams.proofs.solutions.Solutions.step.Goals as goal
 
 -- # What the proofs share
 
+-- the first entry of the stream of the group that a row names for a child
+abbrev head_of : {R : Type 0} → List (NodeView R) → List (NodeStreamsView R) → ℕ → ℕ → ℕ → ℕ
+head_of t n v r c = (stream_of n (child t v c) (group_named t v r c)).head
+
 module _ (g : Over) where
   known_is : (c : After-known-known g) → c.known-known.result ≡ part_known c.args.self.now.nodes.items c.args.node c.args.row c.args.child
   known_is c = c.known-known.ensures ∙ ap (λ n. known_of n c.args.row c.args.child) (sym (lists_at c.args.self.now.nodes.items c.args.node c.index.result.now c.index.ensures (omega (arith, c.requires.formed.all_nodes, c.requires.node))))
 
+  -- the place of the next left part is reached if the right part is the head
+  ready_of : (c : After-pass_product g) → c.args.cell.now.right ≡ head_of c.args.self.now.tree.now c.args.self.now.nodes.items c.args.node c.args.row c.args.child → IsReached g.R.Rank.KEYS g.R.Rank.key c.args.self.now.tree.now c.args.self.now.nodes.items c.args.node c.args.row c.args.child (c.args.cell.now.left + 1)
+  ready_of c e = elim (cases_lt 0 c.args.child) [
+    | inl later ↦ c.requires.across later (e ∙ sym (c.requires.head later))
+    | inr none ↦
+        let first : 0 ≡ c.args.child = omega (arith, none) in
+        subst (λ k. IsReached g.R.Rank.KEYS g.R.Rank.key c.args.self.now.tree.now c.args.self.now.nodes.items c.args.node c.args.row k (c.args.cell.now.left + 1)) first
+        (reached_none g.R.Rank.KEYS g.R.Rank.key c.args.self.now.tree.now c.args.self.now.entries.entries c.args.self.now.nodes.items c.requires.formed c.args.node c.args.row (c.args.cell.now.left + 1) c.requires.node (omega arith))
+  ]
+
   passed_of : (c : After-pass_product g) → IsProductPassed g.R.Rank.KEYS g.R.Rank.key c.args.self.now.tree.now c.args.self.now.entries.entries c.args.self.now.nodes.items c.args.node c.args.row c.args.child (product_at c.pass_product.new.self c.args.row c.args.child)
   passed_of c =
-      product_passed g.R.Rank.KEYS g.R.Rank.key c.args.self.now.tree.now c.args.self.now.entries.entries c.args.self.now.nodes.items c.args.node c.args.row c.args.child (product_at c.pass_product.new.self c.args.row c.args.child) c.index.result.now c.index_mut.result.now c.known-known.result c.args.cell.now c.args.below c.args.head c.down_cell-down.result c.across_cell-across.result c.offered-down.result c.offered-across.result
-      c.requires.formed c.requires.node c.requires.row c.requires.child c.requires.top c.requires.cell c.requires.head c.requires.below c.requires.across c.index.ensures c.index_mut.ensures.value c.known-known.ensures c.down_cell-down.ensures c.across_cell-across.ensures c.offered-down.ensures.offer c.offered-across.ensures.offer c.pass_product.ensures.found c.pass_product.ensures.ranks c.pass_product.ensures.moved c.pass_product.ensures.least
+      product_passed g.R.Rank.KEYS g.R.Rank.key c.args.self.now.tree.now c.args.self.now.entries.entries c.args.self.now.nodes.items c.args.node c.args.row c.args.child (product_at c.pass_product.new.self c.args.row c.args.child) c.index.result.now c.index_mut.result.now c.known-known.result c.args.cell.now c.args.below (head_of c.args.self.now.tree.now c.args.self.now.nodes.items c.args.node c.args.row c.args.child) c.down_cell-down.result c.across_cell-across.result c.offered-down.result c.offered-across.result
+      c.requires.formed c.requires.node c.requires.row c.requires.child c.requires.top c.requires.cell refl c.requires.below (ready_of c) c.index.ensures c.index_mut.ensures.value c.known-known.ensures c.down_cell-down.ensures (at_head c.args.child c.known-known.result c.args.head (head_of c.args.self.now.tree.now c.args.self.now.nodes.items c.args.node c.args.row c.args.child) c.args.cell.now c.requires.head (λ none. c.known-known.ensures ∙ ap (λ k. known_of c.index.result.now c.args.row k) none) c.across_cell-across.result c.across_cell-across.ensures) c.offered-down.ensures.offer c.offered-across.ensures.offer c.pass_product.ensures.found c.pass_product.ensures.ranks c.pass_product.ensures.moved c.pass_product.ensures.least
 
   changed_of : (c : After-pass_product g) → IsProductPassed g.R.Rank.KEYS g.R.Rank.key c.args.self.now.tree.now c.args.self.now.entries.entries c.args.self.now.nodes.items c.args.node c.args.row c.args.child (product_at c.pass_product.new.self c.args.row c.args.child) → slice_set c.args.self.now.nodes.items c.args.node c.pass_product.new.self ≡ slice_set c.args.self.now.nodes.items c.args.node (with_product (lists_of c.args.self.now.nodes.items c.args.node) c.args.row c.args.child (product_at c.pass_product.new.self c.args.row c.args.child))
   changed_of c a = one_change c.args.self.now.nodes.items c.args.node c.args.row c.args.child c.index_mut.result.now c.pass_product.new.self a.in_nodes c.index_mut.ensures.value c.pass_product.ensures.changed
@@ -77,9 +92,11 @@ pub offered-across-requires-clause-cell : goal.offered-across-requires-clause-ce
 offered-across-requires-clause-cell g c =
     let at = goal.at.offered-across-requires-clause-cell g c in
     let known = known_is g at.After-known-known in
-    let beside = subst (λ k. MatchOption c.across_cell-across.result (c.args.cell.now.right ≡ c.args.head → k ≤ c.args.cell.now.left + 1) (λ x. (c.args.cell.now.right ≡ c.args.head) × (c.args.cell.now.left + 1 < k) × (x ≡ record { left = c.args.cell.now.left + 1; right = c.args.head }))) known c.across_cell-across.ensures in
+    let head = head_of c.args.self.now.tree.now c.args.self.now.nodes.items c.args.node c.args.row c.args.child in
+    let beside = subst (λ k. MatchOption c.across_cell-across.result (c.args.cell.now.right ≡ head → k ≤ c.args.cell.now.left + 1) (λ x. (c.args.cell.now.right ≡ head) × (c.args.cell.now.left + 1 < k) × (x ≡ record { left = c.args.cell.now.left + 1; right = head }))) known
+    (at_head c.args.child c.known-known.result c.args.head head c.args.cell.now c.requires.head (λ none. c.known-known.ensures ∙ ap (λ k. known_of c.index.result.now c.args.row k) none) c.across_cell-across.result c.across_cell-across.ensures) in
     subst (λ (z : List (NodeStreamsView g.row.R.Denot)). IfSome c.across_cell-across.result (IsCell g.R.Rank.KEYS g.R.Rank.key c.args.self.now.tree.now c.args.self.now.entries.entries z c.args.node c.args.row c.args.child)) (sym c.as_slice-2.ensures.value)
-    (beside_cell_known g.R.Rank.KEYS g.R.Rank.key c.args.self.now.tree.now c.args.self.now.entries.entries c.args.self.now.nodes.items c.requires.formed c.args.node c.args.row c.args.child c.requires.node c.requires.row c.requires.child c.args.cell.now c.requires.top c.requires.cell c.args.head c.requires.head c.across_cell-across.result beside)
+    (beside_cell_known g.R.Rank.KEYS g.R.Rank.key c.args.self.now.tree.now c.args.self.now.entries.entries c.args.self.now.nodes.items c.requires.formed c.args.node c.args.row c.args.child c.requires.node c.requires.row c.requires.child c.args.cell.now c.requires.top c.requires.cell (head_of c.args.self.now.tree.now c.args.self.now.nodes.items c.args.node c.args.row c.args.child) refl c.across_cell-across.result beside)
 
 pub pass_product-requires-clause-room : goal.pass_product-requires-clause-room
 pass_product-requires-clause-room g c _ across =
