@@ -25,9 +25,10 @@ use take2_heap::Entry;
 #[derive(Drop)]
 pub(crate) struct Product<R: Rank, A: Allocator> {
     found: Vec<Cell, A>,
+    /// It is beside `found`, since each step reads both.
+    frontier: Queue<R, Cell, A>,
     /// The ranks of these solutions, or none if the product keeps no ranks.
     ranks: Vec<R, A>,
-    frontier: Queue<R, Cell, A>,
 }
 
 impl<R: Rank, A: Allocator> Model for Product<R, A> {
@@ -71,8 +72,8 @@ impl<R: Rank, A: Allocator + Clone> Product<R, A> {
         let ranks = first_rank(alloc, rank, keeps_ranks)?;
         Ok(Product {
             found,
-            ranks,
             frontier: Queue::of(Entry { rank, tag: cell }),
+            ranks,
         })
     }
 

@@ -19,12 +19,12 @@ use stream_store::EntryId;
 use take2_heap::Entry;
 
 /// A subtree solution of a group, as the store has it: its rank, and the source that its rows are
-/// read from.
+/// read from. The source is beside the node, since the two are read together.
 #[derive(Clone, Copy)]
 pub(crate) struct Found<R> {
+    pub(crate) solution: Entry<R, Source>,
     pub(crate) node: u32,
     pub(crate) group: u32,
-    pub(crate) solution: Entry<R, Source>,
 }
 
 /// The stream of a group: its first entry, and a queue of what follows. The queue's top is the last
