@@ -11,7 +11,6 @@ use Rattle.verdict.specs.StageResults.{Pure}
 use Rattle.session_script.specs.Script.{unless}
 use Rattle.verdict.specs.Stages.{Is, then_by}
 use Rattle.verdict.specs.AcceptedInput.{queries_in}
-use Rattle.input_load.proofs.Shapes.{Checked, odd_none, odd_told}
 
 -- ---- the item that has the alias
 
@@ -45,23 +44,15 @@ module _ (queries : List Query) (tables : List Table) (beside : Beside) where
   abbrev loaded_after : Option (List ℕ) → List Query → Result Loaded Reason
   loaded_after alias qs = then_by (best_in alias qs) (λ best. Ok (record { queries = qs; tables = tables; best = best; steps = beside.steps; proof = beside.proof }))
 
-  shape_same : (n : ℕ) (e x : Reason) → e ≡ BranchShape n → x ≡ BranchShape n → Pure (Is {A = Loaded} (Err x)) (Err e)
-  shape_same n e x told same = rw (told, same) refl
-
   -- a branch is not of the first one's shape
-  pub shape_refused : (alias : Option (List ℕ)) (e : Reason) → Checked (Err e) queries → Pure (Is (loaded_in alias queries tables beside)) (Err e)
-  shape_refused alias e h = by (odd_branch queries) refl h
-    where
-      by : (o : Option Reason) → odd_branch queries ≡ o → ◌≡◌ {A = Result (Unit {0}) Reason} (Err e) (unless o tt)
-          → Pure (Is (then_by (unless o queries) (loaded_after alias))) (Err e)
-      by None is h = cc
-      by (Some x) is h =
-          let told = odd_told queries x is in
-          let same : e ≡ x = cc in
-          shape_same told.0 e x (same ∙ told.1) told.1
+  pub shape_refused : (alias : Option (List ℕ)) (branch : ℕ) → Some (BranchShape branch) ≡ odd_branch queries
+      → Pure (Is (loaded_in alias queries tables beside)) (Err (BranchShape branch))
+  shape_refused alias branch h =
+      let P : Option Reason → Type 0 = λ o. Pure (Is (then_by (unless o queries) (loaded_after alias))) (Err (BranchShape branch)) in
+      subst P h refl
 
-  shaped : (alias : Option (List ℕ)) → Checked (Ok tt) queries → loaded_in alias queries tables beside ≡ then_by (best_in alias queries) loaded_with
-  shaped alias h = ap (λ (o : Option Reason). then_by (unless o queries) (loaded_after alias)) (odd_none queries h)
+  shaped : (alias : Option (List ℕ)) → None ≡ odd_branch queries → loaded_in alias queries tables beside ≡ then_by (best_in alias queries) loaded_with
+  shaped alias h = ap (λ (o : Option Reason). then_by (unless o queries) (loaded_after alias)) (sym h)
 
   best_refused : (alias : Option (List ℕ)) (qs : List Query) (e : Reason) → Err e ≡ best_in alias qs → Pure (Is (then_by (best_in alias qs) loaded_with)) (Err e)
   best_refused None qs e h = cc
@@ -74,14 +65,14 @@ module _ (queries : List Query) (tables : List Table) (beside : Beside) where
       by (Some item) h = cc
 
   -- no item has the alias, or there are several branches
-  pub item_refused : (alias : Option (List ℕ)) (e : Reason) → Checked (Ok tt) queries → Err e ≡ best_in alias queries
+  pub item_refused : (alias : Option (List ℕ)) (e : Reason) → None ≡ odd_branch queries → Err e ≡ best_in alias queries
       → Pure (Is (loaded_in alias queries tables beside)) (Err e)
   item_refused alias e one h =
       let P : Result Loaded Reason → Type 0 = λ r. Pure (Is r) (Err e) in
       subst P (sym (shaped alias one)) (best_refused alias queries e h)
 
   -- an item has it, or no alias is named
-  pub item_found : (alias : Option (List ℕ)) (best : Option ℕ) → Checked (Ok tt) queries → Ok best ≡ best_in alias queries
+  pub item_found : (alias : Option (List ℕ)) (best : Option ℕ) → None ≡ odd_branch queries → Ok best ≡ best_in alias queries
       → Is (loaded_in alias queries tables beside) (loaded_with best)
   item_found alias best one h =
       ap (λ (r : Result (Option ℕ) Reason). then_by r loaded_with) h ∙ sym (shaped alias one)

@@ -1,12 +1,11 @@
 -- The first branch that is not of the first one's shape.
-use Rattle.std.proofs.Common.{◌≡◌, ◌+◌, ◌<◌, ◌≤◌, ◌∷◌, [], ℕ, suc, Bool, true, false, if◌then◌else◌, List, length, drop, get_or, Option, Some, None, Result, Ok, Err, refl, sym, ap, ◌∙◌, arith}
+use Rattle.std.proofs.Common.{◌≡◌, ◌+◌, ◌<◌, ◌≤◌, ◌∷◌, [], ℕ, suc, Bool, true, false, if◌then◌else◌, List, length, drop, get_or, Option, Some, None, refl, sym, ap, ◌∙◌, arith}
 use Rattle.std.proofs.lemmas.List.{drop_all, drop_more}
 use Rattle.std.proofs.lemmas.Bool.{and_parts}
 use Rattle.anyk_model.specs.Query.{OrderKey, Query}
 use Rattle.refusal_lines.specs.Reason.{BranchShape, Reason}
 use Rattle.union_list.specs.TaggedRows.{HaveKeys}
 use Rattle.verdict.specs.Loading.{have_directions, have_one_shape, odd_branch, odd_from}
-use Rattle.session_script.specs.Script.{unless}
 
 -- as many keys
 same_keys : (keys others : List OrderKey) → have_directions keys others ≡ true → length keys ≡ length others
@@ -53,17 +52,6 @@ odd_told (first ∷ queries) e h = odd_from_told first 2 queries e h
 
 -- ---- the branches, one after another
 
--- the result of the test
-abbrev pub Checked : Result (Unit {0}) Reason → List Query → Type 0
-Checked result queries = result ≡ unless (odd_branch queries) tt
-
-pub odd_none : (queries : List Query) → Checked (Ok tt) queries → odd_branch queries ≡ None
-odd_none queries h = by (odd_branch queries) h
-  where
-    by : (o : Option Reason) → ◌≡◌ {A = Result (Unit {0}) Reason} (Ok tt) (unless o tt) → o ≡ None
-    by None h = refl
-    by (Some x) h = cc
-
 -- the first such branch from the branch at b on
 abbrev pub odd_after : List Query → ℕ → Option Reason
 odd_after [] b = None
@@ -91,16 +79,14 @@ shape_kept queries b first query inside zeroth is same so_far =
 
 -- it has not
 pub shape_odd : (queries : List Query) (b : ℕ) (first query : Query) → b < length queries → first ≡ get_or queries 0 first → query ≡ get_or queries b query
-    → have_one_shape first query ≡ false → odd_after queries b ≡ odd_branch queries → Checked (Err (BranchShape (b + 1))) queries
+    → have_one_shape first query ≡ false → odd_after queries b ≡ odd_branch queries → Some (BranchShape (b + 1)) ≡ odd_branch queries
 shape_odd queries b first query inside zeroth is other so_far =
-    let odd : odd_branch queries ≡ Some (BranchShape (b + 1)) =
-    sym so_far ∙ odd_step queries b first query inside zeroth is
-    ∙ ap (λ (h : Bool). if h then odd_after queries (b + 1) else Some (BranchShape (b + 1))) other in
-    sym (ap (λ (o : Option Reason). unless {A = Unit {0}} o tt) odd)
+    sym (sym so_far ∙ odd_step queries b first query inside zeroth is
+    ∙ ap (λ (h : Bool). if h then odd_after queries (b + 1) else Some (BranchShape (b + 1))) other)
 
 -- all have it
-pub shapes_same : (queries : List Query) (b : ℕ) → length queries ≤ b → odd_after queries b ≡ odd_branch queries → Checked (Ok tt) queries
-shapes_same queries b end so_far = sym (ap (λ (o : Option Reason). unless {A = Unit {0}} o tt) (sym so_far ∙ by queries end))
+pub shapes_same : (queries : List Query) (b : ℕ) → length queries ≤ b → odd_after queries b ≡ odd_branch queries → None ≡ odd_branch queries
+shapes_same queries b end so_far = sym (sym so_far ∙ by queries end)
   where
     by : (queries : List Query) → length queries ≤ b → odd_after queries b ≡ None
     by [] end = refl

@@ -66,10 +66,6 @@ abbrev pub queries_result_view : Result (Vec BoundQuery Global) Refusal → Resu
 queries_result_view (Ok queries) = Ok (queries_in queries.items)
 queries_result_view (Err refusal) = Err (reason_of refusal)
 
-abbrev pub check_result_view : Result (Unit {0}) Refusal → Result (Unit {0}) Reason
-check_result_view (Ok done) = Ok done
-check_result_view (Err refusal) = Err (reason_of refusal)
-
 abbrev pub item_result_view : Result (Option ℕ) Refusal → Result (Option ℕ) Reason
 item_result_view (Ok item) = Ok item
 item_result_view (Err refusal) = Err (reason_of refusal)

@@ -6,6 +6,7 @@ ghost use Rattle.anyk_model.specs.Query.{Item};
 ghost use Rattle.query_bind.specs.Bind.{bind_fault};
 ghost use Rattle.query_bind.specs.Binding.{bound_query};
 ghost use Rattle.bound_query.specs.WeighedQuery.{Fits};
+ghost use Rattle.refusal_lines.specs.Reason.{BranchShape};
 ghost use Rattle.refusal_lines.specs.RefusalReasons.{reason_of};
 ghost use Rattle.session_script.specs.Script.{KeepsRules};
 ghost use Rattle.verdict.specs.AcceptedInput.{queries_in};
@@ -17,7 +18,7 @@ ghost use Rattle.verdict.specs.Stages.{Is};
 ghost use Rattle.verdict.specs.StageResults.{Pure};
 ghost use Rattle.verdict.specs.Verdict.{IsBound};
 ghost use Rattle.input_load.specs.Limits.{AreWithinLimits, IsWithinLimits};
-ghost use Rattle.input_load.specs.StageViews.{beside_view, check_result_view, input_result_view, item_result_view, queries_result_view, query_result_view};
+ghost use Rattle.input_load.specs.StageViews.{beside_view, input_result_view, item_result_view, queries_result_view, query_result_view};
 ghost use Rattle.input_load.specs.Sought.{sought_view};
 
 use crate::aside::Beside;
@@ -96,7 +97,9 @@ pub(crate) fn bound_input<'a>(
     ensures unnamed { sought.now.best_of ≡ None → IfOk result (λ input. input.best ≡ None) }
 {
     let queries = bind_queries(alloc, selects, &tables, which)?;
-    check_shapes(&queries)?;
+    if let Some(branch) = odd_branch(&queries) {
+        return Err(Refusal::BranchShape(branch));
+    }
     let best = list_item(&queries, sought.best_of)?;
     Ok(Input {
         queries,
@@ -169,18 +172,18 @@ fn bind_query<'a>(
     }
 }
 
-/// `BranchShape` for the first branch, from 2, that is not of the shape of branch 1.
-fn check_shapes<'a>(queries: &[Query]) -> Result<(), Refusal<'a>>
+/// The number of the first branch, from 2, that is not of the shape of branch 1.
+fn odd_branch(queries: &[Query]) -> Option<u32>
     requires some { 1 ≤ length queries.now }
     requires few { length queries.now ≤ 8 }
-    ensures { check_result_view result ≡ unless (odd_branch (queries_in queries.now)) tt }
+    ensures { option_map BranchShape result ≡ odd_branch (queries_in queries.now) }
 {
     for branch in 1..queries.len() {
         if !have_one_shape(&queries[0], &queries[branch]) {
-            return Err(Refusal::BranchShape(branch as u32 + 1));
+            return Some(branch as u32 + 1);
         }
     }
-    Ok(())
+    None
 }
 
 /// Whether the two have as many selected columns, and keys of the same directions.

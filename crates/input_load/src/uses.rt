@@ -68,7 +68,12 @@ fn entry_of<'a>(named: &'a [Named], table: &[u8]) -> Option<&'a Named>
     ensures { option_map (λ e. e.now) result
         ≡ find (λ e. bytes_eq (string_bytes e.table) table.now) named.now }
 {
-    named.iter().find(|entry| entry.table.as_bytes() == table)
+    for entry in named {
+        if entry.table.as_bytes() == table {
+            return Some(entry);
+        }
+    }
+    None
 }
 
 /// The first entry of each table, in order.
@@ -98,7 +103,12 @@ pub(crate) fn first_entries<'a>(
 fn has_table(entries: &[&Named], table: &str) -> bool
     ensures { result ≡ list_any (λ e. bytes_eq (string_bytes e.now.table) table.now) entries.now }
 {
-    entries.iter().any(|entry| entry.table.as_str() == table)
+    for entry in entries {
+        if entry.table.as_str() == table {
+            return true;
+        }
+    }
+    false
 }
 
 /// For each entry the number of its table, which is its place among `firsts`, from 0.

@@ -1,5 +1,6 @@
-use Rattle.std.proofs.Common.{◌≡◌, Err, rules, arith}
+use Rattle.std.proofs.Common.{◌≡◌, Err, None, sym, rules, arith}
 use Rattle.std.proofs.lemmas.Result.{IfOk-from_err}
+use Rattle.refusal_lines.specs.Reason.{BranchShape}
 use Rattle.refusal_lines.specs.RefusalReasons.{reason_of}
 use Rattle.verdict.specs.Loading.{bound_in, loaded_in}
 use Rattle.verdict.specs.Stages.{Is, followed}
@@ -8,7 +9,7 @@ use Rattle.verdict.specs.AcceptedInput.{queries_in}
 use Rattle.input_load.specs.StageViews.{beside_view}
 use Rattle.input_load.specs.Sought.{sought_view}
 use Rattle.input_load.proofs.Best.{item_found, item_refused, shape_refused}
-use Rattle.input_load.proofs.Shapes.{keys_none_odd, odd_none}
+use Rattle.input_load.proofs.Shapes.{keys_none_odd}
 use Rattle.input_load.proofs.binding.bound_input.Goals as goal
 
 pub returns-in_err-queries-clause-bound : goal.returns-in_err-queries-clause-bound
@@ -19,16 +20,15 @@ returns-in_err-queries-clause-bound c =
     let e : c.from_residual.result ≡ Err c.in_err-queries.field-0.0 = search rules in
     rw e (pure_refused (Is (bound_in c.args.selects.now tables)) (λ queries. Is (loaded_in sought.best_of queries tables beside)) _ c.in_err-queries.ensures.bound)
 
-pub returns-in_err-check_shapes-clause-bound : goal.returns-in_err-check_shapes-clause-bound
-returns-in_err-check_shapes-clause-bound c =
+pub returns-in-Some-clause-bound : goal.returns-in-Some-clause-bound
+returns-in-Some-clause-bound c =
     let sought = sought_view c.args.sought.now in
     let tables = c.args.tables in
     let beside = beside_view c.args.beside in
     let queries = queries_in c.in_ok-queries.queries.items in
-    let reason = reason_of c.in_err-check_shapes.field-0.0 in
-    let e : c.from_residual-in_err-check_shapes.result ≡ Err c.in_err-check_shapes.field-0.0 = search rules in
-    rw e (pure_found (Is (bound_in c.args.selects.now tables)) (λ queries. Is (loaded_in sought.best_of queries tables beside)) queries (Err reason) c.in_ok-queries.ensures.bound
-    (shape_refused queries tables beside sought.best_of reason (rw c.deref.ensures.value at c.in_err-check_shapes.ensures)))
+    let branch = c.in-Some.branch in
+    pure_found (Is (bound_in c.args.selects.now tables)) (λ queries. Is (loaded_in sought.best_of queries tables beside)) queries (Err (BranchShape branch)) c.in_ok-queries.ensures.bound
+    (shape_refused queries tables beside sought.best_of branch (rw c.deref.ensures.value at c.in-Some.ensures))
 
 pub returns-in_err-best-clause-bound : goal.returns-in_err-best-clause-bound
 returns-in_err-best-clause-bound c =
@@ -37,9 +37,10 @@ returns-in_err-best-clause-bound c =
     let beside = beside_view c.args.beside in
     let queries = queries_in c.in_ok-queries.queries.items in
     let reason = reason_of c.in_err-best.field-0.0 in
+    let none : c.odd_branch.result ≡ None = search rules in
     let e : c.from_residual-in_err-best.result ≡ Err c.in_err-best.field-0.0 = search rules in
     rw e (pure_found (Is (bound_in c.args.selects.now tables)) (λ queries. Is (loaded_in sought.best_of queries tables beside)) queries (Err reason) c.in_ok-queries.ensures.bound
-    (item_refused queries tables beside sought.best_of reason (rw c.deref.ensures.value at c.in_ok-check_shapes.ensures) (rw c.deref-2.ensures.value at c.in_err-best.ensures.best)))
+    (item_refused queries tables beside sought.best_of reason (rw (none, c.deref.ensures.value) at c.odd_branch.ensures) (rw c.deref-2.ensures.value at c.in_err-best.ensures.best)))
 
 pub invariant_of-result : goal.invariant_of-result
 invariant_of-result c =
@@ -47,11 +48,12 @@ invariant_of-result c =
     let as_many = c.in_ok-queries.ensures.count in
     let some = c.requires.limits.some in
     let few = c.requires.limits.few in
+    let none : c.odd_branch.result ≡ None = search rules in
     record {
       some = omega (arith, as_many, some);
       few = omega (arith, as_many, few);
       fits = c.in_ok-queries.ensures.fits;
-      keys = keys_none_odd queries (odd_none queries (rw c.deref.ensures.value at c.in_ok-check_shapes.ensures));
+      keys = keys_none_odd queries (sym (rw (none, c.deref.ensures.value) at c.odd_branch.ensures));
       item = rw c.deref-2.ensures.value at c.in_ok-best.ensures.item;
       rules = c.requires.rules;
     }
@@ -60,20 +62,15 @@ pub returns-clause-bound : goal.returns-clause-bound
 returns-clause-bound c =
     let sought = sought_view c.args.sought.now in
     let queries = queries_in c.in_ok-queries.queries.items in
+    let none : c.odd_branch.result ≡ None = search rules in
     followed {a = queries} c.in_ok-queries.ensures.bound
-    (item_found queries c.args.tables (beside_view c.args.beside) sought.best_of c.in_ok-best.best (rw c.deref.ensures.value at c.in_ok-check_shapes.ensures) (rw c.deref-2.ensures.value at c.in_ok-best.ensures.best))
+    (item_found queries c.args.tables (beside_view c.args.beside) sought.best_of c.in_ok-best.best (rw (none, c.deref.ensures.value) at c.odd_branch.ensures) (rw c.deref-2.ensures.value at c.in_ok-best.ensures.best))
 
 pub returns-in_err-queries-clause-branches : goal.returns-in_err-queries-clause-branches
 returns-in_err-queries-clause-branches c = IfOk-from_err c.from_residual.result _ c.from_residual.ensures.0
 
 pub returns-in_err-queries-clause-unnamed : goal.returns-in_err-queries-clause-unnamed
 returns-in_err-queries-clause-unnamed c = λ _. IfOk-from_err c.from_residual.result _ c.from_residual.ensures.0
-
-pub returns-in_err-check_shapes-clause-branches : goal.returns-in_err-check_shapes-clause-branches
-returns-in_err-check_shapes-clause-branches c = IfOk-from_err c.from_residual-in_err-check_shapes.result _ c.from_residual-in_err-check_shapes.ensures.0
-
-pub returns-in_err-check_shapes-clause-unnamed : goal.returns-in_err-check_shapes-clause-unnamed
-returns-in_err-check_shapes-clause-unnamed c = λ _. IfOk-from_err c.from_residual-in_err-check_shapes.result _ c.from_residual-in_err-check_shapes.ensures.0
 
 pub returns-in_err-best-clause-branches : goal.returns-in_err-best-clause-branches
 returns-in_err-best-clause-branches c = IfOk-from_err c.from_residual-in_err-best.result _ c.from_residual-in_err-best.ensures.0

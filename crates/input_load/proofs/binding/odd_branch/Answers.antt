@@ -3,7 +3,7 @@ use Rattle.std.proofs.lemmas.List.{length-map}
 use Rattle.verdict.specs.AcceptedInput.{queries_in}
 use Rattle.input_load.proofs.FirstUses.{mapped_at, mapped_inside}
 use Rattle.input_load.proofs.Shapes.{odd_begins, shape_kept, shape_odd, shapes_same}
-use Rattle.input_load.proofs.binding.check_shapes.Goals as goal
+use Rattle.input_load.proofs.binding.odd_branch.Goals as goal
 
 pub loop-branch-init : goal.loop-branch-init
 loop-branch-init c = odd_begins (queries_in c.args.queries.now)
