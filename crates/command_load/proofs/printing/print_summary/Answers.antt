@@ -1,14 +1,20 @@
-use Rattle.std.proofs.Common.{◌≡◌, Err, length, sym, take, rules}
+use Rattle.std.proofs.Common.{◌≡◌, Result, Ok, Err, ap, length, sym, take}
 use Rattle.tdp_core.specs.AnswerView.{AnswerView}
+use Rattle.std.specs.Prelude.{IsErrAnd}
+use Rattle.refusal_lines.specs.declared.refusal.Refusal.{Refusal}
 use Rattle.refusal_lines.specs.declared.refusal.Refusal.TheVariants as refusal
 use Rattle.refusal_lines.proofs.Prints.{unprinted}
 use Rattle.command_load.proofs.Members.{calls_map, ends_text_lem, first_rows, last_rows}
 use Rattle.command_load.proofs.printing.print_summary.Goals as goal
 
+-- memory was refused
+out_of_memory : (r : Result (Unit {0}) Refusal) → IsErrAnd r (λ e. e ≡ refusal.NoMemory) → r ≡ Err refusal.NoMemory
+out_of_memory (Ok done) h = absurd h
+out_of_memory (Err e) h = ap (λ (e : Refusal). Err e) h
+
 pub returns-in_err-ends-clause-printed : goal.returns-in_err-ends-clause-printed
 returns-in_err-ends-clause-printed g c =
-    let e : c.from_residual.result ≡ Err refusal.NoMemory = search rules in
-    rw e (unprinted _ _)
+    rw (out_of_memory c.from_residual.result c.from_residual.ensures.1) (unprinted _ _)
 
 pub summary-requires-clause-first : goal.summary-requires-clause-first
 summary-requires-clause-first g c =
@@ -28,6 +34,22 @@ returns-clause-printed g c =
 
 pub returns-clause-bounded : goal.returns-clause-bounded
 returns-clause-bounded g c =
+    let query = c.args.query.now.query in
+    let calls = calls_map (λ (a : AnswerView). take (length query.items) a.rows) query.limit (g.E.Ranked.rest c.args.engine.now) in
+    rw (c.limit.ensures, sym calls) at c.take_ends.ensures.bounded
+
+pub returns-in_err-ends-clause-bounded : goal.returns-in_err-ends-clause-bounded
+returns-in_err-ends-clause-bounded g c =
+    let query = c.args.query.now.query in
+    let calls = calls_map (λ (a : AnswerView). take (length query.items) a.rows) query.limit (g.E.Ranked.rest c.args.engine.now) in
+    rw (c.limit.ensures, sym calls) at c.take_ends.ensures.bounded
+
+pub returns-in_err-text-clause-printed : goal.returns-in_err-text-clause-printed
+returns-in_err-text-clause-printed g c =
+    rw (out_of_memory c.from_residual-in_err-text.result c.from_residual-in_err-text.ensures.1) (unprinted _ _)
+
+pub returns-in_err-text-clause-bounded : goal.returns-in_err-text-clause-bounded
+returns-in_err-text-clause-bounded g c =
     let query = c.args.query.now.query in
     let calls = calls_map (λ (a : AnswerView). take (length query.items) a.rows) query.limit (g.E.Ranked.rest c.args.engine.now) in
     rw (c.limit.ensures, sym calls) at c.take_ends.ensures.bounded
