@@ -1,6 +1,6 @@
 -- The structures of the queries, from their plans, and the steps of the preparation.
 use Rattle.std.proofs.Common.{◌≡◌, ◌≤◌, ◌<◌, ◌+◌, ◌^◌, ◌∙◌, ℕ, Bool, true, false, List, [], ◌∷◌, ◌++◌, length, take, drop}
-use Rattle.std.proofs.Common.{get_or, append_assoc, Option, None, Some, Ok, Err, refl, sym, ap, subst, arith}
+use Rattle.std.proofs.Common.{get_or, append_assoc, IfSome, Option, None, Some, Ok, Err, refl, sym, ap, subst, arith}
 use Rattle.std.specs.List.{All, AllByRecursion, sum_by}
 use Rattle.std.proofs.lemmas.Bool.{lt-ltb}
 use Rattle.std.proofs.lemmas.List.{length-map, length-take-le, map-append, take-append-drop, take_more}
@@ -39,7 +39,7 @@ use Rattle.verdict.specs.UnionBound.{HaveShapes}
 use Rattle.verdict.specs.Verdict.{AreStructures, IsFlawed, IsShaped, IsStructure}
 use Rattle.verdict.proofs.Staging.{pure_refused}
 use Rattle.verdict.proofs.Structure.{shapes_found, structures_refused}
-use Rattle.task_plan.specs.Plans.{IsOnePlanOf, found_by, plan_reason, shapes_of}
+use Rattle.task_plan.specs.Plans.{IsOnePlan, IsOnePlanOf, found_by, plan_reason, shapes_of}
 use Rattle.task_plan.specs.Plans.{shape_result_view}
 
 -- # One query
@@ -269,6 +269,29 @@ one_cost input query only before now h =
     subst (λ (qs : List BoundQuery). ArePrepared (queries_in qs) input.tables before now) only h in
     let sum = sum_by-cons (preparation_of input.tables) query.query [] in
     omega (arith, own, sum)
+
+pub one_prepared : (input : InputView) (query : BoundQuery) → input.queries ≡ query ∷ [] → (before now : ℕ)
+    → IsPrepared query.query input.tables before now → ArePrepared (queries_in input.queries) input.tables before now
+one_prepared input query only before now h =
+    let sum = sum_by-cons (preparation_of input.tables) query.query [] in
+    subst (λ (qs : List BoundQuery). ArePrepared (queries_in qs) input.tables before now) (sym only) (omega (arith, h, sum))
+
+-- the one query has the item that each query has
+pub one_item : (best : Option ℕ) (queries : List BoundQuery) (query : BoundQuery) → queries ≡ query ∷ []
+    → IfSome best (λ item. AllByRecursion (λ (q : BoundQuery). item < length q.query.items) queries)
+    → IfSome best (λ item. item < length query.query.items)
+one_item None queries query only h = tt
+one_item (Some item) queries query only h =
+    (subst (AllByRecursion (λ (q : BoundQuery). item < length q.query.items)) only h).0
+
+-- the plan of the one query
+pub one_plan : (queries : List BoundQuery) (tables : List Table) (best : Option ℕ) (query : BoundQuery) → queries ≡ query ∷ []
+    → (made : RankedPlan) → IsRankedPlan query tables best made → IsOnePlan queries tables best made
+one_plan queries tables best query only (Packed made) h = record { query = query; only = only; is_plan = h }
+one_plan queries tables best query only (MiddleSum made) h = record { query = query; only = only; is_plan = h }
+one_plan queries tables best query only (Sum made) h = record { query = query; only = only; is_plan = h }
+one_plan queries tables best query only (SmallLex made) h = record { query = query; only = only; is_plan = h }
+one_plan queries tables best query only (Lex made) h = record { query = query; only = only; is_plan = h }
 
 -- the first query of an input that has one plan
 module _ {R : Type 0} (d : ℕ) (key : R → KeyOf d 16) (input : InputView) (made : PlanView R) (query : BoundQuery)

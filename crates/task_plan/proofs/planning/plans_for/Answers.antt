@@ -1,13 +1,14 @@
 use Rattle.std.proofs.Common.{◌≡◌, ◌<◌, ◌+◌, ◌≤◌, true, Err, Some, length, subst, sym, arith}
 use Rattle.std.proofs.lemmas.Result.{IfOk-from_err}
 use Rattle.bound_query.specs.WeighedQuery.{Fits}
+use Rattle.node_build.specs.Nodes.{CapsBelow}
 use Rattle.refusal_lines.specs.Reason.{Reason}
 use Rattle.verdict.specs.StageResults.{Pure}
 use Rattle.verdict.specs.Verdict.{AreStructures}
 use Rattle.verdict.proofs.Structure.{structures_found}
 use Rattle.verdict.specs.AcceptedInput.{queries_in}
 use Rattle.task_plan.specs.Plans.{plan_reason, shapes_of}
-use Rattle.task_plan.proofs.PlanList.{all_planned, next_flawed, planned_more, plans_shaped, some_prepared}
+use Rattle.task_plan.proofs.PlanList.{all_planned, all_prepared, next_flawed, planned_more, plans_shaped, some_prepared}
 use Rattle.task_plan.proofs.planning.plans_for.Goals as goal
 
 pub returns-in_err-push-in-Ok-clause-cost : goal.returns-in_err-push-in-Ok-clause-cost
@@ -82,4 +83,15 @@ pub returns-clause-plans : goal.returns-clause-plans
 returns-clause-plans g c =
     let at = c.loop-query in
     all_planned g.R.Rank.KEYS g.R.Rank.key c.args.tables.now c.args.queries.now at.query-index at.plans.items c.args.steps.now
+    at.steps at.invariant (omega arith)
+
+pub prepare-requires-clause-limit : goal.prepare-requires-clause-limit
+prepare-requires-clause-limit g c =
+    let inside : c.loop-query.query-index < length c.args.queries.now = omega arith in
+    subst (λ q. CapsBelow g.R.Rank.LIMIT q c.args.tables.now) (sym c.query-item.is) (c.requires.limit c.loop-query.query-index c.query-item.result inside)
+
+pub returns-clause-cost : goal.returns-clause-cost
+returns-clause-cost g c =
+    let at = c.loop-query in
+    all_prepared g.R.Rank.KEYS g.R.Rank.key c.args.tables.now c.args.queries.now at.query-index at.plans.items c.args.steps.now
     at.steps at.invariant (omega arith)

@@ -2,15 +2,15 @@ use Rattle.std.proofs.Common.{◌≡◌, ◌<◌, ◌∷◌, [], ◌∙◌, Err,
 use Rattle.std.proofs.lemmas.Result.{IfOk-from_err}
 use Rattle.plan_model.specs.Plans.{ArePrepared, HavePlans}
 use Rattle.plan_build.specs.RankedPlan.{fixed_key}
-use Rattle.bound_query.specs.WeighedQuery.{BoundQuery}
+use Rattle.bound_query.specs.WeighedQuery.{BoundQuery, Fits}
 use Rattle.refusal_lines.specs.RefusalReasons.{reason_of}
 use Rattle.input_load.specs.Input.{InputView, loaded_of}
 use Rattle.verdict.specs.AcceptedInput.{found_of, queries_in}
 use Rattle.verdict.specs.StageResults.{Pure}
 use Rattle.verdict.specs.Verdict.{IsShaped}
-use Rattle.task_plan.specs.Plans.{shape_in, shapes_of}
+use Rattle.task_plan.specs.Plans.{IsOnePlan, shape_in, shapes_of}
 use Rattle.task_plan.proofs.Inputs.{input_view}
-use Rattle.task_plan.proofs.PlanList.{caps_each, keys_within, one_found, one_refused, only_one, several_found, several_refused}
+use Rattle.task_plan.proofs.PlanList.{caps_each, keys_within, one_found, one_item, one_plan, one_prepared, one_refused, only_one, several_found, several_refused}
 use Rattle.task_plan.proofs.planning.plans_of.Goals as goal
 
 pub returns-in_err-plan-clause-shaped : goal.returns-in_err-plan-clause-shaped
@@ -162,3 +162,42 @@ plans_for-requires-clause-fits g c = rw c.as_slice-queries.ensures.value c.input
 
 pub plans_for-requires-else-keys-le1-clause-fits : goal.plans_for-requires-else-keys-le1-clause-fits
 plans_for-requires-else-keys-le1-clause-fits g c = rw c.as_slice-queries.ensures.value c.input.invariant.fits
+
+pub plan_of-requires-clause-fits : goal.plan_of-requires-clause-fits
+plan_of-requires-clause-fits g c =
+    let query = c.index-queries-0.result in
+    let some = c.input.invariant.some in
+    subst (λ q. Fits q c.input.inside.tables) (sym (rw c.as_slice-queries.ensures.value at c.index-queries-0.is))
+    (c.input.invariant.fits 0 query (omega (arith, some)))
+
+pub plan_of-requires-clause-item : goal.plan_of-requires-clause-item
+plan_of-requires-clause-item g c =
+    let query = c.index-queries-0.result in
+    let only = sym c.as_slice-queries.ensures.value ∙ only_one c.as_slice-queries.result.now query
+    c.if-queries-eq1.true c.index-queries-0.is in
+    one_item c.input.inside.best c.input.inside.queries.items query only c.input.invariant.item
+
+pub returns-in_err-plan-clause-cost : goal.returns-in_err-plan-clause-cost
+returns-in_err-plan-clause-cost g c =
+    let query = c.index-queries-0.result in
+    let only = sym c.as_slice-queries.ensures.value ∙ only_one c.as_slice-queries.result.now query
+    c.if-queries-eq1.true c.index-queries-0.is in
+    subst (λ (i : InputView). ArePrepared (queries_in i.queries) i.tables c.args.steps.now c.plan_of.new.steps) c.input.view_is
+    (one_prepared (input_view c.input.inside) query only c.args.steps.now c.plan_of.new.steps c.plan_of.ensures.cost)
+
+pub returns-then-queries-eq1-clause-cost : goal.returns-then-queries-eq1-clause-cost
+returns-then-queries-eq1-clause-cost g c =
+    let query = c.index-queries-0.result in
+    let only = sym c.as_slice-queries.ensures.value ∙ only_one c.as_slice-queries.result.now query
+    c.if-queries-eq1.true c.index-queries-0.is in
+    subst (λ (i : InputView). ArePrepared (queries_in i.queries) i.tables c.args.steps.now c.plan_of.new.steps) c.input.view_is
+    (one_prepared (input_view c.input.inside) query only c.args.steps.now c.plan_of.new.steps c.plan_of.ensures.cost)
+
+pub returns-then-queries-eq1-clause-plans : goal.returns-then-queries-eq1-clause-plans
+returns-then-queries-eq1-clause-plans g c =
+    let query = c.index-queries-0.result in
+    let only = sym c.as_slice-queries.ensures.value ∙ only_one c.as_slice-queries.result.now query
+    c.if-queries-eq1.true c.index-queries-0.is in
+    let plan = c.in_ok-plan.plan in
+    subst (λ (i : InputView). IsOnePlan i.queries i.tables i.best plan) c.input.view_is
+    (one_plan c.input.inside.queries.items c.input.inside.tables c.input.inside.best query only plan c.in_ok-plan.ensures.plan)
