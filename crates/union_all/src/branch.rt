@@ -1,7 +1,6 @@
 //! One branch of a union, with the first of its answers at hand.
-ghost use Rattle.std.specs.Prelude.{◌≡◌, ◌+◌, ◌≤◌, ℕ, [], ◌∷◌, List, length, option_map, take, IfOk, IfSome, IfNone, MatchOption, OnErr};
-ghost use Rattle.witness_key.specs.WitnessKey.{combinations_in};
-ghost use Rattle.union_all.specs.Merge.{BranchView, HasCalled};
+ghost use Rattle.std.specs.Prelude.{◌≡◌, ◌+◌, ◌≤◌, ℕ, [], ◌∷◌, List, length, option_map, take, IfOk, IfSome, IfNone, MatchOption, OnErr, OnOk};
+ghost use Rattle.union_all.specs.Merge.{HasCalled, HasGrown};
 
 use bound_query::Query;
 use rank_key::Rank;
@@ -37,30 +36,6 @@ impl<'q, E: Ranked> Model for Branch<'q, E> {
 }
 
 impl<'q, E: Ranked + Drop> Branch<'q, E> {
-    /// The branch of the answers that an engine has left. The engine is called once, for the first
-    /// of them. `NoMemory` if memory is refused.
-    pub(crate) fn new<L: Ledger>(
-        query: &'q Query,
-        engine: E,
-        steps: &mut Steps<L>,
-    ) -> Result<Branch<'q, E>, NoMemory>
-        ensures bound { IfOk result (λ b. b.bound ≡ query.now) }
-        ensures left { IfOk result (λ b. b.left ≡ combinations_in query.now.query (E.rest engine)) }
-        ensures called { IfOk result (λ b. HasCalled
-            (record { calls = E.calls engine; due = E.due engine; size = E.size engine })
-            b.engine) }
-        ensures cost { steps.new ≤ steps.old + E.due engine }
-    {
-        let mut engine = engine;
-        let first = engine.next(steps)?;
-        let head = rows_of(first);
-        Ok(Branch {
-            query,
-            engine,
-            head,
-        })
-    }
-
     /// The query.
     pub(crate) fn query(&self) -> &'q Query
         ensures { result.now ≡ self.now.bound }
@@ -102,6 +77,31 @@ impl<'q, E: Ranked + Drop> Branch<'q, E> {
         self.head = rows_of(next);
         Ok(Some(rows))
     }
+}
+
+/// Appends the branch of the answers that an engine has left. The engine is called once, for the
+/// first of them. `NoMemory` if memory is refused.
+pub(crate) fn push_begun<'q, E: Ranked + Drop, L: Ledger>(
+    branches: &mut Vec<Branch<'q, E>>,
+    query: &'q Query,
+    engine: E,
+    steps: &mut Steps<L>,
+) -> Result<(), NoMemory>
+    ensures grown { OnOk result (HasGrown E.rest
+        (λ e. record { calls = E.calls e; due = E.due e; size = E.size e })
+        query.now engine branches.old.items branches.new.items) }
+    ensures cost { steps.new ≤ steps.old + E.due engine }
+{
+    let mut engine = engine;
+    let first = engine.next(steps)?;
+    let head = rows_of(first);
+    let branch = Branch {
+        query,
+        engine,
+        head,
+    };
+    branches.push(branch)?;
+    Ok(())
 }
 
 /// The rows of an answer, if there is one.

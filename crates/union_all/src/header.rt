@@ -1,7 +1,7 @@
 //! The record above the members of a union.
 ghost use Rattle.std.specs.Prelude.{◌≡◌, ◌≤◌, ◌++◌, ◌∷◌, [], codes, if◌then◌else◌, length, map, string_bytes, IfOk, OnOk};
 ghost use Rattle.std.specs.List.{All};
-ghost use Rattle.anyk_model.specs.Output.{column_name, cursor_title, numbered};
+ghost use Rattle.anyk_model.specs.Output.{column_name, cursor_title, numbered, record_text};
 ghost use Rattle.bound_query.specs.WeighedQuery.{Fits};
 ghost use Rattle.answer_print.specs.StyleView.{style_view};
 ghost use Rattle.union_list.specs.UnionOutput as output;
@@ -35,8 +35,7 @@ pub fn header_of(
     let mut titles = Vec::new(alloc);
     push_number_titles(alloc, &mut titles, first, most, style)?;
     let mut fields = Fields::new(alloc);
-    push_titles(&mut fields, first, tables, style, titles.as_slice())?;
-    csv_tables::line(alloc, fields.as_slice())
+    titles_text(alloc, &mut fields, first, tables, style, titles.as_slice())
 }
 
 /// The number of items of the longest branch.
@@ -74,22 +73,24 @@ fn push_number_titles(
     Ok(())
 }
 
-/// Appends the titles of the record: the cursors' one if a cursor is named, the names of the
-/// query's columns, and the titles above the numbers.
-fn push_titles<'a>(
+/// The record of these fields with the titles appended: the cursors' one if a cursor is named, the
+/// names of the query's columns, and the titles above the numbers.
+fn titles_text<'a>(
+    alloc: Global,
     fields: &mut Fields<'a>,
     query: &Query,
     tables: &'a Tables,
     style: &Style<'_>,
     titles: &'a [String],
-) -> Result<(), NoMemory>
+) -> Result<Vec<u8>, NoMemory>
     requires { Fits query.now tables.now }
-    ensures { OnOk result (map (λ f. f.now) fields.new.items ≡ map (λ f. f.now) fields.old.items
+    ensures { IfOk result (λ text. text.items ≡ record_text (map (λ f. f.now) fields.old.items
         ++ (cursor_title (style_view style.now)
         ++ (map (column_name query.now.query tables.now) query.now.query.list
-        ++ map string_bytes titles.now))) }
+        ++ map string_bytes titles.now)))) }
 {
     push_optional(fields, title_of_cursor(style))?;
     push_names(fields, query, tables)?;
-    push_texts(fields, titles)
+    push_texts(fields, titles)?;
+    csv_tables::line(alloc, fields.as_slice())
 }

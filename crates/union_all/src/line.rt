@@ -2,7 +2,7 @@
 ghost use Rattle.std.specs.Prelude.{◌≡◌, ◌+◌, ◌-◌, ◌<◌, ◌++◌, ◌∷◌, [], if◌then◌else◌, length, map, option_map, replicate, OnOk};
 ghost use Rattle.std.specs.Fmt.{decimal, signed_decimal};
 ghost use Rattle.std.specs.List.{All};
-ghost use Rattle.anyk_model.specs.Output.{optional_field};
+ghost use Rattle.anyk_model.specs.Output.{optional_field, record_text};
 ghost use Rattle.anyk_model.specs.Query.{IsCombination, row_counts, sum_of, value_of};
 ghost use Rattle.bound_query.specs.WeighedQuery.{Fits};
 ghost use Rattle.answer_print.specs.StyleView.{style_view};
@@ -19,6 +19,7 @@ use answer_print::{
     push_sums, push_values,
 };
 use bound_query::Query;
+use csv_tables::RecordWriter;
 use std::alloc::Global;
 use step_counter::NoMemory;
 use table_store::Tables;
@@ -48,18 +49,17 @@ pub fn write_line_of(
     let query = &queries[tagged.branch as usize];
     fill_numbers(&mut writer.numbers, tagged, query, tables, style)?;
     let lacking = lacking_items(queries, query, style);
-    let numbers = writer.numbers.as_slice();
     let mut fields = Fields::new(alloc);
-    push_fields(
+    write_fields(
+        &mut writer.records,
         &mut fields,
         query,
         tables,
         &tagged.rows,
         style.cursor,
-        numbers,
+        writer.numbers.as_slice(),
         lacking,
-    )?;
-    writer.records.write(fields.as_slice())
+    )
 }
 
 /// The number of items that the branch of a query has less than the longest branch, if row numbers
@@ -76,9 +76,10 @@ fn lacking_items(queries: &[Query], query: &Query, style: &Style<'_>) -> u32
     }
 }
 
-/// Appends the fields of the record: the cursor's name if there is one, the selected columns of the
-/// rows, these numbers, and as many empty fields as are lacking.
-fn push_fields<'a>(
+/// Appends the fields of the record, and writes it: the cursor's name if there is one, the selected
+/// columns of the rows, these numbers, and as many empty fields as are lacking.
+fn write_fields<'a>(
+    records: &mut RecordWriter,
     fields: &mut Fields<'a>,
     query: &Query,
     tables: &'a Tables,
@@ -89,16 +90,17 @@ fn push_fields<'a>(
 ) -> Result<(), NoMemory>
     requires fits { Fits query.now tables.now }
     requires rows { HasRows query.now tables.now rows.now }
-    ensures { OnOk result (map (λ f. f.now) fields.new.items ≡ map (λ f. f.now) fields.old.items
+    ensures { OnOk result (records.new ≡ record_text (map (λ f. f.now) fields.old.items
         ++ (optional_field (option_map (λ name. name.now) cursor.entry)
         ++ (map (value_of query.now.query tables.now
         (rows_of query.now rows.now)) query.now.query.list
-        ++ (numbers.now ++ replicate lacking [])))) }
+        ++ (numbers.now ++ replicate lacking []))))) }
 {
     push_optional(fields, cursor)?;
     push_values(fields, query, tables, rows)?;
     push_numbers(fields, numbers)?;
-    push_empty(fields, lacking)
+    push_empty(fields, lacking)?;
+    records.write(fields.as_slice())
 }
 
 /// Puts the numbers that the style shows, in decimal, in place of these.

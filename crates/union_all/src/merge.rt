@@ -5,9 +5,9 @@ ghost use Rattle.bound_query.specs.WeighedQuery.{Fits};
 ghost use Rattle.union_list.specs.TaggedRows as union;
 ghost use Rattle.union_list.specs.Union.{left_of};
 ghost use Rattle.union_all.specs.Firsts.{tagged_view};
-ghost use Rattle.union_all.specs.Merge.{AreBegun, AreLeft, HasGrown, HaveBegun, IsCalled, rests_of};
+ghost use Rattle.union_all.specs.Merge.{AreBegun, AreLeft, HaveBegun, IsCalled, rests_of};
 
-use crate::branch::Branch;
+use crate::branch::{Branch, push_begun};
 use crate::firsts::first_branch;
 use crate::tagged::Tagged;
 use bound_query::Query;
@@ -65,7 +65,7 @@ impl<'q, E: Ranked + Drop> Merge<'q, E> {
             m.engines) }
         ensures cost { steps.new ≤ steps.old + sum_by (λ e. E.due e) engines.items }
     {
-        let mut branches = Vec::with_capacity(alloc, engines.len())?;
+        let mut branches = Vec::new(alloc);
         begin(&mut branches, queries, engines, steps)?;
         Ok(Merge { tables, branches })
     }
@@ -116,22 +116,5 @@ fn begin<'q, E: Ranked + Drop, L: Ledger>(
         let query = &queries[branches.len()];
         push_begun(branches, query, engine, steps)?;
     }
-    Ok(())
-}
-
-/// Appends the branch of a query over this engine.
-fn push_begun<'q, E: Ranked + Drop, L: Ledger>(
-    branches: &mut Vec<Branch<'q, E>>,
-    query: &'q Query,
-    engine: E,
-    steps: &mut Steps<L>,
-) -> Result<(), NoMemory>
-    ensures grown { OnOk result (HasGrown E.rest
-        (λ e. record { calls = E.calls e; due = E.due e; size = E.size e })
-        query.now engine branches.old.items branches.new.items) }
-    ensures cost { steps.new ≤ steps.old + E.due engine }
-{
-    let branch = Branch::new(query, engine, steps)?;
-    branches.push(branch)?;
     Ok(())
 }

@@ -10,6 +10,13 @@ loop-engine-init g c =
     let whole : into_iter_items c.into_iter-engine-iterator.result ≡ c.args.engines.items = search rules in
     (tt, tt, whole, rw c.requires.none (none_begun _ _ _ c.args.queries.now c.args.steps.now))
 
+pub offset_bounds-queries-len : goal.offset_bounds-queries-len
+offset_bounds-queries-len g c =
+    let at = c.loop-engine in
+    let next = has_next _ _ _ c.args.queries.now c.args.engines.items at.yielded (into_iter_items at.engine-iterator) (into_iter_items c.next.new.self) c.in-Some.engine at.branches.items _ _
+    c.requires.each at.invariant.2 c.in-Some.ensures.steps.0 at.invariant.3 in
+    omega (arith, next.inside, next.count, c.len.ensures)
+
 pub bounds-queries-len : goal.bounds-queries-len
 bounds-queries-len g c =
     let at = c.loop-engine in
