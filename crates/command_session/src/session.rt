@@ -68,12 +68,24 @@ pub fn print_session<'a, E: Ranked + Drop, S: Sink, L: Ledger>(
     };
     print_header(alloc, query, tables, &titled, out)?;
     let mut set = Cursors::new(alloc, engine);
-    print_steps(alloc, query, tables, style, &mut set, script, out, steps)
+    let mut records = AnswerWriter::new(alloc);
+    print_steps(
+        alloc,
+        &mut records,
+        query,
+        tables,
+        style,
+        &mut set,
+        script,
+        out,
+        steps,
+    )
 }
 
 /// Prints what the steps print, over a set without an open cursor.
 fn print_steps<'a, E: Ranked, S: Sink, L: Ledger>(
     alloc: Global,
+    records: &mut AnswerWriter,
     query: &Query,
     tables: &Tables,
     style: &Style<'_>,
@@ -103,11 +115,10 @@ fn print_steps<'a, E: Ranked, S: Sink, L: Ledger>(
         steps.new }
 {
     let mut cursors = [None; MAX_OPEN];
-    let mut records = AnswerWriter::new(alloc);
     for step in script {
         take_step(
             alloc,
-            &mut records,
+            records,
             query,
             tables,
             style,
@@ -230,7 +241,7 @@ fn take_next<'a, E: Ranked, S: Sink, L: Ledger>(
         return Ok(());
     };
     let id = CursorId { number };
-    print_next(
+    let printed = print_next(
         alloc,
         records,
         query,
@@ -242,7 +253,7 @@ fn take_next<'a, E: Ranked, S: Sink, L: Ledger>(
         count,
         out,
         steps,
-    )?;
+    );
     cursors[number] = Some(cursor);
-    Ok(())
+    printed
 }

@@ -207,3 +207,15 @@ returns-clause-paid g c =
     let loop = (goal.at.returns-clause-paid g c).At-loop-given in
     paid_spent g.E.Ranked.share g.met.E.Ranked.share_rises c.args.set.now c.loop-given.set _ _ c.args.steps.now c.loop-given.steps (Ok tt)
     (given_done (given g loop) (omega arith))
+
+pub print_answer-requires-clause-fits : goal.print_answer-requires-clause-fits
+print_answer-requires-clause-fits g c = c.requires.fits
+
+pub returns-clause-name : goal.returns-clause-name
+returns-clause-name g c = c.loop-given.invariant.name
+
+pub returns-clause-places : goal.returns-clause-places
+returns-clause-places g c = c.loop-given.invariant.places
+
+pub returns-clause-kept : goal.returns-clause-kept
+returns-clause-kept g c = c.loop-given.invariant.answers

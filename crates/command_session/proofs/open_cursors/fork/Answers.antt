@@ -28,3 +28,6 @@ returns-clause-held g c = λ places held opened closed.
     subst P (sym at)
     (held_new c.args.set.now c.fork.new.self c.args.cursors.now places c.in-Ok.id.number held c.in-Ok.ensures.forked.1 now closed
     (ap (λ (s : CursorSet). s.places) c.in-Ok.ensures.forked.2 ∙ ap (λ (p : Option ℕ). slice_set c.args.set.now.places c.in-Ok.id.number p) here))
+
+pub returns-in_default-fork-clause-held : goal.returns-in_default-fork-clause-held
+returns-in_default-fork-clause-held g c = λ places held opened closed. tt

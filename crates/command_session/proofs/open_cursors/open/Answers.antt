@@ -7,3 +7,6 @@ pub returns-clause-held : goal.returns-clause-held
 returns-clause-held g c = λ places held closed.
     held_new c.args.set.now c.open.new.self c.args.cursors.now places c.in-Ok.id.number held c.in-Ok.ensures.opened.0 (record { name = c.args.name; place = 0 }) closed
     (ap (λ (s : CursorSet). s.places) c.in-Ok.ensures.opened.1)
+
+pub returns-in_default-clause-held : goal.returns-in_default-clause-held
+returns-in_default-clause-held g c = λ places held closed. tt

@@ -110,3 +110,9 @@ returns-clause-printed g c =
     let run = c.loop-step.invariant.run in
     taken_all line (cut query.limit (combinations_in query c.args.set.now.answers)) c.args.script.now c.loop-step.step-index run.places c.loop-step.set c.loop-step.cursors _ _ (omega arith)
     run.taken
+
+pub take_step-requires-clause-fits : goal.take_step-requires-clause-fits
+take_step-requires-clause-fits g c = c.requires.fits
+
+pub take_step-requires-clause-same : goal.take_step-requires-clause-same
+take_step-requires-clause-same g c = c.loop-step.invariant.run.taken.held.same
