@@ -46,12 +46,23 @@ pub fn print_ranking<'a, E: Ranked, S: Sink, L: Ledger>(
         (drop (length (header_text query.now.query tables.now (style_view style.now))) part) + 1) }
 {
     print_header(alloc, query, tables, style, out)?;
-    print_answers(alloc, query, tables, style, engine, out, steps)
+    let mut records = AnswerWriter::new(alloc);
+    print_answers(
+        alloc,
+        &mut records,
+        query,
+        tables,
+        style,
+        engine,
+        out,
+        steps,
+    )
 }
 
-/// Prints the answers, up to the limit or the engine's end.
+/// Prints the answers, up to the limit or the engine's end. `records` keeps the memory for them.
 fn print_answers<'a, E: Ranked, S: Sink, L: Ledger>(
     alloc: Global,
+    records: &mut AnswerWriter,
     query: &Query,
     tables: &Tables,
     style: &Style<'_>,
@@ -71,12 +82,11 @@ fn print_answers<'a, E: Ranked, S: Sink, L: Ledger>(
         (S.written out.old) (S.written out.new) steps.old steps.new }
 {
     let most = query.limit().unwrap_or(u64::MAX);
-    let mut records = AnswerWriter::new(alloc);
     for _given in 0..most {
         let Some(answer) = engine.next(steps)? else {
             return Ok(());
         };
-        print_answer(alloc, &mut records, query, tables, style, &answer.rows, out)?;
+        print_answer(alloc, records, query, tables, style, &answer.rows, out)?;
     }
     if query.limit().is_none() {
         return Err(Refusal::NoMemory);
