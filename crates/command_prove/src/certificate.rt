@@ -40,5 +40,7 @@ pub fn print_certificate<'a, R: Rank, S: Sink, L: Ledger>(
 {
     let arena = Bump::new(alloc);
     let mut chosen = engine_over(alloc, engine, plan, None, &arena, steps)?;
-    print_proof(alloc, query, plan.tree(), &mut chosen, out, steps)
+    let printed = print_proof(alloc, query, plan.tree(), &mut chosen, out, steps);
+    drop(chosen);
+    printed
 }

@@ -46,5 +46,7 @@ pub fn print_load<'a, R: Rank, S: Sink, L: Ledger>(
 {
     let arena = Bump::new(alloc);
     let mut chosen = engine_over(alloc, engine, plan, best, &arena, steps)?;
-    print_summary(alloc, query, tables, &mut chosen, out, steps)
+    let printed = print_summary(alloc, query, tables, &mut chosen, out, steps);
+    drop(chosen);
+    printed
 }

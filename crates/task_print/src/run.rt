@@ -52,5 +52,7 @@ pub fn print_run<'a, R: Rank, S: Sink, L: Ledger>(
 {
     let arena = Bump::new(alloc);
     let mut chosen = engine_over(alloc, engine, plan, best, &arena, steps)?;
-    print_ranking(alloc, query, tables, style, &mut chosen, out, steps)
+    let printed = print_ranking(alloc, query, tables, style, &mut chosen, out, steps);
+    drop(chosen);
+    printed
 }

@@ -16,8 +16,8 @@ returns-in_err-chosen g c = record {
       rw e (none_printed (IsProofText c.args.query.now.query tables) _);
 }
 
-pub print_proof-requires : goal.print_proof-requires
-print_proof-requires g c =
+pub print_proof-printed-requires : goal.print_proof-printed-requires
+print_proof-printed-requires g c =
     let plan = c.requires.plan in
     let ranking = c.in_ok-chosen.ensures.ranking refl in
     record {
@@ -31,4 +31,4 @@ print_proof-requires g c =
 
 pub returns : goal.returns
 returns g c =
-    record { printed = λ tables fits is. c.print_proof.ensures.printed tables c.args.plan.now fits is (sym c.tree.ensures) }
+    record { printed = λ tables fits is. c.print_proof-printed.ensures.printed tables c.args.plan.now fits is (sym c.tree.ensures) }

@@ -21,13 +21,13 @@ returns-in_err-chosen-clause-bounded g c before prepared shape has =
     started g.R.Rank.KEYS g.R.Rank.key c.args.query.now.query c.args.tables.now c.requires.fits.some shape c.args.plan.now plan.nodes
     (rows_counted g.R.Rank.KEYS g.R.Rank.key c.args.query.now c.args.tables.now c.args.plan.now plan shape has) before c.args.steps.now _ _ prepared c.in_err-chosen.ensures.cost
 
-pub print_summary-requires-clause-rows : goal.print_summary-requires-clause-rows
-print_summary-requires-clause-rows g c = (c.in_ok-chosen.ensures.asked c.args.query.now c.args.tables.now c.requires.plan).rows
+pub print_summary-printed-requires-clause-rows : goal.print_summary-printed-requires-clause-rows
+print_summary-printed-requires-clause-rows g c = (c.in_ok-chosen.ensures.asked c.args.query.now c.args.tables.now c.requires.plan).rows
 
 pub returns-clause-printed : goal.returns-clause-printed
 returns-clause-printed g c =
     let left = (c.in_ok-chosen.ensures.asked c.args.query.now c.args.tables.now c.requires.plan).list in
-    rw left at c.print_summary.ensures.printed
+    rw left at c.print_summary-printed.ensures.printed
 
 pub returns-clause-bounded : goal.returns-clause-bounded
 returns-clause-bounded g c before prepared shape has =
@@ -36,4 +36,4 @@ returns-clause-bounded g c before prepared shape has =
     called_by g.R.Rank.KEYS g.R.Rank.key c.args.query.now.query c.args.tables.now c.requires.fits.some shape c.args.plan.now plan.nodes
     (rows_counted g.R.Rank.KEYS g.R.Rank.key c.args.query.now c.args.tables.now c.args.plan.now plan shape has)
     (tree_of c.in_ok-chosen.chosen) (calls_of c.in_ok-chosen.chosen) c.in_ok-chosen.ensures.tree c.in_ok-chosen.ensures.calls
-    before c.args.steps.now _ _ _ prepared c.in_ok-chosen.ensures.cost (rw left at c.print_summary.ensures.bounded)
+    before c.args.steps.now _ _ _ prepared c.in_ok-chosen.ensures.cost (rw left at c.print_summary-printed.ensures.bounded)

@@ -27,13 +27,13 @@ returns-in_err-chosen-clause-paced g c before prepared shape has start part is_o
     started g.R.Rank.KEYS g.R.Rank.key c.args.query.now.query c.args.tables.now c.requires.fits.some shape c.args.plan.now plan.nodes
     (rows_counted g.R.Rank.KEYS g.R.Rank.key c.args.query.now c.args.tables.now c.args.plan.now plan shape has) before c.args.steps.now _ _ prepared c.in_err-chosen.ensures.cost
 
-pub print_ranking-requires-clause-rows : goal.print_ranking-requires-clause-rows
-print_ranking-requires-clause-rows g c = (c.in_ok-chosen.ensures.asked c.args.query.now c.args.tables.now c.requires.plan).rows
+pub print_ranking-printed-requires-clause-rows : goal.print_ranking-printed-requires-clause-rows
+print_ranking-printed-requires-clause-rows g c = (c.in_ok-chosen.ensures.asked c.args.query.now c.args.tables.now c.requires.plan).rows
 
 pub returns-clause-printed : goal.returns-clause-printed
 returns-clause-printed g c =
     let left = (c.in_ok-chosen.ensures.asked c.args.query.now c.args.tables.now c.requires.plan).list in
-    rw left at c.print_ranking.ensures.printed
+    rw left at c.print_ranking-printed.ensures.printed
 
 pub returns-clause-bounded : goal.returns-clause-bounded
 returns-clause-bounded g c before prepared shape has =
@@ -42,7 +42,7 @@ returns-clause-bounded g c before prepared shape has =
     called_by g.R.Rank.KEYS g.R.Rank.key c.args.query.now.query c.args.tables.now c.requires.fits.some shape c.args.plan.now plan.nodes
     (rows_counted g.R.Rank.KEYS g.R.Rank.key c.args.query.now c.args.tables.now c.args.plan.now plan shape has)
     (tree_of c.in_ok-chosen.chosen) (calls_of c.in_ok-chosen.chosen) c.in_ok-chosen.ensures.tree c.in_ok-chosen.ensures.calls
-    before c.args.steps.now _ _ _ prepared c.in_ok-chosen.ensures.cost (rw left at c.print_ranking.ensures.bounded)
+    before c.args.steps.now _ _ _ prepared c.in_ok-chosen.ensures.cost (rw left at c.print_ranking-printed.ensures.bounded)
 
 pub returns-clause-paced : goal.returns-clause-paced
 returns-clause-paced g c before prepared shape has start part is_old is_new =
@@ -51,4 +51,4 @@ returns-clause-paced g c before prepared shape has start part is_old is_new =
     called_by g.R.Rank.KEYS g.R.Rank.key c.args.query.now.query c.args.tables.now c.requires.fits.some shape c.args.plan.now plan.nodes
     (rows_counted g.R.Rank.KEYS g.R.Rank.key c.args.query.now c.args.tables.now c.args.plan.now plan shape has)
     (tree_of c.in_ok-chosen.chosen) (calls_of c.in_ok-chosen.chosen) c.in_ok-chosen.ensures.tree c.in_ok-chosen.ensures.calls
-    before c.args.steps.now _ _ _ prepared c.in_ok-chosen.ensures.cost (rw left at (c.print_ranking.ensures.prompt start part is_old is_new))
+    before c.args.steps.now _ _ _ prepared c.in_ok-chosen.ensures.cost (rw left at (c.print_ranking-printed.ensures.prompt start part is_old is_new))
