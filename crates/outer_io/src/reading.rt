@@ -20,7 +20,7 @@ const FIRST_READ: usize = 8192;
 const LONGEST_READ: usize = 262_144;
 
 /// Why a file was not read.
-#[derive(Clone, Copy, Debug, PartialEq, Eq, Drop)]
+#[derive(Clone, Copy, PartialEq, Eq, Drop)]
 pub enum FileFault {
     /// There is no file of this name.
     Missing,

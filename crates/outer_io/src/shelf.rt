@@ -6,7 +6,7 @@ ghost use Rattle.outer_io.specs.Counts.{last_count, Rose, RoseBy};
 ghost use Rattle.outer_io.specs.Files.{Files, HasFile, LacksFile};
 
 /// Why a file was not opened.
-#[derive(Clone, Copy, Debug, PartialEq, Eq, Drop)]
+#[derive(Clone, Copy, PartialEq, Eq, Drop)]
 pub enum ShelfFault {
     /// There is no file of this name.
     Missing,
@@ -15,7 +15,7 @@ pub enum ShelfFault {
 }
 
 /// The shelf could not read on. The open file is still at the same place.
-#[derive(Clone, Copy, Debug, PartialEq, Eq, Drop)]
+#[derive(Clone, Copy, PartialEq, Eq, Drop)]
 pub struct ReadFailed;
 
 /// Files by name. One at a time is open, and is read from its start.

@@ -7,7 +7,7 @@ ghost use Rattle.outer_io.specs.Counts.{Rose};
 use crate::Sink;
 
 /// The sink took only the first `taken` of the bytes.
-#[derive(Clone, Copy, Debug, PartialEq, Eq, Drop)]
+#[derive(Clone, Copy, PartialEq, Eq, Drop)]
 pub struct Unwritten {
     pub taken: usize,
 }

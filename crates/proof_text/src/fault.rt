@@ -8,7 +8,7 @@ use std::alloc::{AllocError, AllocFailed};
 /// Why bytes are not a certificate, or why a certificate is not valid: the first of these that
 /// holds, in this order. Lines and nodes count from 1. Reading a text gives the first two and
 /// `NoMemory`.
-#[derive(Clone, Copy, Debug, PartialEq, Eq)]
+#[derive(Clone, Copy, PartialEq, Eq)]
 pub enum ProofFault {
     /// The first line is missing, or it is another one than `anyk-proof 1`.
     BadHeader,

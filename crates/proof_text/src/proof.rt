@@ -2,7 +2,7 @@
 
 /// A certificate of the first answers of a query. Neither its text nor its numbers need to be
 /// right.
-#[derive(Debug, Drop)]
+#[derive(Drop)]
 pub struct Proof {
     /// The bounds, in the order of their lines.
     pub bounds: Vec<Bound>,
@@ -13,7 +13,7 @@ pub struct Proof {
 }
 
 /// A line `bound NODE ROW ..`.
-#[derive(Debug, Drop)]
+#[derive(Drop)]
 pub struct Bound {
     /// The number of the line, from 1.
     pub line: u32,
@@ -25,7 +25,7 @@ pub struct Bound {
 }
 
 /// A line `answer ROW ..`.
-#[derive(Debug, Drop)]
+#[derive(Drop)]
 pub struct Listed {
     /// The number of the line, from 1.
     pub line: u32,

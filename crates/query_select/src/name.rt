@@ -6,7 +6,7 @@ use std::alloc::{AllocError, Global};
 use std::marker::Model;
 
 /// A name, without quotes. Names are compared byte by byte, with case.
-#[derive(Debug, Drop)]
+#[derive(Drop)]
 pub struct Name {
     bytes: Vec<u8>,
 }
@@ -37,7 +37,7 @@ impl Name {
 
 /// The bytes of a constant: those of a string with each doubled quote once, or those of a number
 /// with its minus.
-#[derive(Debug, Drop)]
+#[derive(Drop)]
 pub struct Bytes {
     bytes: Vec<u8>,
 }

@@ -4,7 +4,7 @@ use crate::name::{Bytes, Name};
 use crate::sequence::Sequence;
 
 /// A column, with the alias before it if one was written.
-#[derive(Debug, Drop)]
+#[derive(Drop)]
 pub struct ColumnRef {
     /// The alias before it.
     pub alias: Option<Name>,
@@ -15,7 +15,7 @@ pub struct ColumnRef {
 }
 
 /// The columns that a query selects.
-#[derive(Debug, Drop)]
+#[derive(Drop)]
 pub enum SelectList {
     /// All columns of all items, in the order of the from-list.
     Star,
@@ -24,7 +24,7 @@ pub enum SelectList {
 }
 
 /// A table in the from-list.
-#[derive(Debug, Drop)]
+#[derive(Drop)]
 pub struct ItemRef {
     /// The name of the table.
     pub table: Name,
@@ -35,14 +35,14 @@ pub struct ItemRef {
 }
 
 /// What a column is equated with.
-#[derive(Debug, Drop)]
+#[derive(Drop)]
 pub enum Side {
     Column(ColumnRef),
     Constant(Bytes),
 }
 
 /// Two sides that must be equal. A constant is on the right, wherever it was written.
-#[derive(Debug, Drop)]
+#[derive(Drop)]
 pub struct Equality {
     /// The column on the left.
     pub left: ColumnRef,
@@ -51,7 +51,7 @@ pub struct Equality {
 }
 
 /// A column that is added to an order key, or subtracted.
-#[derive(Debug, Drop)]
+#[derive(Drop)]
 pub struct Term {
     /// Whether it is subtracted.
     pub minus: bool,
@@ -60,7 +60,7 @@ pub struct Term {
 }
 
 /// An order key: a sum of columns.
-#[derive(Debug, Drop)]
+#[derive(Drop)]
 pub struct KeyRef {
     /// The columns of the sum.
     pub terms: Sequence<Term>,
@@ -70,7 +70,7 @@ pub struct KeyRef {
 
 /// A query. The equalities are in the order of the text, and those of an `on` are where it is
 /// written.
-#[derive(Debug, Drop)]
+#[derive(Drop)]
 pub struct Select {
     /// The selected columns.
     pub list: SelectList,
@@ -85,7 +85,7 @@ pub struct Select {
 }
 
 /// One or more queries, each without a limit of its own: the branches of a union.
-#[derive(Debug, Drop)]
+#[derive(Drop)]
 pub struct SelectAll {
     /// The branches, in the order of the text.
     pub branches: Sequence<Select>,

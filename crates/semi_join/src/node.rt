@@ -125,11 +125,16 @@ fn no_rows<R: Rank>(
     ensures links { IfOk result (λ kept. links_of kept.links ≡ []) }
 {
     let count = raw.len(node);
+    let greatest = greatest_link(raw, node);
+    let rows = Vec::with_capacity(alloc, count as usize)?;
+    let numbers = Vec::with_capacity(alloc, count as usize)?;
+    let to_child = NamedGroups::new(alloc, children, count as usize)?;
+    let links = GroupLinks::new(alloc, raw.keys(), count, greatest)?;
     Ok(KeptRows {
-        rows: Vec::with_capacity(alloc, count as usize)?,
-        to_child: NamedGroups::new(alloc, children, count as usize)?,
-        numbers: Vec::with_capacity(alloc, count as usize)?,
-        links: GroupLinks::new(alloc, raw.keys(), count, greatest_link(raw, node))?,
+        rows,
+        to_child,
+        numbers,
+        links,
     })
 }
 

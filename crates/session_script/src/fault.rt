@@ -7,7 +7,7 @@ use std::alloc::{AllocError, AllocFailed};
 
 /// Why bytes are not a script: too many lines, or else the first line that breaks a rule, with the
 /// first rule that it breaks. Lines count from 1, and skipped lines count too.
-#[derive(Clone, Copy, Debug, PartialEq, Eq)]
+#[derive(Clone, Copy, PartialEq, Eq)]
 pub enum ScriptFault {
     /// There are more than 10,000 lines.
     TooManyLines,

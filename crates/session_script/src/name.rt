@@ -10,7 +10,7 @@ use std::marker::Model;
 pub const MAX_NAME_BYTES: usize = 32;
 
 /// The name of a cursor: 1 to 32 ASCII letters, digits and `_`.
-#[derive(Debug, Drop)]
+#[derive(Drop)]
 pub struct Name {
     bytes: [u8; 32],
     len: usize,

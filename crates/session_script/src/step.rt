@@ -3,7 +3,7 @@
 use crate::name::Name;
 
 /// What one line of a script does.
-#[derive(Debug, Drop)]
+#[derive(Drop)]
 pub enum Step {
     /// Opens a cursor of this name at the start of the list.
     Open(Name),

@@ -1,4 +1,5 @@
 use Rattle.std.proofs.Common.{◌≡◌, ◌<◌, ◌+◌, ◌≤◌, ◌++◌, ◌∷◌, [], map, length, sym, ap, subst, ◌∙◌, arith, true, nat_eq, IfSome}
+use Rattle.std.proofs.lemmas.Result.{IfOk-from_err}
 use Rattle.tdp_core.specs.RawView.{raw_len, raw_row_at}
 use Rattle.tdp_core.proofs.RawReads.{length_within}
 use Rattle.semi_join.specs.Reduction.{links_of, child_nodes, has_partners, group_link, groups_named, EndsInPlaceOf, IsNumbering}
@@ -10,12 +11,47 @@ use Rattle.semi_join.proofs.SoFar.{IsSoFar, room, room_all, kids_below_lem, none
 use Rattle.semi_join.proofs.node.keep_rows.Goals as goal
 use Rattle.semi_join.proofs.node.keep_rows.Goals.{in-Some+in_ok-keep_row, in_default}
 
-pub returns-in_err-named-clause-cost : goal.returns-in_err-named-clause-cost
-returns-in_err-named-clause-cost g c =
+pub returns-in_err-children : goal.returns-in_err-children
+returns-in_err-children g c =
+    let r = c.from_residual.result in
+    let e = c.from_residual.ensures.0 in
+    record {
+      rows = IfOk-from_err r _ e;
+      to_child = IfOk-from_err r _ e;
+      links = IfOk-from_err r _ e;
+      numbers = IfOk-from_err r _ e;
+      few = IfOk-from_err r _ e;
+      cost = omega arith;
+    }
+
+pub returns-in_err-kept : goal.returns-in_err-kept
+returns-in_err-kept g c =
+    let r = c.from_residual-in_err-kept.result in
+    let e = c.from_residual-in_err-kept.ensures.0 in
+    record {
+      rows = IfOk-from_err r _ e;
+      to_child = IfOk-from_err r _ e;
+      links = IfOk-from_err r _ e;
+      numbers = IfOk-from_err r _ e;
+      few = IfOk-from_err r _ e;
+      cost = omega arith;
+    }
+
+pub returns-in_err-named : goal.returns-in_err-named
+returns-in_err-named g c =
+    let r = c.from_residual-in_err-named.result in
+    let e = c.from_residual-in_err-named.ensures.0 in
     let all = ap length (c.deref.ensures.value ∙ c.in_ok-children.ensures) in
     let within : c.loop-i.i < raw_len c.args.raw.now c.args.node = omega (arith, c.len-i-end.ensures) in
     let steps = room c.loop-i.i (length (child_nodes c.args.raw.now c.args.node)) (raw_len c.args.raw.now c.args.node) (length c.args.raw.now.shapes) within (kids_below_lem c.args.raw.now c.args.node [] c.requires.node) in
-    omega (arith, all, steps, c.child_groups.ensures.cost, c.loop-i.invariant.counted)
+    record {
+      rows = IfOk-from_err r _ e;
+      to_child = IfOk-from_err r _ e;
+      links = IfOk-from_err r _ e;
+      numbers = IfOk-from_err r _ e;
+      few = IfOk-from_err r _ e;
+      cost = omega (arith, all, steps, c.child_groups.ensures.cost, c.loop-i.invariant.counted);
+    }
 
 pub keep_row-requires-clause-width : goal.keep_row-requires-clause-width
 keep_row-requires-clause-width g c =
@@ -40,12 +76,21 @@ keep_row-requires-clause-few g c =
     let most = length_within c.args.raw.now.rows c.args.node in
     omega (arith, few, most, c.requires.few_rows, c.len-i-end.ensures)
 
-pub returns-in_err-keep_row-clause-cost : goal.returns-in_err-keep_row-clause-cost
-returns-in_err-keep_row-clause-cost g c =
+pub returns-in_err-keep_row : goal.returns-in_err-keep_row
+returns-in_err-keep_row g c =
+    let r = c.from_residual-in_err-keep_row.result in
+    let e = c.from_residual-in_err-keep_row.ensures.0 in
     let all = ap length (c.deref.ensures.value ∙ c.in_ok-children.ensures) in
     let within : c.loop-i.i < raw_len c.args.raw.now c.args.node = omega (arith, c.len-i-end.ensures) in
     let steps = room c.loop-i.i (length (child_nodes c.args.raw.now c.args.node)) (raw_len c.args.raw.now c.args.node) (length c.args.raw.now.shapes) within (kids_below_lem c.args.raw.now c.args.node [] c.requires.node) in
-    omega (arith, all, steps, c.child_groups.ensures.cost, c.keep_row.ensures.cost, c.loop-i.invariant.counted)
+    record {
+      rows = IfOk-from_err r _ e;
+      to_child = IfOk-from_err r _ e;
+      links = IfOk-from_err r _ e;
+      numbers = IfOk-from_err r _ e;
+      few = IfOk-from_err r _ e;
+      cost = omega (arith, all, steps, c.child_groups.ensures.cost, c.keep_row.ensures.cost, c.loop-i.invariant.counted);
+    }
 
 pub loop-i-preserved : goal.loop-i-preserved
 loop-i-preserved g c =
