@@ -4,6 +4,7 @@ pub mod State
 pub mod Growth
 pub mod Ranks
 pub mod Stores
+pub mod Chunks
 pub mod OpenedRows
 pub mod NodeFacts
 pub mod Rows

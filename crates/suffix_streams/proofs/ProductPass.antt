@@ -1,5 +1,6 @@
 -- The facts of a product after its last solution was passed.
-use Rattle.std.proofs.Common.{◌≡◌, ℕ, suc, ◌+◌, ◌<◌, ◌≤◌, ◌^◌, Option, MatchOption, List, [], ◌∷◌, ◌++◌, length, get_or, slice_set, refl, sym, ap, ◌∙◌, subst, arith}
+use Rattle.std.proofs.Common.{◌≡◌, ℕ, suc, ◌+◌, ◌<◌, ◌≤◌, ◌^◌, Option, MatchOption, List, [], ◌∷◌, ◌++◌, ◌⊎◌, length, get_or, slice_set, refl, sym, ap, ◌∙◌, subst, inl, inr, arith}
+use Rattle.std.proofs.lemmas.Bool.{cases_lt}
 use Rattle.std.specs.List.{All}
 use Rattle.std.specs.List.Sorted.{IsPermutation}
 use Rattle.stream_store.specs.declared.entry.Linked.{Linked}
@@ -21,8 +22,7 @@ use Rattle.suffix_streams.proofs.Heads.{lists_at}
 use Rattle.suffix_streams.proofs.State.{count_more}
 use Rattle.suffix_streams.proofs.Stores.{row_inside}
 use Rattle.suffix_streams.proofs.Kept.{ranks_stay}
-use Rattle.suffix_streams.proofs.Changes.{changed_product}
-use Rattle.suffix_streams.proofs.StepCells.{first_of, queue_longer, again, two_changes}
+use Rattle.suffix_streams.proofs.StepCells.{first_of, queue_longer}
 use Rattle.suffix_streams.proofs.Stepping.{step_holds, sums_end, sums_grow, ranks_grow, ranks_kept, kept_known, next_known}
 
 -- p is the product after that
@@ -88,40 +88,71 @@ product_passed {R} d key t es n v r c p a b known cell below head lower beside d
       next_known = next_known d key t es n h v r c node row in_row cell below head beside down across e p.frontier some first tag head_is answered ready beside0 down0 across_is moved0 least0;
     }
 
-module _ {R : Type 0} {d : ℕ} {key : R → KeyOf d 16} {t : List (NodeView R)} {es : List (Linked (Found R))} {n : List (NodeStreamsView R)} {v r c : ℕ} {p : ProductView R} (a : IsProductPassed d key t es n v r c p) where
-  -- if the frontier is empty, the product's solutions are the whole ranking
-  pub product_ends : p.frontier ≡ [] → IsStreams d key t es (slice_set n v (with_product (lists_of n v) r c p))
-  product_ends empty =
-      a.holds p refl (omega (arith, ap length empty)) a.rises (subst (All (λ (x : Cell). (x.left < part_known n v r c) × (x.right < length es) × (node_of es x.right ≡ child t v c) × (group_of es x.right ≡ group_named t v r c))) (sym a.found) a.kept_known)
-      (subst (λ f. IsFrontier d key (pair_of es) (part_list d key t v r c) (group_list d key t (child t v c) (group_named t v r c)) (part_list d key t v r (suc c)) f p.frontier) (sym a.found)
+-- # The product after a step
+
+-- z is the product with the solution at the top of its frontier, if it has one
+module _ {R : Type 0} {d : ℕ} {key : R → KeyOf d 16} {t : List (NodeView R)} {es : List (Linked (Found R))} {n : List (NodeStreamsView R)} {v r c : ℕ} (p z : ProductView R) (a : IsProductPassed d key t es n v r c p) (frontier : z.frontier ≡ p.frontier)
+    (few : length z.frontier < 2 ^ 64) (ended : length z.frontier ≡ 0 → (z.found ≡ p.found) × (z.ranks ≡ p.ranks)) (found : (x : Entry R Cell) → 0 < length z.frontier → z.found ≡ p.found ++ (get_or z.frontier 0 x).tag ∷ [])
+    (ranks : (x : Entry R Cell) → 0 < length z.frontier → z.ranks ≡ with_rank p.ranks (get_or z.frontier 0 x).rank) (least : (x : Entry R Cell) → 0 < length z.frontier → IsLeast d key (get_or z.frontier 0 x) z.frontier) where
+  -- the solution that was kept
+  record IsNext (e : Entry R Cell) : Type 0 where
+    pub some : 0 < length p.frontier
+    pub first : e ≡ get_or p.frontier 0 e
+    pub minimal : IsLeast d key e p.frontier
+    pub longer : z.found ≡ (product_of n v r c).found ++ (e.tag ∷ [])
+    pub ranked : z.ranks ≡ with_rank (product_of n v r c).ranks e.rank
+
+  next_of : 0 < length z.frontier → (e : Entry R Cell) × IsNext e
+  next_of some =
+      let x : (x : Entry R Cell) × (x ≡ get_or z.frontier 0 x) = first_of z.frontier some in
+      let e : Entry R Cell = x.0 in
+      let first : e ≡ get_or z.frontier 0 e = x.1 in (
+        e,
+        record {
+          some = omega (arith, some, ap length frontier);
+          first = first ∙ ap (λ q. get_or q 0 e) frontier;
+          minimal = subst (λ q. IsLeast d key e q) frontier (subst (λ y. IsLeast d key y z.frontier) (sym first) (least e some));
+          longer = found e some ∙ ap (λ (y : Entry R Cell). p.found ++ y.tag ∷ []) (sym first) ∙ ap (λ q. q ++ (e.tag ∷ [])) a.found;
+          ranked = ranks e some ∙ ap (λ (y : Entry R Cell). with_rank p.ranks y.rank) (sym first) ∙ ap (λ q. with_rank q e.rank) a.ranks;
+        },
+      )
+
+  end_of : length z.frontier ≡ 0 → p.frontier ≡ []
+  end_of none = empty p.frontier (omega (arith, none, ap length frontier))
+    where
+      empty : (q : List (Entry R Cell)) → length q ≡ 0 → q ≡ []
+      empty [] e = refl
+      empty (x ∷ q) e = absurd (omega (arith, e))
+
+  holds_next : 0 < length z.frontier → IsStreams d key t es (slice_set n v (with_product (lists_of n v) r c z))
+  holds_next some =
+      let x = next_of some in
+      let e : Entry R Cell = x.0 in
+      let k = x.1 in
+      a.holds z frontier (omega (arith, few, ap length frontier)) (omega (arith, ap length k.longer, count_more (product_of n v r c).found e.tag))
+      (subst (All (λ (x : Cell). (x.left < part_known n v r c) × (x.right < length es) × (node_of es x.right ≡ child t v c) × (group_of es x.right ≡ group_named t v r c))) (sym k.longer) (a.next_known e k.some k.first))
+      (subst (λ f. IsFrontier d key (pair_of es) (part_list d key t v r c) (group_list d key t (child t v c) (group_named t v r c)) (part_list d key t v r (suc c)) f p.frontier) (sym k.longer) (a.grows e k.some k.first k.minimal))
+      (a.ranks_grow e k.some k.first k.minimal z k.longer k.ranked)
+
+  holds_end : length z.frontier ≡ 0 → IsStreams d key t es (slice_set n v (with_product (lists_of n v) r c z))
+  holds_end none =
+      let found0 : z.found ≡ (product_of n v r c).found = (ended none).0 ∙ a.found in
+      let empty : p.frontier ≡ [] = end_of none in
+      a.holds z frontier (omega (arith, few, ap length frontier)) (omega (arith, ap length found0))
+      (subst (All (λ (x : Cell). (x.left < part_known n v r c) × (x.right < length es) × (node_of es x.right ≡ child t v c) × (group_of es x.right ≡ group_named t v r c))) (sym found0) a.kept_known)
+      (subst (λ f. IsFrontier d key (pair_of es) (part_list d key t v r c) (group_list d key t (child t v c) (group_named t v r c)) (part_list d key t v r (suc c)) f p.frontier) (sym found0)
       (subst (λ q. IsFrontier d key (pair_of es) (part_list d key t v r c) (group_list d key t (child t v c) (group_named t v r c)) (part_list d key t v r (suc c)) (product_of n v r c).found q) (sym empty) (a.ends empty).1))
-      (λ few. ranks_stay d key (part_list d key t v r (suc c)) (product_of n v r c) p a.found a.ranks (a.ranks_kept few))
+      (λ more. ranks_stay d key (part_list d key t v r (suc c)) (product_of n v r c) z found0 ((ended none).1 ∙ a.ranks) (a.ranks_kept more))
 
--- # One more solution was kept
+  pub stepped_holds : IsStreams d key t es (slice_set n v (with_product (lists_of n v) r c z))
+  stepped_holds = elim (cases_lt 0 (length z.frontier)) [
+    | inl some ↦ holds_next some
+    | inr none ↦ holds_end (omega (arith, none))
+  ]
 
--- y is the lists of node v with the product, and z those with the solution too
-pub record IsSumKept {R : Type 0} (n : List (NodeStreamsView R)) (v r c : ℕ) (sum : Entry R Cell) (y z : NodeStreamsView R) : Type 0 where
-  pub changed : slice_set (slice_set n v y) v z ≡ slice_set n v (with_product (lists_of n v) r c (product_at z r c))
-  pub found : (product_at z r c).found ≡ (product_of n v r c).found ++ (sum.tag ∷ [])
-  pub ranks : (product_at z r c).ranks ≡ with_rank (product_of n v r c).ranks sum.rank
-  pub frontier : (product_at z r c).frontier ≡ (product_at y r c).frontier
-  pub rises : length (product_of n v r c).found ≤ length (product_at z r c).found
-  pub product : product_of (slice_set (slice_set n v y) v z) v r c ≡ product_at z r c
-
-pub sum_kept : {R : Type 0} {d : ℕ} {key : R → KeyOf d 16} {t : List (NodeView R)} {es : List (Linked (Found R))} {n : List (NodeStreamsView R)} {v r c : ℕ} {p : ProductView R} (a : IsProductPassed d key t es n v r c p) (sum : Entry R Cell) (m m2 y z : NodeStreamsView R)
-    → p ≡ product_at y r c → IsStreams d key t es n → v < length t → r < rows t v → c < length (products_of n v r) → m ≡ get_or n v m → y ≡ with_product m r c (product_at y r c) → m2 ≡ get_or (slice_set n v y) v m2 → z ≡ with_product m2 r c (product_at z r c)
-    → (product_at z r c).found ≡ (product_at m2 r c).found ++ (sum.tag ∷ []) → (product_at z r c).ranks ≡ with_rank (product_at m2 r c).ranks sum.rank → (product_at z r c).frontier ≡ (product_at m2 r c).frontier → IsSumKept n v r c sum y z
-sum_kept {R} {d} {key} {t} {es} {n} {v} {r} {c} {p} a sum m m2 y z p_is h node row in_row read_m is_y read_m2 is_z found ranks frontier =
-    let same : product_at m2 r c ≡ product_at y r c = ap (λ x. product_at x r c) (again n v r c m y a.in_nodes read_m is_y m2 z a.in_rows read_m2 is_z) in
-    let changes = two_changes n v r c m y a.in_nodes read_m is_y m2 z a.in_rows read_m2 is_z in
-    let found0 : (product_at z r c).found ≡ (product_of n v r c).found ++ (sum.tag ∷ []) = found ∙ ap (λ (q : ProductView R). q.found ++ (sum.tag ∷ [])) (same ∙ sym p_is) ∙ ap (λ f. f ++ (sum.tag ∷ [])) a.found in
-    let ranks0 : (product_at z r c).ranks ≡ with_rank (product_of n v r c).ranks sum.rank = ranks ∙ ap (λ (q : ProductView R). with_rank q.ranks sum.rank) (same ∙ sym p_is) ∙ ap (λ f. with_rank f sum.rank) a.ranks in
-    let rises0 : length (product_of n v r c).found ≤ length (product_at z r c).found = omega (arith, ap length found0, count_more (product_of n v r c).found sum.tag) in
-    record {
-      changed = changes;
-      found = found0;
-      ranks = ranks0;
-      frontier = frontier ∙ ap (λ (q : ProductView R). q.frontier) same;
-      rises = rises0;
-      product = ap (λ (w : List (NodeStreamsView R)). product_of w v r c) changes ∙ changed_product d key t es n h v r c (product_at z r c) node row in_row rises0;
-    }
+  -- one more solution is known, or there is none
+  pub stepped_reaches : (length (product_of n v r c).found < length z.found) ⊎ (length (part_list d key t v r (suc c)) ≤ length (product_of n v r c).found)
+  stepped_reaches = elim (cases_lt 0 (length z.frontier)) [
+    | inl some ↦ inl (let x = next_of some in omega (arith, ap length x.1.longer, count_more (product_of n v r c).found x.0.tag))
+    | inr none ↦ inr (omega (arith, (a.ends (end_of (omega (arith, none)))).0))
+  ]

@@ -1,6 +1,5 @@
--- The cells that a step of a product offers, and the two changes of the product as one.
+-- The cells that a step of a product offers, and the change of the product.
 use Rattle.std.proofs.Common.{◌≡◌, ◌↔◌, ℕ, zero, suc, ◌+◌, ◌<◌, ◌≤◌, Option, Some, None, IsSome, is_some, true, false, MatchOption, IfSome, List, [], ◌∷◌, length, get_or, slice_set, refl, sym, ap, ◌∙◌, subst, arith}
-use Rattle.std.proofs.lemmas.List.{get_or-set_same, set-set}
 use Rattle.std.proofs.lemmas.List.Elements.{All-get_or}
 use Rattle.stream_store.specs.declared.entry.Linked.{Linked}
 use Rattle.std.specs.List.Sorted.{IsPermutation}
@@ -12,7 +11,6 @@ use Rattle.tdp_model.specs.KeyTuple.{KeyOf}
 use Rattle.stream_model.specs.Links.{IsLinkedAt}
 use Rattle.stream_cells.specs.declared.cell.Cell.{Cell}
 use Rattle.suffix_streams.specs.declared.stream.Found.{Found}
-use Rattle.suffix_streams.specs.ProductView.{ProductView}
 use Rattle.suffix_streams.specs.NodeStreamsView.{NodeStreamsView, product_at, with_product}
 use Rattle.stream_cells.specs.Cells.{cell_down}
 use Rattle.suffix_streams.specs.Rankings.{child}
@@ -78,20 +76,6 @@ module _ {R : Type 0} (nodes : List (NodeStreamsView R)) (v r c : ℕ) (m n : No
   -- a change of one product, in terms of the lists
   pub one_change : slice_set nodes v n ≡ slice_set nodes v (with_product (lists_of nodes v) r c (product_at n r c))
   one_change = ap (λ z. slice_set nodes v z) (changed ∙ ap (λ z. with_product z r c (product_at n r c)) (sym (lists_at nodes v m at in_nodes)))
-
-  module _ (m' n' : NodeStreamsView R) (row : r < length (lists_of nodes v).products) (at' : m' ≡ get_or (slice_set nodes v n) v m') (changed' : n' ≡ with_product m' r c (product_at n' r c)) where
-    pub again : m' ≡ n
-    again = at' ∙ get_or-set_same nodes v n m' in_nodes
-
-    twice : with_product n r c (product_at n' r c) ≡ with_product (lists_of nodes v) r c (product_at n' r c)
-    twice =
-        ap (λ z. with_product z r c (product_at n' r c)) (changed ∙ ap (λ z. with_product z r c (product_at n r c)) (sym (lists_at nodes v m at in_nodes)))
-        ∙ ap (λ (ps : List (List (ProductView R))). (let x : NodeStreamsView R = record (lists_of nodes v) { products = ps } in x))
-        (set-set (lists_of nodes v).products r (slice_set (products_of nodes v r) c (product_at n r c)) _ ∙ ap (λ z. slice_set (lists_of nodes v).products r z)
-        (ap (λ z. slice_set z c (product_at n' r c)) (get_or-set_same (lists_of nodes v).products r (slice_set (products_of nodes v r) c (product_at n r c)) [] row) ∙ set-set (products_of nodes v r) c (product_at n r c) (product_at n' r c)))
-
-    pub two_changes : slice_set (slice_set nodes v n) v n' ≡ slice_set nodes v (with_product (lists_of nodes v) r c (product_at n' r c))
-    two_changes = set-set nodes v n n' ∙ ap (λ z. slice_set nodes v z) (changed' ∙ ap (λ z. with_product z r c (product_at n' r c)) again ∙ twice)
 
 -- a queue that has no top is empty
 pub no_top : {A B : Type 0} (o : Option A) (xs : List B) → o ≡ None → (IsSome o ↔ (0 < length xs)) → xs ≡ []

@@ -52,7 +52,7 @@ any_default (x ∷ xs) zero a b l = refl
 any_default (x ∷ xs) (suc i) a b l = any_default xs i a b (omega arith)
 
 -- a field of each element, if one element is replaced by one with the same field
-map_set : {A B : Type 0} (f : A → B) (xs : List A) (i : ℕ) (x d : A) → f x ≡ f (get_or xs i d) → map f (slice_set xs i x) ≡ map f xs
+pub map_set : {A B : Type 0} (f : A → B) (xs : List A) (i : ℕ) (x d : A) → f x ≡ f (get_or xs i d) → map f (slice_set xs i x) ≡ map f xs
 map_set f [] i x d e = refl
 map_set f (y ∷ xs) zero x d e = ap (λ z. z ∷ map f xs) e
 map_set f (y ∷ xs) (suc i) x d e = ap (λ z. f y ∷ z) (map_set f xs i x d e)

@@ -1,6 +1,7 @@
 pub mod ProductView
 pub mod StreamView
 pub mod OpenedRows
+pub mod RowsView
 pub mod NodeStreamsView
 pub mod Rankings
 pub mod Frontiers

@@ -70,7 +70,8 @@ fn empty_node<R: Rank, A: Allocator + Clone>(
     ensures { IfOk result (IsEmptyNode tree.now node) }
 {
     let children = children_of(alloc, tree, node)?;
-    let products = RowProducts::with_rows(alloc, rows_to_open(children.len(), tree.len(node)))?;
+    let rows = rows_to_open(children.len(), tree.len(node));
+    let products = RowProducts::with_rows(alloc, rows, children.len())?;
     let streams = empty_streams(alloc, tree.groups(node))?;
     Ok(NodeStreams {
         children,

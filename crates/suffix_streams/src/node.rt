@@ -33,6 +33,7 @@ pub(crate) struct NodeStreams<R: Rank, A: Allocator> {
 }
 
 impl<R: Rank, A: Allocator> Model for NodeStreams<R, A> {
+    ghost use Rattle.std.specs.Prelude.{◌≡◌, length};
     ghost use Rattle.suffix_streams.specs.NodeStreamsView.{NodeStreamsView};
 
     ghost Value = { NodeStreamsView R };
@@ -40,8 +41,10 @@ impl<R: Rank, A: Allocator> Model for NodeStreams<R, A> {
     ghost view = { λ n. record {
       children = n.children.items;
       streams = n.streams.items;
-      products = n.products;
+      products = n.products.rows;
     } };
+
+    ghost invariant = { λ n. n.products.width ≡ length n.children.items };
 }
 
 impl<R: Rank, A: Allocator> NodeStreams<R, A> {
@@ -73,7 +76,7 @@ impl<R: Rank, A: Allocator> NodeStreams<R, A> {
     pub(crate) fn product_count(&self, row: u32) -> usize
         ensures { result ≡ length (slice_index_or self.now.products row []) }
     {
-        self.products.of_row(row).len()
+        self.products.count_of(row)
     }
 
     /// A product of a row. Products count from 0.
@@ -142,8 +145,9 @@ impl<R: Rank, A: Allocator> NodeStreams<R, A> {
         self.streams[group as usize].top()
     }
 
-    /// Passes the last solution of a product: what follows it replaces it in the frontier.
-    pub(crate) fn pass_product<L: Ledger>(
+    /// Passes the last solution of a product, and keeps the one that follows, if there is one, in
+    /// room that was made for it. `down` and `across` enter the product's frontier.
+    pub(crate) fn step_product<L: Ledger>(
         &mut self,
         row: u32,
         child: usize,
@@ -153,14 +157,11 @@ impl<R: Rank, A: Allocator> NodeStreams<R, A> {
     )
         requires child { child < length (slice_index_or self.old.products row []) }
         requires top { 0 < length (product_at self.old row child).frontier }
-        requires room { IsSome down → IsSome across
+        requires frontier_room { IsSome down → IsSome across
             → 0 < (product_at self.old row child).frontier_room }
+        requires room { 0 < (product_at self.old row child).room }
         ensures changed { self.new
             ≡ with_product self.old row child (product_at self.new row child) }
-        ensures found { (product_at self.new row child).found
-            ≡ (product_at self.old row child).found }
-        ensures ranks { (product_at self.new row child).ranks
-            ≡ (product_at self.old row child).ranks }
         ensures moved { (d : Entry R Cell)
             → IsPermutation (offers down across (product_at self.old row child).frontier)
             (slice_index_or (product_at self.old row child).frontier 0 d
@@ -168,31 +169,27 @@ impl<R: Rank, A: Allocator> NodeStreams<R, A> {
         ensures least { (d : Entry R Cell)
             → IsLeast R.KEYS R.key (slice_index_or (product_at self.old row child).frontier 0 d)
             (product_at self.old row child).frontier }
-        ensures found_room { (product_at self.new row child).room
-            ≡ (product_at self.old row child).room }
+        ensures limit { length (product_at self.new row child).frontier < 2 ^ 64 }
+        ensures ended { length (product_at self.new row child).frontier ≡ 0
+            → ((product_at self.new row child).found ≡ (product_at self.old row child).found)
+            × ((product_at self.new row child).ranks ≡ (product_at self.old row child).ranks) }
+        ensures found { (d : Entry R Cell) → 0 < length (product_at self.new row child).frontier
+            → (product_at self.new row child).found
+            ≡ (product_at self.old row child).found
+            ++ (slice_index_or (product_at self.new row child).frontier 0 d).tag ∷ [] }
+        ensures ranks { (d : Entry R Cell) → 0 < length (product_at self.new row child).frontier
+            → (product_at self.new row child).ranks
+            ≡ with_rank (product_at self.old row child).ranks
+            (slice_index_or (product_at self.new row child).frontier 0 d).rank }
+        ensures next { (d : Entry R Cell) → 0 < length (product_at self.new row child).frontier
+            → IsLeast R.KEYS R.key (slice_index_or (product_at self.new row child).frontier 0 d)
+            (product_at self.new row child).frontier }
         ensures cost { steps.new
             ≤ steps.old + 2 * bit_length (length (product_at self.old row child).frontier)
             + bit_length (length (product_at self.old row child).frontier + 1) }
     {
         let product = self.products.product_mut(row, child);
-        product.pass(down, across, steps);
-    }
-
-    /// Keeps one more solution of a product, in room that was made for it.
-    pub(crate) fn keep(&mut self, row: u32, child: usize, sum: Entry<R, Cell>)
-        requires child { child < length (slice_index_or self.old.products row []) }
-        requires room { 0 < (product_at self.old row child).room }
-        ensures changed { self.new
-            ≡ with_product self.old row child (product_at self.new row child) }
-        ensures found { (product_at self.new row child).found
-            ≡ (product_at self.old row child).found ++ sum.tag ∷ [] }
-        ensures ranks { (product_at self.new row child).ranks
-            ≡ with_rank (product_at self.old row child).ranks sum.rank }
-        ensures frontier { (product_at self.new row child).frontier
-            ≡ (product_at self.old row child).frontier }
-    {
-        let product = self.products.product_mut(row, child);
-        product.keep(sum);
+        product.step(down, across, steps);
     }
 
     /// Passes the last solution of a group: the next one of its row and the first ones of the
@@ -227,24 +224,25 @@ impl<R: Rank, A: Allocator> NodeStreams<R, A> {
     {
         self.streams[group as usize].pass(next, left, right, steps);
     }
+}
 
-    /// Sets the products of a row. `NoMemory` if memory is refused, and the node stays as it is
-    /// then.
+impl<R: Rank, A: Allocator + Clone> NodeStreams<R, A> {
+    /// Sets the products of a row, one for each child, which are moved out of `products`.
+    /// `NoMemory` if memory is refused, and the node stays as it is then.
     pub(crate) fn set_products(
         &mut self,
         row: u32,
-        products: Vec<Product<R, A>, A>,
+        products: &mut Vec<Product<R, A>, A>,
     ) -> Result<(), NoMemory>
-        requires { row < length self.old.products }
+        requires row { row < length self.old.products }
+        requires count { length products.old.items ≡ length self.old.children }
         ensures set { OnOk result (self.new ≡ record self.old
-            { products = slice_set self.old.products row products.items }) }
+            { products = slice_set self.old.products row products.old.items }) }
         ensures refused { OnErr result (self.new ≡ self.old) }
     {
         self.products.open(row, products)
     }
-}
 
-impl<R: Rank, A: Allocator + Clone> NodeStreams<R, A> {
     /// Makes room for one more solution in a product. The first product of a row has one left part,
     /// so no sum is beside another there. `NoMemory` if memory is refused.
     pub(crate) fn reserve_product(

@@ -18,6 +18,10 @@ use stream_model::Queue;
 use stream_store::EntryId;
 use take2_heap::Entry;
 
+/// The number of solutions that a new product has room for. It is made when a second one is asked
+/// for, and a list that grows in steps leaves its earlier places unused in an arena.
+const FIRST_ROOM: usize = 4;
+
 /// The solutions of a row with its first children, as sums of those with one child less and of the
 /// solutions of the last child's group. It has the cell of each solution that was found, and a
 /// frontier. The top of the frontier is the last solution found, until the one after it is asked
@@ -67,7 +71,7 @@ impl<R: Rank, A: Allocator + Clone> Product<R, A> {
             ∷ []) }
     {
         let cell = Cell { left: 0, right };
-        let mut found = Vec::with_capacity(alloc.clone()?, 1)?;
+        let mut found = Vec::with_capacity(alloc.clone()?, FIRST_ROOM)?;
         found.push(cell)?;
         let ranks = first_rank(alloc, rank, keeps_ranks)?;
         Ok(Product {
@@ -136,8 +140,45 @@ impl<R: Rank, A: Allocator> Product<R, A> {
         self.frontier.top()
     }
 
+    /// Passes the last solution found, and keeps the one that follows, if there is one, in room
+    /// that was made for it. `down` and `across` enter the frontier.
+    pub(crate) fn step<L: Ledger>(
+        &mut self,
+        down: Option<Entry<R, Cell>>,
+        across: Option<Entry<R, Cell>>,
+        steps: &mut Steps<L>,
+    )
+        requires top { 0 < length self.old.frontier }
+        requires frontier_room { IsSome down → IsSome across → 0 < self.old.frontier_room }
+        requires room { 0 < self.old.room }
+        ensures moved { (d : Entry R Cell)
+            → IsPermutation (offers down across self.old.frontier)
+            (slice_index_or self.old.frontier 0 d ∷ self.new.frontier) }
+        ensures least { (d : Entry R Cell)
+            → IsLeast R.KEYS R.key (slice_index_or self.old.frontier 0 d) self.old.frontier }
+        ensures limit { length self.new.frontier < 2 ^ 64 }
+        ensures ended { length self.new.frontier ≡ 0
+            → (self.new.found ≡ self.old.found) × (self.new.ranks ≡ self.old.ranks) }
+        ensures found { (d : Entry R Cell) → 0 < length self.new.frontier
+            → self.new.found
+            ≡ self.old.found ++ (slice_index_or self.new.frontier 0 d).tag ∷ [] }
+        ensures ranks { (d : Entry R Cell) → 0 < length self.new.frontier
+            → self.new.ranks
+            ≡ with_rank self.old.ranks (slice_index_or self.new.frontier 0 d).rank }
+        ensures next { (d : Entry R Cell) → 0 < length self.new.frontier
+            → IsLeast R.KEYS R.key (slice_index_or self.new.frontier 0 d) self.new.frontier }
+        ensures cost { steps.new
+            ≤ steps.old + 2 * bit_length (length self.old.frontier)
+            + bit_length (length self.old.frontier + 1) }
+    {
+        self.pass(down, across, steps);
+        if let Some(top) = self.top() {
+            self.keep(top);
+        }
+    }
+
     /// Passes the last solution found: what follows it replaces it in the frontier.
-    pub(crate) fn pass<L: Ledger>(
+    fn pass<L: Ledger>(
         &mut self,
         down: Option<Entry<R, Cell>>,
         across: Option<Entry<R, Cell>>,
@@ -161,7 +202,7 @@ impl<R: Rank, A: Allocator> Product<R, A> {
     }
 
     /// Keeps one more solution, in room that was made for it.
-    pub(crate) fn keep(&mut self, sum: Entry<R, Cell>)
+    fn keep(&mut self, sum: Entry<R, Cell>)
         requires { 0 < self.old.room }
         ensures found { self.new.found ≡ self.old.found ++ sum.tag ∷ [] }
         ensures ranks { self.new.ranks ≡ with_rank self.old.ranks sum.rank }
@@ -185,7 +226,7 @@ fn first_rank<R: Rank, A: Allocator + Clone>(
     if !keeps_ranks {
         return Ok(Vec::new(alloc.clone()?));
     }
-    let mut ranks = Vec::with_capacity(alloc.clone()?, 1)?;
+    let mut ranks = Vec::with_capacity(alloc.clone()?, FIRST_ROOM)?;
     ranks.push(rank)?;
     Ok(ranks)
 }

@@ -47,9 +47,9 @@ pub(crate) fn child_head<R: Rank, A: Allocator + Clone, L: Ledger>(
     nodes[child_node as usize].head(group)
 }
 
-/// What a sum's right part must be for another sum to be beside it: the first entry of the group that
-/// the row names for the child. A row has one solution without children, so no sum is beside another
-/// in its first product, and `right` is returned there.
+/// What a sum's right part must be for another sum to be beside it: the first entry of the group
+/// that the row names for the child. A row has one solution without children, so no sum is beside
+/// another in its first product, and `right` is returned there.
 pub(crate) fn head_beside<R: Rank, A: Allocator + Clone, L: Ledger>(
     tree: &Tree<R>,
     nodes: &[NodeStreams<R, A>],
@@ -104,36 +104,9 @@ pub(crate) fn first_cell<R: Rank, A: Allocator + Clone, L: Ledger>(
     Cell { left: 0, right }
 }
 
-/// The products of a row, each with its first solution. `NoMemory` if memory is refused.
-pub(crate) fn made_products<R: Rank, A: Allocator + Clone, L: Ledger>(
-    alloc: &A,
-    tree: &Tree<R>,
-    nodes: &[NodeStreams<R, A>],
-    entries: &Store<Found<R>, A>,
-    node: u32,
-    row: u32,
-    steps: &mut Steps<L>,
-) -> Result<Vec<Product<R, A>, A>, NoMemory>
-    requires formed { IsFormed R.KEYS R.key tree.now }
-    requires tie_free { IsTieFreeTree tree.now }
-    requires node { node < length tree.now }
-    requires row { row < rows tree.now node }
-    requires headed { IsHeaded R.KEYS R.key tree.now entries.now.entries nodes.now node row }
-    ensures fresh { IfOk result
-        (λ p. AreFreshTo R.KEYS R.key tree.now nodes.now node row
-        (child_count tree.now node) p.items) }
-    ensures cost { steps.new ≤ steps.old + 1 + 3 * child_count tree.now node }
-{
-    let children = nodes[node as usize].child_count();
-    let own = alloc.clone()?;
-    let mut products = Vec::with_capacity(own, children)?;
-    add_products(alloc, tree, nodes, entries, node, row, &mut products, steps)?;
-    Ok(products)
-}
-
-/// Adds the products of a row, each with its first solution, to an empty list. `NoMemory` if memory
-/// is refused.
-fn add_products<R: Rank, A: Allocator + Clone, L: Ledger>(
+/// Makes the products of a row, each with its first solution, in place of those in `products`.
+/// `NoMemory` if memory is refused.
+pub(crate) fn make_products<R: Rank, A: Allocator + Clone, L: Ledger>(
     alloc: &A,
     tree: &Tree<R>,
     nodes: &[NodeStreams<R, A>],
@@ -148,12 +121,12 @@ fn add_products<R: Rank, A: Allocator + Clone, L: Ledger>(
     requires node { node < length tree.now }
     requires row { row < rows tree.now node }
     requires headed { IsHeaded R.KEYS R.key tree.now entries.now.entries nodes.now node row }
-    requires none { length products.old.items ≡ 0 }
     ensures fresh { OnOk result
         (AreFreshTo R.KEYS R.key tree.now nodes.now node row
         (child_count tree.now node) products.new.items) }
     ensures cost { steps.new ≤ steps.old + 1 + 3 * child_count tree.now node }
 {
+    products.clear();
     let children = nodes[node as usize].child_count();
     let mut rank = tree.row_at(node, row, steps).rank;
     for child in 0..children {

@@ -16,7 +16,8 @@ ghost use Rattle.suffix_streams.specs.Growing.{IsStoreGrown, IsGrown, IsExtended
 
 use crate::members::pass_last;
 use crate::node::NodeStreams;
-use crate::reads::{head_beside, made_products, offered, row_offer};
+use crate::product::Product;
+use crate::reads::{head_beside, make_products, offered, row_offer};
 use crate::stream::Found;
 use rank_key::Rank;
 use std::alloc::Allocator;
@@ -33,6 +34,8 @@ pub(crate) struct Solutions<'t, R: Rank, A: Allocator + Clone> {
     pub(crate) alloc: A,
     pub(crate) entries: Store<Found<R>, A>,
     pub(crate) nodes: Vec<NodeStreams<R, A>, A>,
+    /// The products of one row, while they are made. Its room serves one row after another.
+    pub(crate) made: Vec<Product<R, A>, A>,
 }
 
 impl<'t, R: Rank, A: Allocator + Clone> Solutions<'t, R, A> {
@@ -247,16 +250,17 @@ impl<'t, R: Rank, A: Allocator + Clone> Solutions<'t, R, A> {
         make_queue_room(&self.alloc, &mut self.nodes, node, group, members)?;
         let lists = &self.nodes[node as usize];
         if lists.product_count(row) < lists.child_count() {
-            let products = made_products(
+            make_products(
                 &self.alloc,
                 self.tree,
                 self.nodes.as_slice(),
                 &self.entries,
                 node,
                 row,
+                &mut self.made,
                 steps,
             )?;
-            self.nodes[node as usize].set_products(row, products)?;
+            self.nodes[node as usize].set_products(row, &mut self.made)?;
         }
         Ok(())
     }
@@ -331,11 +335,7 @@ impl<'t, R: Rank, A: Allocator + Clone> Solutions<'t, R, A> {
             across,
             steps,
         );
-        self.nodes[node as usize].pass_product(row, child, down, across, steps);
-        let Some(top) = self.nodes[node as usize].product_top(row, child) else {
-            return;
-        };
-        self.nodes[node as usize].keep(row, child, top);
+        self.nodes[node as usize].step_product(row, child, down, across, steps);
     }
 
     /// Passes the last solution of a group, which `last` stands for, and links the one that

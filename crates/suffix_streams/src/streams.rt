@@ -62,11 +62,13 @@ impl<'t, R: Rank, A: Allocator + Clone> Streams<'t, R, A> {
     {
         let mut entries = Store::new(alloc.clone()?);
         let nodes = begun_nodes(&alloc, tree, &mut entries, steps)?;
+        let made = Vec::new(alloc.clone()?);
         let solutions = Solutions {
             tree,
             alloc,
             entries,
             nodes,
+            made,
         };
         Ok(Streams {
             solutions,

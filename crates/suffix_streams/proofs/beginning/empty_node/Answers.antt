@@ -11,7 +11,7 @@ returns g c =
     record {
       children = c.in_ok-children.ensures;
       no_streams = c.in_ok-streams.ensures;
-      all_rows = c.in_ok-products.ensures.count ∙ c.rows_to_open.ensures ∙ ap (λ n. open_rows n c.len-2.result) kids ∙ ap (λ n. open_rows (child_count t c.args.node) n) c.len-2.ensures;
+      all_rows = c.in_ok-products.ensures.count ∙ c.rows_to_open-rows.ensures ∙ ap (λ n. open_rows n c.len-2.result) kids ∙ ap (λ n. open_rows (child_count t c.args.node) n) c.len-2.ensures;
       no_products = c.in_ok-products.ensures.none;
     }
 

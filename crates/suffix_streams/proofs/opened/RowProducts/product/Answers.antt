@@ -1,14 +1,23 @@
-use Rattle.std.proofs.Common.{length, get_or, ap, ◌∙◌, arith}
+use Rattle.std.proofs.Common.{◌+◌, ◌-◌, ◌*◌, ◌%◌, ap, ◌∙◌, arith}
 use Rattle.suffix_streams.proofs.Stores.{any_default}
-use Rattle.suffix_streams.proofs.OpenedRows.{row_read}
+use Rattle.suffix_streams.proofs.OpenedRows.{place_fits, place_in, product_read}
 use Rattle.suffix_streams.proofs.opened.RowProducts.product.Goals as goal
+
+pub overflow_mul-place : goal.overflow_mul-place
+overflow_mul-place g c =
+    omega (arith, place_fits c.self.inside.width c.self.inside.count c.self.inside.chunks.items c.self.inside.opened.items c.self.invariant.0 c.self.invariant.1 c.args.self.now.rows (ap (λ z. z.rows) c.self.view_is) c.args.row c.args.child c.index.result.now c.index.ensures c.requires c.self.invariant.3)
+
+pub overflow_add-place : goal.overflow_add-place
+overflow_add-place g c =
+    omega (arith, place_fits c.self.inside.width c.self.inside.count c.self.inside.chunks.items c.self.inside.opened.items c.self.invariant.0 c.self.invariant.1 c.args.self.now.rows (ap (λ z. z.rows) c.self.view_is) c.args.row c.args.child c.index.result.now c.index.ensures c.requires c.self.invariant.3)
 
 pub index-requires-3 : goal.index-requires-3
 index-requires-3 g c =
-    let row = row_read c.self.inside.lists.items c.self.inside.opened.items c.self.invariant c.args.self.now c.self.view_is c.args.row c.args.child c.index.result.now c.index.ensures c.requires c.index-2.result.now c.index-2.ensures in
-    omega (arith, ap length row, c.requires)
+    let inside = place_in c.self.inside.width c.self.inside.count c.self.inside.chunks.items c.self.inside.opened.items c.self.invariant.0 c.self.invariant.1 c.args.self.now.rows (ap (λ z. z.rows) c.self.view_is) c.args.row c.args.child c.index.result.now c.index.ensures c.requires c.index-2.result.now c.index-2.ensures in
+    omega (arith, inside, c.index-2.result.now.ok.0)
 
 pub returns : goal.returns
 returns g c d =
-    let row = row_read c.self.inside.lists.items c.self.inside.opened.items c.self.invariant c.args.self.now c.self.view_is c.args.row c.args.child c.index.result.now c.index.ensures c.requires c.index-2.result.now c.index-2.ensures in
-    c.index-3.ensures ∙ any_default c.index-2.result.now.items c.args.child c.index-3.result.now d (omega (arith, ap length row, c.requires)) ∙ ap (λ z. get_or z c.args.child d) row
+    let inside = place_in c.self.inside.width c.self.inside.count c.self.inside.chunks.items c.self.inside.opened.items c.self.invariant.0 c.self.invariant.1 c.args.self.now.rows (ap (λ z. z.rows) c.self.view_is) c.args.row c.args.child c.index.result.now c.index.ensures c.requires c.index-2.result.now c.index-2.ensures in
+    c.index-3.ensures ∙ any_default c.index-2.result.now.items ((c.index.result.now - 1) % 32 * c.self.inside.width + c.args.child) c.index-3.result.now d inside
+    ∙ product_read c.self.inside.width c.self.inside.count c.self.inside.chunks.items c.self.inside.opened.items c.self.invariant.0 c.self.invariant.1 c.args.self.now.rows (ap (λ z. z.rows) c.self.view_is) c.args.row c.args.child c.index.result.now c.index.ensures c.requires c.index-2.result.now c.index-2.ensures d

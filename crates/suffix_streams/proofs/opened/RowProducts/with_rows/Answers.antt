@@ -1,12 +1,13 @@
 use Rattle.std.proofs.Common.{◌≡◌, ℕ, suc, zero, List, [], length, map, get_or, replicate, refl, ap, ◌∙◌, arith}
 use Rattle.suffix_streams.specs.OpenedRows.{HaveOwnLists, list_numbered}
 use Rattle.suffix_streams.proofs.Stores.{map_length}
+use Rattle.suffix_streams.proofs.OpenedRows.{items_of, none_chunked}
 use Rattle.suffix_streams.proofs.opened.RowProducts.with_rows.Goals as goal
 
-unopened : {A : Type 0} (lists : List (List A)) (n r : ℕ) → get_or (map (list_numbered lists) (replicate n 0)) r [] ≡ []
-unopened lists zero r = refl
-unopened lists (suc n) zero = refl
-unopened lists (suc n) (suc r) = unopened lists n r
+unopened : {A : Type 0} (w : ℕ) (chunks : List (List A)) (n r : ℕ) → get_or (map (list_numbered w chunks) (replicate n 0)) r [] ≡ []
+unopened w chunks zero r = refl
+unopened w chunks (suc n) zero = refl
+unopened w chunks (suc n) (suc r) = unopened w chunks n r
 
 -- no row has a list
 numbers : (n r : ℕ) → ◌≡◌ {A = ℕ} (get_or (replicate n 0) r 0) 0
@@ -22,11 +23,11 @@ all zero = refl
 all (suc n) = ap suc (all n)
 
 pub invariant_of-result : goal.invariant_of-result
-invariant_of-result g c = rw (c.in_ok-opened.ensures.items_if_clones_equal (λ y same. same)) (own c.args.rows _)
+invariant_of-result g c = rw (c.in_ok-opened.ensures.items_if_clones_equal (λ y same. same)) (own c.args.rows 0, none_chunked c.args.width _ (ap (λ vs. items_of vs) c.new-chunks.ensures.items), omega arith, λ some. absurd (omega (arith, some)))
 
 pub returns-clause-count : goal.returns-clause-count
 returns-clause-count g c = rw (c.in_ok-opened.ensures.items_if_clones_equal (λ y same. same)) (map_length _ (replicate c.args.rows 0) ∙ all c.args.rows)
 
 pub returns-clause-none : goal.returns-clause-none
 returns-clause-none g c r =
-    rw (c.in_ok-opened.ensures.items_if_clones_equal (λ y same. same)) (unopened _ c.args.rows r)
+    rw (c.in_ok-opened.ensures.items_if_clones_equal (λ y same. same)) (unopened c.args.width _ c.args.rows r)

@@ -9,7 +9,7 @@ use Rattle.suffix_streams.specs.NodeStreamsView.{NodeStreamsView, known_of, with
 use Rattle.suffix_streams.specs.TreeStreams.{IsHeaded, IsStreams, AreFreshTo, lists_of, products_of, product_of, stream_of}
 use Rattle.suffix_streams.proofs.Changes.{lists_same, lists_other}
 use Rattle.suffix_streams.proofs.Entries.{headed_of}
-use Rattle.suffix_streams.proofs.Heads.{lists_at}
+use Rattle.suffix_streams.proofs.Heads.{lists_at, children_count}
 use Rattle.suffix_streams.proofs.Stores.{open_all}
 use Rattle.suffix_streams.proofs.Opening.{row_lacks, row_whole, row_opened, opened_is, opened_row, opened_queues, put_back}
 use Rattle.suffix_streams.proofs.QueuePass.{IsRoomed, roomed}
@@ -41,9 +41,9 @@ streams_stay : {R : Type 0} (nodes : List (NodeStreamsView R)) (v r : ℕ) (m n 
     → (lists_of (slice_set nodes v n) v).streams ≡ (lists_of nodes v).streams
 streams_stay nodes v r m n ps l at e = ap (λ z. z.streams) (lists_same nodes v n l ∙ e) ∙ ap (λ z. z.streams) (sym (lists_at nodes v m at l))
 
-pub made_products-requires-clause-headed : goal.made_products-requires-clause-headed
-made_products-requires-clause-headed g c =
-    let at = goal.at.made_products-requires-clause-headed g c in
+pub make_products-requires-clause-headed : goal.make_products-requires-clause-headed
+make_products-requires-clause-headed g c =
+    let at = goal.at.make_products-requires-clause-headed g c in
     subst (λ (z : List (NodeStreamsView g.row.R.Denot)). IsHeaded g.R.Rank.KEYS g.R.Rank.key c.args.self.now.tree.now c.args.self.now.entries.entries z c.args.node c.args.row) (sym c.as_slice.ensures.value)
     (headed_of g.R.Rank.KEYS g.R.Rank.key c.args.self.now.tree.now c.args.self.now.entries.entries c.make_queue_room.new.nodes.items (room_of g at.After-make_queue_room).formed c.args.node c.args.row c.requires.node c.requires.row)
 
@@ -52,20 +52,20 @@ returns-in_ok-set_products-clause-formed g c =
     let at = goal.at.returns-in_ok-set_products-clause-formed g c in
     let inside : c.args.node < length c.make_queue_room.new.nodes.items = omega (arith, (room_of g at.After-make_queue_room).formed.all_nodes, c.requires.node) in
     let few = row_lacks g.R.Rank.KEYS g.R.Rank.key c.args.self.now.tree.now c.args.self.now.entries.entries c.make_queue_room.new.nodes.items (room_of g at.After-make_queue_room).formed c.args.node c.args.row c.requires.node c.requires.row c.index-lists.result.now c.index-lists.ensures c.product_count.result c.child_count.result c.product_count.ensures c.child_count.ensures c.if-product_count-child_count.true in
-    let fresh = subst (λ (z : List (NodeStreamsView g.row.R.Denot)). AreFreshTo g.R.Rank.KEYS g.R.Rank.key c.args.self.now.tree.now z c.args.node c.args.row (child_count c.args.self.now.tree.now c.args.node) c.in_ok-products.products.items) c.as_slice.ensures.value c.in_ok-products.ensures.fresh in
+    let fresh = subst (λ (z : List (NodeStreamsView g.row.R.Denot)). AreFreshTo g.R.Rank.KEYS g.R.Rank.key c.args.self.now.tree.now z c.args.node c.args.row (child_count c.args.self.now.tree.now c.args.node) c.make_products.new.products.items) c.as_slice.ensures.value c.in_ok-make_products.ensures.fresh in
     subst (λ (z : List (NodeStreamsView g.row.R.Denot)). IsStreams g.R.Rank.KEYS g.R.Rank.key c.args.self.now.tree.now c.args.self.now.entries.entries z)
-    (sym (opened_is c.make_queue_room.new.nodes.items c.args.node c.args.row c.index_mut.result.now c.set_products.new.self c.in_ok-products.products.items inside c.index_mut.ensures.value c.in_ok-set_products.ensures.set))
-    (row_opened g.R.Rank.KEYS g.R.Rank.key c.args.self.now.tree.now c.args.self.now.entries.entries c.make_queue_room.new.nodes.items (room_of g at.After-make_queue_room).formed c.requires.tie_free c.args.node c.args.row c.requires.node c.requires.row c.in_ok-products.products.items fresh few.0 few.1)
+    (sym (opened_is c.make_queue_room.new.nodes.items c.args.node c.args.row c.index_mut.result.now c.set_products.new.self c.make_products.new.products.items inside c.index_mut.ensures.value c.in_ok-set_products.ensures.set))
+    (row_opened g.R.Rank.KEYS g.R.Rank.key c.args.self.now.tree.now c.args.self.now.entries.entries c.make_queue_room.new.nodes.items (room_of g at.After-make_queue_room).formed c.requires.tie_free c.args.node c.args.row c.requires.node c.requires.row c.make_products.new.products.items fresh few.0 few.1)
 
 pub returns-in_ok-set_products-clause-count : goal.returns-in_ok-set_products-clause-count
 returns-in_ok-set_products-clause-count g c =
     let at = goal.at.returns-in_ok-set_products-clause-count g c in
     let inside : c.args.node < length c.make_queue_room.new.nodes.items = omega (arith, (room_of g at.After-make_queue_room).formed.all_nodes, c.requires.node) in
     let few = row_lacks g.R.Rank.KEYS g.R.Rank.key c.args.self.now.tree.now c.args.self.now.entries.entries c.make_queue_room.new.nodes.items (room_of g at.After-make_queue_room).formed c.args.node c.args.row c.requires.node c.requires.row c.index-lists.result.now c.index-lists.ensures c.product_count.result c.child_count.result c.product_count.ensures c.child_count.ensures c.if-product_count-child_count.true in
-    let fresh = subst (λ (z : List (NodeStreamsView g.row.R.Denot)). AreFreshTo g.R.Rank.KEYS g.R.Rank.key c.args.self.now.tree.now z c.args.node c.args.row (child_count c.args.self.now.tree.now c.args.node) c.in_ok-products.products.items) c.as_slice.ensures.value c.in_ok-products.ensures.fresh in
+    let fresh = subst (λ (z : List (NodeStreamsView g.row.R.Denot)). AreFreshTo g.R.Rank.KEYS g.R.Rank.key c.args.self.now.tree.now z c.args.node c.args.row (child_count c.args.self.now.tree.now c.args.node) c.make_products.new.products.items) c.as_slice.ensures.value c.in_ok-make_products.ensures.fresh in
     ap (λ (z : List (NodeStreamsView g.row.R.Denot)). length (products_of z c.args.node c.args.row))
-    (opened_is c.make_queue_room.new.nodes.items c.args.node c.args.row c.index_mut.result.now c.set_products.new.self c.in_ok-products.products.items inside c.index_mut.ensures.value c.in_ok-set_products.ensures.set)
-    ∙ ap length (opened_row g.R.Rank.KEYS g.R.Rank.key c.args.self.now.tree.now c.args.self.now.entries.entries c.make_queue_room.new.nodes.items (room_of g at.After-make_queue_room).formed c.requires.tie_free c.args.node c.args.row c.requires.node c.requires.row c.in_ok-products.products.items fresh few.0 few.1)
+    (opened_is c.make_queue_room.new.nodes.items c.args.node c.args.row c.index_mut.result.now c.set_products.new.self c.make_products.new.products.items inside c.index_mut.ensures.value c.in_ok-set_products.ensures.set)
+    ∙ ap length (opened_row g.R.Rank.KEYS g.R.Rank.key c.args.self.now.tree.now c.args.self.now.entries.entries c.make_queue_room.new.nodes.items (room_of g at.After-make_queue_room).formed c.requires.tie_free c.args.node c.args.row c.requires.node c.requires.row c.make_products.new.products.items fresh few.0 few.1)
     ∙ fresh.count
 
 pub returns-in_ok-set_products-clause-queues : goal.returns-in_ok-set_products-clause-queues
@@ -73,38 +73,45 @@ returns-in_ok-set_products-clause-queues g c =
     let at = goal.at.returns-in_ok-set_products-clause-queues g c in
     let inside : c.args.node < length c.make_queue_room.new.nodes.items = omega (arith, (room_of g at.After-make_queue_room).formed.all_nodes, c.requires.node) in
     let few = row_lacks g.R.Rank.KEYS g.R.Rank.key c.args.self.now.tree.now c.args.self.now.entries.entries c.make_queue_room.new.nodes.items (room_of g at.After-make_queue_room).formed c.args.node c.args.row c.requires.node c.requires.row c.index-lists.result.now c.index-lists.ensures c.product_count.result c.child_count.result c.product_count.ensures c.child_count.ensures c.if-product_count-child_count.true in
-    let fresh = subst (λ (z : List (NodeStreamsView g.row.R.Denot)). AreFreshTo g.R.Rank.KEYS g.R.Rank.key c.args.self.now.tree.now z c.args.node c.args.row (child_count c.args.self.now.tree.now c.args.node) c.in_ok-products.products.items) c.as_slice.ensures.value c.in_ok-products.ensures.fresh in
+    let fresh = subst (λ (z : List (NodeStreamsView g.row.R.Denot)). AreFreshTo g.R.Rank.KEYS g.R.Rank.key c.args.self.now.tree.now z c.args.node c.args.row (child_count c.args.self.now.tree.now c.args.node) c.make_products.new.products.items) c.as_slice.ensures.value c.in_ok-make_products.ensures.fresh in
     λ v r k. subst (λ q. length (product_of (slice_set c.make_queue_room.new.nodes.items c.args.node c.set_products.new.self) v r k).frontier ≤ max 1 q + 0) (room_queues g at.After-make_queue_room v r k) (
     subst (λ (z : List (NodeStreamsView g.row.R.Denot)). (v r k : ℕ) → length (product_of z v r k).frontier ≤ max 1 (length (product_of c.make_queue_room.new.nodes.items v r k).frontier) + 0)
-    (sym (opened_is c.make_queue_room.new.nodes.items c.args.node c.args.row c.index_mut.result.now c.set_products.new.self c.in_ok-products.products.items inside c.index_mut.ensures.value c.in_ok-set_products.ensures.set))
-    (opened_queues g.R.Rank.KEYS g.R.Rank.key c.args.self.now.tree.now c.args.self.now.entries.entries c.make_queue_room.new.nodes.items (room_of g at.After-make_queue_room).formed c.requires.tie_free c.args.node c.args.row c.requires.node c.requires.row c.in_ok-products.products.items fresh few.0 few.1) v r k)
+    (sym (opened_is c.make_queue_room.new.nodes.items c.args.node c.args.row c.index_mut.result.now c.set_products.new.self c.make_products.new.products.items inside c.index_mut.ensures.value c.in_ok-set_products.ensures.set))
+    (opened_queues g.R.Rank.KEYS g.R.Rank.key c.args.self.now.tree.now c.args.self.now.entries.entries c.make_queue_room.new.nodes.items (room_of g at.After-make_queue_room).formed c.requires.tie_free c.args.node c.args.row c.requires.node c.requires.row c.make_products.new.products.items fresh few.0 few.1) v r k)
 
-pub set_products-requires : goal.set_products-requires
-set_products-requires g c =
-    let at = goal.at.set_products-requires g c in
+pub set_products-requires-clause-row : goal.set_products-requires-clause-row
+set_products-requires-clause-row g c =
+    let at = goal.at.set_products-requires-clause-row g c in
     let inside : c.args.node < length c.make_queue_room.new.nodes.items = omega (arith, (room_of g at.After-make_queue_room).formed.all_nodes, c.requires.node) in
     let few = row_lacks g.R.Rank.KEYS g.R.Rank.key c.args.self.now.tree.now c.args.self.now.entries.entries c.make_queue_room.new.nodes.items (room_of g at.After-make_queue_room).formed c.args.node c.args.row c.requires.node c.requires.row c.index-lists.result.now c.index-lists.ensures c.product_count.result c.child_count.result c.product_count.ensures c.child_count.ensures c.if-product_count-child_count.true in
     subst (λ n. c.args.row < length n.products) (lists_at c.make_queue_room.new.nodes.items c.args.node c.index_mut.result.now c.index_mut.ensures.value inside)
     (omega (arith, c.requires.row, (room_of g at.After-make_queue_room).formed.all_rows c.args.node c.requires.node, open_all (child_count c.args.self.now.tree.now c.args.node) (rows c.args.self.now.tree.now c.args.node) few.1))
+
+pub set_products-requires-clause-count : goal.set_products-requires-clause-count
+set_products-requires-clause-count g c =
+    let at = goal.at.set_products-requires-clause-count g c in
+    let headed = headed_of g.R.Rank.KEYS g.R.Rank.key c.args.self.now.tree.now c.args.self.now.entries.entries c.make_queue_room.new.nodes.items (room_of g at.After-make_queue_room).formed c.args.node c.args.row c.requires.node c.requires.row in
+    c.in_ok-make_products.ensures.fresh.count
+    ∙ sym (children_count g.R.Rank.KEYS g.R.Rank.key c.args.self.now.tree.now c.args.self.now.entries.entries c.make_queue_room.new.nodes.items c.args.node c.args.row c.index_mut.result.now headed c.requires.node c.index_mut.ensures.value)
 
 pub returns-in_err-make_queue_room-clause-formed : goal.returns-in_err-make_queue_room-clause-formed
 returns-in_err-make_queue_room-clause-formed g c =
     let at = goal.at.returns-in_err-make_queue_room-clause-formed g c in
     (room_of g at.After-make_queue_room).formed
 
-pub returns-in_err-products-clause-formed : goal.returns-in_err-products-clause-formed
-returns-in_err-products-clause-formed g c =
-    let at = goal.at.returns-in_err-products-clause-formed g c in
+pub returns-in_err-make_products-clause-formed : goal.returns-in_err-make_products-clause-formed
+returns-in_err-make_products-clause-formed g c =
+    let at = goal.at.returns-in_err-make_products-clause-formed g c in
     (room_of g at.After-make_queue_room).formed
 
-pub returns-in_err-products-clause-streams : goal.returns-in_err-products-clause-streams
-returns-in_err-products-clause-streams g c =
-    let at = goal.at.returns-in_err-products-clause-streams g c in
+pub returns-in_err-make_products-clause-streams : goal.returns-in_err-make_products-clause-streams
+returns-in_err-make_products-clause-streams g c =
+    let at = goal.at.returns-in_err-make_products-clause-streams g c in
     (room_of g at.After-make_queue_room).streams
 
-pub returns-in_err-products-clause-queues : goal.returns-in_err-products-clause-queues
-returns-in_err-products-clause-queues g c v r k =
-    let at = goal.at.returns-in_err-products-clause-queues g c in
+pub returns-in_err-make_products-clause-queues : goal.returns-in_err-make_products-clause-queues
+returns-in_err-make_products-clause-queues g c v r k =
+    let at = goal.at.returns-in_err-make_products-clause-queues g c in
     omega (arith, room_queues g at.After-make_queue_room v r k)
 
 -- the nodes after the products of a row were refused
@@ -173,20 +180,20 @@ index_mut-requires g c =
     let at = goal.at.index_mut-requires g c in
     omega (arith, (room_of g at.After-make_queue_room).formed.all_nodes, c.requires.node)
 
-pub made_products-requires-clause-formed : goal.made_products-requires-clause-formed
-made_products-requires-clause-formed g c =
+pub make_products-requires-clause-formed : goal.make_products-requires-clause-formed
+make_products-requires-clause-formed g c =
     c.requires.formed.tree
 
-pub made_products-requires-clause-tie_free : goal.made_products-requires-clause-tie_free
-made_products-requires-clause-tie_free g c =
+pub make_products-requires-clause-tie_free : goal.make_products-requires-clause-tie_free
+make_products-requires-clause-tie_free g c =
     c.requires.tie_free
 
-pub made_products-requires-clause-node : goal.made_products-requires-clause-node
-made_products-requires-clause-node g c =
+pub make_products-requires-clause-node : goal.make_products-requires-clause-node
+make_products-requires-clause-node g c =
     c.requires.node
 
-pub made_products-requires-clause-row : goal.made_products-requires-clause-row
-made_products-requires-clause-row g c =
+pub make_products-requires-clause-row : goal.make_products-requires-clause-row
+make_products-requires-clause-row g c =
     c.requires.row
 
 pub returns-in_err-make_queue_room-clause-above : goal.returns-in_err-make_queue_room-clause-above
@@ -237,19 +244,19 @@ returns-else-product_count-child_count-clause-count g c =
     let at = goal.at.returns-else-product_count-child_count-clause-count g c in
     row_whole g.R.Rank.KEYS g.R.Rank.key c.args.self.now.tree.now c.args.self.now.entries.entries c.make_queue_room.new.nodes.items (room_of g at.After-make_queue_room).formed c.args.node c.args.row c.requires.node c.requires.row c.index-lists.result.now c.index-lists.ensures c.product_count.result c.child_count.result c.product_count.ensures c.child_count.ensures c.if-product_count-child_count.false
 
-pub returns-in_err-products-clause-above : goal.returns-in_err-products-clause-above
-returns-in_err-products-clause-above g c =
-    let at = goal.at.returns-in_err-products-clause-above g c in
+pub returns-in_err-make_products-clause-above : goal.returns-in_err-make_products-clause-above
+returns-in_err-make_products-clause-above g c =
+    let at = goal.at.returns-in_err-make_products-clause-above g c in
     (room_of g at.After-make_queue_room).above
 
-pub returns-in_err-products-clause-room : goal.returns-in_err-products-clause-room
-returns-in_err-products-clause-room g c =
-    let at = goal.at.returns-in_err-products-clause-room g c in
-    on_ok c.from_residual-in_err-products.result (λ none. roomy g at.In_ok-make_queue_room)
+pub returns-in_err-make_products-clause-room : goal.returns-in_err-make_products-clause-room
+returns-in_err-make_products-clause-room g c =
+    let at = goal.at.returns-in_err-make_products-clause-room g c in
+    on_ok c.from_residual-in_err-make_products.result (λ none. roomy g at.In_ok-make_queue_room)
 
-pub returns-in_err-products-clause-cost : goal.returns-in_err-products-clause-cost
-returns-in_err-products-clause-cost g c =
-    omega (arith, c.made_products.ensures.cost)
+pub returns-in_err-make_products-clause-cost : goal.returns-in_err-make_products-clause-cost
+returns-in_err-make_products-clause-cost g c =
+    omega (arith, c.make_products.ensures.cost)
 
 pub returns-in_err-set_products-clause-above : goal.returns-in_err-set_products-clause-above
 returns-in_err-set_products-clause-above g c =
@@ -268,7 +275,7 @@ returns-in_err-set_products-clause-room g c =
 
 pub returns-in_err-set_products-clause-cost : goal.returns-in_err-set_products-clause-cost
 returns-in_err-set_products-clause-cost g c =
-    omega (arith, c.made_products.ensures.cost)
+    omega (arith, c.make_products.ensures.cost)
 
 pub returns-in_ok-set_products-clause-above : goal.returns-in_ok-set_products-clause-above
 returns-in_ok-set_products-clause-above g c =
@@ -279,7 +286,7 @@ pub returns-in_ok-set_products-clause-streams : goal.returns-in_ok-set_products-
 returns-in_ok-set_products-clause-streams g c =
     let at = goal.at.returns-in_ok-set_products-clause-streams g c in
     let inside : c.args.node < length c.make_queue_room.new.nodes.items = omega (arith, (room_of g at.After-make_queue_room).formed.all_nodes, c.requires.node) in
-    let stay = streams_stay c.make_queue_room.new.nodes.items c.args.node c.args.row c.index_mut.result.now c.set_products.new.self c.in_ok-products.products.items inside c.index_mut.ensures.value c.in_ok-set_products.ensures.set in
+    let stay = streams_stay c.make_queue_room.new.nodes.items c.args.node c.args.row c.index_mut.result.now c.set_products.new.self c.make_products.new.products.items inside c.index_mut.ensures.value c.in_ok-set_products.ensures.set in
     stay ∙ (room_of g at.After-make_queue_room).streams
     ∙ ap (λ (z : List (StreamView g.row.R.Denot)). (with_queue (lists_of c.args.self.now.nodes.items c.args.node) c.args.group (stream_of c.args.self.now.nodes.items c.args.node c.args.group).queue (get_or z c.args.group (record { head = 0; queue = []; room = 0 })).room).streams) (sym stay)
 
@@ -287,12 +294,12 @@ pub returns-in_ok-set_products-clause-room : goal.returns-in_ok-set_products-cla
 returns-in_ok-set_products-clause-room g c =
     let at = goal.at.returns-in_ok-set_products-clause-room g c in
     let inside : c.args.node < length c.make_queue_room.new.nodes.items = omega (arith, (room_of g at.After-make_queue_room).formed.all_nodes, c.requires.node) in
-    let stay = streams_stay c.make_queue_room.new.nodes.items c.args.node c.args.row c.index_mut.result.now c.set_products.new.self c.in_ok-products.products.items inside c.index_mut.ensures.value c.in_ok-set_products.ensures.set in
+    let stay = streams_stay c.make_queue_room.new.nodes.items c.args.node c.args.row c.index_mut.result.now c.set_products.new.self c.make_products.new.products.items inside c.index_mut.ensures.value c.in_ok-set_products.ensures.set in
     λ none. subst (λ (z : List (StreamView g.row.R.Denot)). can_enter (length (members c.args.self.now.tree.now c.args.node c.args.group)) ≤ (get_or z c.args.group (record { head = 0; queue = []; room = 0 })).room) (sym stay) (roomy g at.In_ok-make_queue_room)
 
 pub returns-in_ok-set_products-clause-cost : goal.returns-in_ok-set_products-clause-cost
 returns-in_ok-set_products-clause-cost g c =
-    omega (arith, c.made_products.ensures.cost)
+    omega (arith, c.make_products.ensures.cost)
 
 pub returns-in_err-set_products-clause-tree : goal.returns-in_err-set_products-clause-tree
 returns-in_err-set_products-clause-tree g c = refl
@@ -303,14 +310,14 @@ returns-in_err-set_products-clause-entries g c = refl
 pub returns-in_err-set_products-clause-count : goal.returns-in_err-set_products-clause-count
 returns-in_err-set_products-clause-count g c = none_done _ c.from_residual-in_err-set_products.result c.from_residual-in_err-set_products.ensures.0
 
-pub returns-in_err-products-clause-tree : goal.returns-in_err-products-clause-tree
-returns-in_err-products-clause-tree g c = refl
+pub returns-in_err-make_products-clause-tree : goal.returns-in_err-make_products-clause-tree
+returns-in_err-make_products-clause-tree g c = refl
 
-pub returns-in_err-products-clause-entries : goal.returns-in_err-products-clause-entries
-returns-in_err-products-clause-entries g c = refl
+pub returns-in_err-make_products-clause-entries : goal.returns-in_err-make_products-clause-entries
+returns-in_err-make_products-clause-entries g c = refl
 
-pub returns-in_err-products-clause-count : goal.returns-in_err-products-clause-count
-returns-in_err-products-clause-count g c = none_done _ c.from_residual-in_err-products.result c.from_residual-in_err-products.ensures.0
+pub returns-in_err-make_products-clause-count : goal.returns-in_err-make_products-clause-count
+returns-in_err-make_products-clause-count g c = none_done _ c.from_residual-in_err-make_products.result c.from_residual-in_err-make_products.ensures.0
 
 pub returns-in_err-make_queue_room-clause-tree : goal.returns-in_err-make_queue_room-clause-tree
 returns-in_err-make_queue_room-clause-tree g c = refl

@@ -30,3 +30,12 @@ returns-in_err-clone-clause-prefixes g c = none_given _ c.from_residual.result c
 
 pub returns-in_err-clone-clause-calls : goal.returns-in_err-clone-clause-calls
 returns-in_err-clone-clause-calls g c = none_given _ c.from_residual.result c.from_residual.ensures.0
+
+pub returns-in_err-clone-2-clause-tree : goal.returns-in_err-clone-2-clause-tree
+returns-in_err-clone-2-clause-tree g c = none_given _ c.from_residual-in_err-clone-2.result c.from_residual-in_err-clone-2.ensures.0
+
+pub returns-in_err-clone-2-clause-prefixes : goal.returns-in_err-clone-2-clause-prefixes
+returns-in_err-clone-2-clause-prefixes g c = none_given _ c.from_residual-in_err-clone-2.result c.from_residual-in_err-clone-2.ensures.0
+
+pub returns-in_err-clone-2-clause-calls : goal.returns-in_err-clone-2-clause-calls
+returns-in_err-clone-2-clause-calls g c = none_given _ c.from_residual-in_err-clone-2.result c.from_residual-in_err-clone-2.ensures.0

@@ -2,7 +2,7 @@ use Rattle.std.proofs.Common.{◌≡◌, ◌+◌, ◌*◌, get_or}
 use Rattle.tdp_model.specs.KeyTuple.{key_none}
 use Rattle.suffix_streams.specs.Rankings.{part_list}
 use Rattle.suffix_streams.specs.TreeStreams.{AreFreshTo}
-use Rattle.suffix_streams.proofs.reads.add_products.Given as goal
+use Rattle.suffix_streams.proofs.reads.make_products.Given as goal
 
 abbrev pub invariant-loop-child : goal.invariant-loop-child
 invariant-loop-child g l = record {

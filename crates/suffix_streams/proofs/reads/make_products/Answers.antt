@@ -1,4 +1,4 @@
-use Rattle.std.proofs.Common.{◌≡◌, ◌+◌, ◌<◌, length, sym, ◌∙◌, subst, arith}
+use Rattle.std.proofs.Common.{◌≡◌, ◌+◌, ◌<◌, length, sym, ap, ◌∙◌, subst, arith}
 use Rattle.std.proofs.lemmas.Bool.{cond-true, lt-ltb}
 use Rattle.tdp_core.specs.TreeView.{child_count, group_named}
 use Rattle.suffix_streams.specs.Rankings.{child}
@@ -6,12 +6,12 @@ use Rattle.suffix_streams.specs.TreeStreams.{stream_of, AreFreshTo}
 use Rattle.suffix_streams.proofs.Rankings.{own_first}
 use Rattle.suffix_streams.proofs.Firsts.{first_longer, firsts_fit}
 use Rattle.suffix_streams.proofs.Heads.{children_count, head_key, product_made}
-use Rattle.suffix_streams.proofs.reads.add_products.Goals as goal
+use Rattle.suffix_streams.proofs.reads.make_products.Goals as goal
 
 pub loop-child-init : goal.loop-child-init
 loop-child-init g c = record {
   key = c.row_at-rank.ensures.rank ∙ sym (own_first g.R.Rank.KEYS g.R.Rank.key c.args.tree.now c.requires.formed c.args.node c.args.row c.requires.node);
-  fresh = record { count = c.requires.none; first = λ i p l. absurd (omega arith) };
+  fresh = record { count = ap length c.clear.ensures.items; first = λ i p l. absurd (omega arith) };
   steps = omega (arith, c.row_at-rank.ensures.counted);
 }
 
