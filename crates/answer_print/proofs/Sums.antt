@@ -1,99 +1,121 @@
--- The parts of a combination's rows, added one after another.
-use Rattle.std.proofs.Common.{◌≡◌, ◌+◌, ◌<◌, ◌≤◌, ℕ, zero, suc, Bool, true, false, if◌then◌else◌, ℤ, pos, ◌+ℤ◌, ◌-ℤ◌, neg_ℤ, nat_abs, List, [], ◌∷◌, ◌++◌, map, length, slice_index, sym, ap, ◌∙◌, arith, FitsSigned}
+-- The terms of an order key, added one after another.
+use Rattle.std.proofs.Common.{◌≡◌, ◌+◌, ◌<◌, ◌≤◌, ℕ, zero, suc, Bool, true, false, if◌then◌else◌, ℤ, pos, ◌+ℤ◌, ◌-ℤ◌, neg_ℤ, nat_abs, unwrap_or, List, [], ◌∷◌, ◌++◌, map, length, take, get_or, slice_index, subst, sym, ap, ◌∙◌, arith, FitsSigned}
 use mir.Syntax.{w128}
-use Rattle.std.specs.List.{range_with_len}
 use Rattle.std.proofs.lemmas.Int.{ints, fits_signed_from_abs}
-use Rattle.std.proofs.lemmas.List.FromFn.{map-range_with_len_more}
+use Rattle.std.proofs.lemmas.List.{get_or-map, length-map, map-append, take_more}
 use Rattle.anyk_model.specs.Table.{Table}
-use Rattle.anyk_model.specs.Query.{Item, OrderKey, rank_of, sum_of, total}
-use Rattle.bound_query.specs.Inside.{KeyInside}
-use Rattle.bound_query.specs.Parts.{sum_of_all}
+use Rattle.anyk_model.specs.Weight.{weight_of}
+use Rattle.anyk_model.specs.Query.{OrderKey, Query, Term, term_value, total, value_of}
+use Rattle.bound_query.specs.Inside.{KeyInside, TermInside}
+use Rattle.bound_query.specs.StoredParts.{term_view}
 use Rattle.bound_query.specs.WeighedQuery.{BoundQuery, Fits}
-use Rattle.bound_query.specs.Weights.{KeyInRange, cap_of, key_at, most_sum, part_of, terms_size}
-use Rattle.bound_query.proofs.Parts.{caps_add, nat_abs_add, part_capped, parts_add}
+use Rattle.bound_query.specs.declared.bound.BoundTerm.{BoundTerm}
 use Rattle.bound_query.proofs.Lists.{all_at}
-
--- ---- the parts so far
+use Rattle.bound_query.specs.Weights.{KeyInRange, column_size, key_at, most_sum, terms_size}
+use Rattle.bound_query.proofs.Parts.{column_bounds, nat_abs_add, term_small}
 
 total_more : (xs : List ℤ) (x : ℤ) → total (xs ++ x ∷ []) ≡ total xs +ℤ x
 total_more [] x = omega (arith, ints)
 total_more (y ∷ xs) x = let h = total_more xs x in omega (arith, ints, h)
 
-sum_grows : (f : ℕ → ℕ) (first k n : ℕ) → k ≤ n → sum_of_all (map f (range_with_len first k)) ≤ sum_of_all (map f (range_with_len first n))
-sum_grows f first zero n h = omega arith
-sum_grows f first (suc k) zero h = absurd (omega arith)
-sum_grows f first (suc k) (suc n) h = let rest = sum_grows f (first + 1) k n (omega arith) in omega (arith, rest)
+module _ (query : Query) (tables : List Table) (rows : List ℕ) where
+  -- what the first terms add
+  abbrev pub added : ℕ → List Term → ℤ
+  added n terms = total (map (term_value query tables rows) (take n terms))
 
-module _ (tables : List Table) (items : List Item) (rows : List ℕ) (key : OrderKey) where
-  -- what the first items' rows add to a key
-  abbrev pub parts_so_far : ℕ → ℤ
-  parts_so_far n = total (map (λ i. part_of tables items i (slice_index rows i) key) (range_with_len 0 n))
+  abbrev size : Term → ℕ
+  size t = column_size tables query.items t.column
 
-  abbrev caps_of : List ℕ → ℕ
-  caps_of ns = sum_of_all (map (λ i. cap_of tables items i key) ns)
+  -- a term adds at most the greatest weight of its column
+  pub value_small : (t : Term) → nat_abs (term_value query tables rows t) ≤ size t
+  value_small t = term_small tables query.items (slice_index rows t.column.item) t
 
-  parts_small : (ns : List ℕ) → nat_abs (total (map (λ i. part_of tables items i (slice_index rows i) key) ns)) ≤ caps_of ns
-  parts_small [] = omega arith
-  parts_small (n ∷ ns) =
-      let h = parts_small ns in
-      let one = part_capped tables items (slice_index rows n) n key in
-      let both = nat_abs_add (part_of tables items n (slice_index rows n) key) (total (map (λ i. part_of tables items i (slice_index rows i) key) ns)) in
+  added_small : (n : ℕ) (terms : List Term) → nat_abs (added n terms) ≤ terms_size tables query.items terms
+  added_small zero terms = omega arith
+  added_small (suc n) [] = omega arith
+  added_small (suc n) (t ∷ terms) =
+      let h = added_small n terms in
+      let one = value_small t in
+      let both = nat_abs_add (term_value query tables rows t) (added n terms) in
       omega (arith, h, one, both)
 
-  pub parts_more : (n : ℕ) → parts_so_far (n + 1) ≡ parts_so_far n +ℤ part_of tables items n (slice_index rows n) key
-  parts_more n =
-      ap total (map-range_with_len_more (λ i. part_of tables items i (slice_index rows i) key) 0 n n (omega arith))
-      ∙ total_more (map (λ i. part_of tables items i (slice_index rows i) key) (range_with_len 0 n)) (part_of tables items n (slice_index rows n) key)
+  pub sum_small : (terms : List Term) → nat_abs (total (map (term_value query tables rows) terms)) ≤ terms_size tables query.items terms
+  sum_small [] = omega arith
+  sum_small (t ∷ terms) =
+      let h = sum_small terms in
+      let one = value_small t in
+      let both = nat_abs_add (term_value query tables rows t) (total (map (term_value query tables rows) terms)) in
+      omega (arith, h, one, both)
 
-  -- the sum so far and what the next row adds
-  pub part_added : (n row : ℕ) (sum part : ℤ) → sum ≡ parts_so_far n → part ≡ part_of tables items n row key → slice_index rows n ≡ row → sum +ℤ part ≡ parts_so_far (n + 1)
-  part_added n row sum part before here same =
-      ap (λ (z : ℤ). z +ℤ part) before ∙ ap (λ (z : ℤ). parts_so_far n +ℤ z) (here ∙ ap (λ (r : ℕ). part_of tables items n r key) (sym same)) ∙ sym (parts_more n)
+  -- one more term
+  pub added_more : (n : ℕ) (terms : List Term) (t d : Term) (sum value : ℤ) → sum ≡ added n terms → t ≡ get_or terms n d → value ≡ term_value query tables rows t → n < length terms
+      → sum +ℤ value ≡ added (n + 1) terms
+  added_more n terms t d sum value before at is inside =
+      ap (λ (z : ℤ). z +ℤ value) before ∙ ap (λ (z : ℤ). added n terms +ℤ z) (is ∙ ap (term_value query tables rows) at)
+      ∙ sym (total_more (map (term_value query tables rows) (take n terms)) (term_value query tables rows (get_or terms n d)))
+      ∙ ap total (sym (map-append (term_value query tables rows) (take n terms) (get_or terms n d ∷ [])))
+      ∙ ap (λ (l : List Term). total (map (term_value query tables rows) l)) (sym (take_more terms n d inside))
 
-  -- they are within the caps of all items, and so fit
-  parts_bounded : (n : ℕ) → KeyInside tables items key → terms_size tables items key.terms ≤ most_sum → n ≤ length items → nat_abs (parts_so_far n) ≤ most_sum
-  parts_bounded n inside size few =
-      let small = parts_small (range_with_len 0 n) in
-      let grows = sum_grows (λ i. cap_of tables items i key) 0 n (length items) few in
-      let all = caps_add tables items key inside in
-      omega (arith, small, grows, all, size)
+  -- the sum fits, if the greatest weights of the columns of all terms have a sum that does
+  pub added_fits : (n : ℕ) (terms : List Term) (z : ℤ) → terms_size tables query.items terms ≤ most_sum → z ≡ added n terms → FitsSigned w128 z
+  added_fits n terms z within is =
+      let small = added_small n terms in
+      fits_signed_from_abs w128 z (omega (arith, small, within, ap nat_abs is))
 
--- ---- the sum of a key of a query that fits its tables
+  -- the column of a term has no greater weights than all terms together
+  pub size_within : (n : ℕ) (terms : List Term) (d : Term) → n < length terms → size (get_or terms n d) ≤ terms_size tables query.items terms
+  size_within n [] d inside = absurd (omega arith)
+  size_within zero (t ∷ terms) d inside = omega arith
+  size_within (suc n) (t ∷ terms) d inside = let h = size_within n terms d (omega (arith, inside)) in omega (arith, h)
 
-module _ (bound : BoundQuery) (tables : List Table) (fits : Fits bound tables) (rows : List ℕ) (k : ℕ) (there : k < length bound.query.order) where
-  abbrev key : OrderKey
-  key = key_at bound.query.order k
+  -- the weight that a term reads, and the same negated
+  abbrev weight : Term → ℤ
+  weight t = unwrap_or (weight_of (value_of query tables rows t.column)) (pos 0)
 
-  abbrev so_far : ℕ → ℤ
-  so_far n = parts_so_far tables bound.query.items rows key n
-
-  inside : KeyInside tables bound.query.items key
-  inside = all_at (KeyInside tables bound.query.items) bound.query.order k (record { terms = []; descending = false }) fits.within.order there
-
-  pub bounded : (n : ℕ) → n ≤ length bound.query.items → nat_abs (so_far n) ≤ most_sum
-  bounded n few = parts_bounded tables bound.query.items rows key n inside (all_at (KeyInRange tables bound.query.items) bound.query.order k (record { terms = []; descending = false }) fits.range there) few
-
-  pub sum_fits : (n : ℕ) (z : ℤ) → n ≤ length bound.query.items → z ≡ so_far n → FitsSigned w128 z
-  sum_fits n z few is =
-      let small = bounded n few in
-      fits_signed_from_abs w128 z (omega (arith, small, ap nat_abs is))
-
-  pub negated_fits : (n : ℕ) (z : ℤ) → n ≤ length bound.query.items → z ≡ so_far n → FitsSigned w128 (pos 0 -ℤ z)
-  negated_fits n z few is =
-      let small = bounded n few in
+  pub negated_fits : (t : Term) (z : ℤ) → size t ≤ most_sum → z ≡ weight t → FitsSigned w128 (pos 0 -ℤ z)
+  negated_fits t z within is =
+      let small = column_bounds tables query.items (slice_index rows t.column.item) t.column in
       let same = ap nat_abs is in
-      fits_signed_from_abs w128 (pos 0 -ℤ z) (omega (arith, ints, small, same))
+      fits_signed_from_abs w128 (pos 0 -ℤ z) (omega (arith, ints, small, within, same))
 
-  as_compared : (b : Bool) (sum z : ℤ) → z ≡ (if b then neg_ℤ sum else sum) → (b ≡ true → pos 0 -ℤ z ≡ sum) × (b ≡ false → z ≡ sum)
-  as_compared true sum z e = ((λ t. omega (arith, ints, e)), (λ t. absurd (cc t)))
-  as_compared false sum z e = ((λ t. absurd (cc t)), (λ t. e))
+  signed : (minus : Bool) (z w : ℤ) → z ≡ w → (minus ≡ true → pos 0 -ℤ z ≡ (if minus then neg_ℤ w else w)) × (minus ≡ false → z ≡ (if minus then neg_ℤ w else w))
+  signed true z w is = ((λ t. omega (arith, ints, is)), (λ t. absurd (cc t)))
+  signed false z w is = ((λ t. absurd (cc t)), (λ t. is))
 
-  -- all parts give the sum, which is negated if the order descends
-  whole : (z : ℤ) → z ≡ so_far (length bound.query.items) → z ≡ rank_of bound.query tables rows key
-  whole z is = is ∙ parts_add bound.query tables rows key inside
+  pub value_negated : (t : Term) (z : ℤ) → z ≡ weight t → t.minus ≡ true → pos 0 -ℤ z ≡ term_value query tables rows t
+  value_negated t z is minus = (signed t.minus z (weight t) is).0 minus
 
-  pub descending_sum : (z : ℤ) → z ≡ so_far (length bound.query.items) → key.descending ≡ true → pos 0 -ℤ z ≡ sum_of bound.query tables rows key
-  descending_sum z is down = (as_compared key.descending (sum_of bound.query tables rows key) z (whole z is)).0 down
+  pub value_kept : (t : Term) (z : ℤ) → z ≡ weight t → t.minus ≡ false → z ≡ term_value query tables rows t
+  value_kept t z is plus = (signed t.minus z (weight t) is).1 plus
 
-  pub ascending_sum : (z : ℤ) → z ≡ so_far (length bound.query.items) → key.descending ≡ false → z ≡ sum_of bound.query tables rows key
-  ascending_sum z is up = (as_compared key.descending (sum_of bound.query tables rows key) z (whole z is)).1 up
+-- ---- a term of a key of a query that fits its tables
+
+abbrev pub no_term : BoundTerm
+no_term = record { minus = false; column = (0, 0) }
+
+pub record HasTerm (bound : BoundQuery) (tables : List Table) (key : OrderKey) (stored : List BoundTerm) (i : ℕ) : Type 0 where
+  pub place : i < length key.terms
+  pub same : term_view (get_or stored i no_term) ≡ get_or key.terms i (term_view no_term)
+  pub inside : TermInside tables bound.query.items (term_view (get_or stored i no_term))
+  pub small : column_size tables bound.query.items (term_view (get_or stored i no_term)).column ≤ most_sum
+  pub range : terms_size tables bound.query.items key.terms ≤ most_sum
+
+pub term_there : (bound : BoundQuery) (tables : List Table) → Fits bound tables → (k : ℕ) → k < length bound.query.order
+    → (stored : List BoundTerm) → map term_view stored ≡ (key_at bound.query.order k).terms → (i : ℕ) → i < length stored
+    → HasTerm bound tables (key_at bound.query.order k) stored i
+term_there bound tables fits k there stored shown i within =
+    let items = bound.query.items in
+    let key = key_at bound.query.order k in
+    let place : i < length key.terms = omega (arith, within, ap length shown, length-map stored term_view) in
+    let same : term_view (get_or stored i no_term) ≡ get_or key.terms i (term_view no_term) =
+    sym (get_or-map term_view stored i no_term (term_view no_term) within) ∙ ap (λ (l : List Term). get_or l i (term_view no_term)) shown in
+    let all = all_at (KeyInside tables items) bound.query.order k (record { terms = []; descending = false }) fits.within.order there in
+    let range = all_at (KeyInRange tables items) bound.query.order k (record { terms = []; descending = false }) fits.range there in
+    record {
+      place = place;
+      same = same;
+      inside = subst (TermInside tables items) (sym same) (all_at (TermInside tables items) key.terms i (term_view no_term) all place);
+      small = subst (λ (t : Term). column_size tables items t.column ≤ most_sum) (sym same)
+          (omega (arith, size_within bound.query tables [] i key.terms (term_view no_term) place, range));
+      range = range;
+    }

@@ -1,59 +1,29 @@
 //! The record of an answer.
-ghost use Rattle.std.specs.Prelude.{◌≡◌, ◌<◌, ◌++◌, [], if◌then◌else◌, length, map, option_map, take, IfOk, OnOk};
+ghost use Rattle.std.specs.Prelude.{◌≡◌, ◌<◌, ◌≤◌, ◌-◌, ◌++◌, ◌∷◌, [], List, ℕ, if◌then◌else◌, length, map, take, OnOk};
 ghost use Rattle.std.specs.Fmt.{decimal, signed_decimal};
-ghost use Rattle.anyk_model.specs.Output.{line_text, optional_field};
-ghost use Rattle.anyk_model.specs.Query.{IsCombination, row_counts, sum_of, value_of};
+ghost use Rattle.anyk_model.specs.Output.{line_text};
+ghost use Rattle.anyk_model.specs.Query.{IsCombination, row_counts, sum_of, term_value, value_of};
+ghost use Rattle.anyk_model.specs.Table.{field_at, table_at};
 ghost use Rattle.bound_query.specs.WeighedQuery.{Fits};
-ghost use Rattle.bound_query.specs.Weights.{key_at};
+ghost use Rattle.bound_query.specs.Inside.{TermInside};
+ghost use Rattle.bound_query.specs.StoredParts.{term_view};
+ghost use Rattle.bound_query.specs.Weights.{column_size, key_at, most_sum};
+ghost use Rattle.csv_tables.specs.WrittenRecords.{HasFields};
 ghost use Rattle.answer_print.specs.StyleView.{style_view};
 
-use crate::fields::{Fields, push_numbers, push_optional};
-use crate::number::{Number, Numbers};
+use crate::fields::{push_number, push_optional, push_signed};
 use crate::style::Style;
-use crate::writer::AnswerWriter;
-use bound_query::Query;
-use std::alloc::Global;
+use bound_query::{BoundTerm, Query};
+use csv_tables::RecordWriter;
 use step_counter::NoMemory;
 use table_store::Tables;
 
-/// The record of the answer with these rows, one for each item, counted from 1. Its fields are the
-/// cursor's name if there is one, the selected columns, and the sums of the order keys and the row
-/// numbers if they are shown. `NoMemory` if memory is refused.
-pub fn line(
-    alloc: Global,
-    query: &Query,
-    tables: &Tables,
-    rows: &[u32; 16],
-    style: &Style<'_>,
-) -> Result<Vec<u8>, NoMemory>
-    requires fits { Fits query.now tables.now }
-    requires rows { IsCombination (row_counts query.now.query.items tables.now)
-        (take (length query.now.query.items) rows.now) }
-    ensures { IfOk result
-        (λ text. text.items
-        ≡ line_text query.now.query tables.now (style_view style.now)
-        (take (length query.now.query.items) rows.now)) }
-{
-    let mut numbers = Numbers::new(alloc);
-    push_shown(&mut numbers, query, tables, rows, style)?;
-    let mut fields = Fields::new(alloc);
-    push_fields(
-        &mut fields,
-        query,
-        tables,
-        rows,
-        style.cursor,
-        numbers.as_slice(),
-    )?;
-    csv_tables::line(alloc, fields.as_slice())
-}
-
-/// Writes the record of the answer with these rows, as `line` gives it, by a writer that is kept
-/// for many records. `NoMemory` if memory is refused; the writer's text is then unspecified, and
-/// further records can be written.
+/// Writes the record of the answer with these rows, one for each item, counted from 1. Its fields
+/// are the cursor's name if there is one, the selected columns, and the sums of the order keys and
+/// the row numbers if they are shown. `NoMemory` if memory is refused; further records can be
+/// written then.
 pub fn write_line(
-    alloc: Global,
-    writer: &mut AnswerWriter,
+    records: &mut RecordWriter,
     query: &Query,
     tables: &Tables,
     rows: &[u32; 16],
@@ -63,72 +33,65 @@ pub fn write_line(
     requires rows { IsCombination (row_counts query.now.query.items tables.now)
         (take (length query.now.query.items) rows.now) }
     ensures { OnOk result
-        (writer.new ≡ line_text query.now.query tables.now (style_view style.now)
+        (records.new.text ≡ line_text query.now.query tables.now (style_view style.now)
         (take (length query.now.query.items) rows.now)) }
 {
-    writer.numbers.clear();
-    push_shown(&mut writer.numbers, query, tables, rows, style)?;
-    let mut fields = Fields::new(alloc);
-    push_fields(
-        &mut fields,
-        query,
-        tables,
-        rows,
-        style.cursor,
-        writer.numbers.as_slice(),
-    )?;
-    writer.records.write(fields.as_slice())
+    records.begin();
+    push_optional(records, style.cursor)?;
+    push_values(records, query, tables, rows)?;
+    push_shown(records, query, tables, rows, style)?;
+    records.end()
 }
 
-/// Appends the fields of the record: the cursor's name if there is one, the selected columns of the
-/// rows, and these numbers.
-fn push_fields<'a>(
-    fields: &mut Fields<'a>,
-    query: &Query,
-    tables: &'a Tables,
-    rows: &[u32; 16],
-    cursor: Option<&'a [u8]>,
-    numbers: &'a [Number],
-) -> Result<(), NoMemory>
-    requires fits { Fits query.now tables.now }
-    requires rows { IsCombination (row_counts query.now.query.items tables.now)
-        (take (length query.now.query.items) rows.now) }
-    ensures { OnOk result (map (λ f. f.now) fields.new.items ≡ map (λ f. f.now) fields.old.items
-        ++ (optional_field (option_map (λ name. name.now) cursor.entry)
-        ++ (map (value_of query.now.query tables.now
-        (take (length query.now.query.items) rows.now)) query.now.query.list ++ numbers.now))) }
-{
-    push_optional(fields, cursor)?;
-    push_values(fields, query, tables, rows)?;
-    push_numbers(fields, numbers)
-}
-
-/// Appends the selected columns of the rows, one row for each item, counted from 1. `NoMemory` if
+/// Writes the selected columns of the rows, one row for each item, counted from 1. `NoMemory` if
 /// memory is refused.
-pub fn push_values<'a>(
-    fields: &mut Fields<'a>,
+pub fn push_values(
+    records: &mut RecordWriter,
     query: &Query,
-    tables: &'a Tables,
+    tables: &Tables,
     rows: &[u32; 16],
 ) -> Result<(), NoMemory>
     requires fits { Fits query.now tables.now }
     requires rows { IsCombination (row_counts query.now.query.items tables.now)
         (take (length query.now.query.items) rows.now) }
-    ensures { OnOk result (map (λ f. f.now) fields.new.items ≡ map (λ f. f.now) fields.old.items
-        ++ map (value_of query.now.query tables.now
-        (take (length query.now.query.items) rows.now)) query.now.query.list) }
+    ensures { (fields : List (List ℕ)) → HasFields fields records.old.begun → OnOk result
+        (HasFields (fields ++ map (value_of query.now.query tables.now
+        (take (length query.now.query.items) rows.now)) query.now.query.list) records.new.begun) }
 {
     for (item, place) in query.columns() {
         let table = query.table_of(*item);
-        let row = rows[*item as usize];
-        fields.push(tables.field(table, row, *place))?;
+        push_value(records, tables, table, rows[*item as usize], *place)?;
     }
     Ok(())
 }
 
-/// Appends the numbers that the style shows, in decimal. `NoMemory` if memory is refused.
+/// Writes a field of a table. One that is its own number is written from that number, so that its
+/// bytes are not read. Tables and columns count from 0, and rows from 1. `NoMemory` if memory is
+/// refused.
+fn push_value(
+    records: &mut RecordWriter,
+    tables: &Tables,
+    table: u32,
+    row: u32,
+    column: u32,
+) -> Result<(), NoMemory>
+    requires table { table < length tables.now }
+    requires first { 1 ≤ row }
+    requires row { row ≤ length (table_at tables.now table).rows }
+    requires column { column < length (table_at tables.now table).names }
+    ensures { (fields : List (List ℕ)) → HasFields fields records.old.begun → OnOk result
+        (HasFields (fields ++ field_at (table_at tables.now table) (row - 1) column ∷ [])
+        records.new.begun) }
+{
+    match tables.own_number(table, row, column) {
+        Some(number) => push_number(records, number),
+        None => records.push(tables.field(table, row, column)),
+    }
+}
+
+/// Writes the numbers that the style shows, in decimal. `NoMemory` if memory is refused.
 fn push_shown(
-    numbers: &mut Numbers,
+    records: &mut RecordWriter,
     query: &Query,
     tables: &Tables,
     rows: &[u32; 16],
@@ -138,25 +101,25 @@ fn push_shown(
     requires rows { IsCombination (row_counts query.now.query.items tables.now)
         (take (length query.now.query.items) rows.now) }
     ensures { let chosen = take (length query.now.query.items) rows.now in
-        OnOk result (numbers.new.items ≡ numbers.old.items
-        ++ ((if style.now.ranks then map
+        (fields : List (List ℕ)) → HasFields fields records.old.begun → OnOk result
+        (HasFields (fields ++ ((if style.now.ranks then map
         (λ k. signed_decimal
         (sum_of query.now.query tables.now chosen k)) query.now.query.order else [])
-        ++ (if style.now.rows then map decimal chosen else []))) }
+        ++ (if style.now.rows then map decimal chosen else []))) records.new.begun) }
 {
     if style.ranks {
-        push_sums(numbers, query, tables, rows)?;
+        push_sums(records, query, tables, rows)?;
     }
     if style.rows {
-        push_rows(numbers, query, rows)?;
+        push_rows(records, query, rows)?;
     }
     Ok(())
 }
 
-/// Appends the sums of the order keys over these rows, one for each item, counted from 1.
-/// `NoMemory` if memory is refused.
+/// Writes the sums of the order keys over these rows, one for each item, counted from 1. `NoMemory`
+/// if memory is refused.
 pub fn push_sums(
-    numbers: &mut Numbers,
+    records: &mut RecordWriter,
     query: &Query,
     tables: &Tables,
     rows: &[u32; 16],
@@ -165,26 +128,30 @@ pub fn push_sums(
     requires rows { IsCombination (row_counts query.now.query.items tables.now)
         (take (length query.now.query.items) rows.now) }
     ensures { let chosen = take (length query.now.query.items) rows.now in
-        OnOk result (numbers.new.items ≡ numbers.old.items
-        ++ map (λ k. signed_decimal
-        (sum_of query.now.query tables.now chosen k)) query.now.query.order) }
+        (fields : List (List ℕ)) → HasFields fields records.old.begun → OnOk result
+        (HasFields (fields ++ map (λ k. signed_decimal
+        (sum_of query.now.query tables.now chosen k)) query.now.query.order) records.new.begun) }
 {
     for key in 0..query.keys() {
         let sum = key_sum(query, tables, rows, key);
-        numbers.push(Number::of_signed(sum))?;
+        push_signed(records, sum)?;
     }
     Ok(())
 }
 
-/// Appends the row numbers of the items, counted from 1. `NoMemory` if memory is refused.
-pub fn push_rows(numbers: &mut Numbers, query: &Query, rows: &[u32; 16]) -> Result<(), NoMemory>
-    ensures { OnOk result
-        (numbers.new.items ≡ numbers.old.items
-        ++ map decimal (take (length query.now.query.items) rows.now)) }
+/// Writes the row numbers of the items, counted from 1. `NoMemory` if memory is refused.
+pub fn push_rows(
+    records: &mut RecordWriter,
+    query: &Query,
+    rows: &[u32; 16],
+) -> Result<(), NoMemory>
+    ensures { (fields : List (List ℕ)) → HasFields fields records.old.begun → OnOk result
+        (HasFields (fields ++ map decimal (take (length query.now.query.items) rows.now))
+        records.new.begun) }
 {
     let items = query.items() as usize;
     for row in &rows[..items] {
-        numbers.push(Number::of(*row))?;
+        push_number(records, *row)?;
     }
     Ok(())
 }
@@ -200,8 +167,28 @@ pub fn key_sum(query: &Query, tables: &Tables, rows: &[u32; 16], key: u32) -> i1
         (take (length query.now.query.items) rows.now) (key_at query.now.query.order key) }
 {
     let mut sum: i128 = 0;
-    for item in 0..query.items() {
-        sum += query.part(tables, item, rows[item as usize], key);
+    for term in query.terms(key) {
+        sum += term_value(query, tables, rows, term);
     }
-    if query.descending(key) { -sum } else { sum }
+    sum
+}
+
+/// What a term of an order key adds at these rows: its weight, which is read from the tables,
+/// negated if the term is subtracted.
+fn term_value(query: &Query, tables: &Tables, rows: &[u32; 16], term: &BoundTerm) -> i128
+    requires fits { Fits query.now tables.now }
+    requires rows { IsCombination (row_counts query.now.query.items tables.now)
+        (take (length query.now.query.items) rows.now) }
+    requires inside { TermInside tables.now query.now.query.items (term_view term.now) }
+    requires small { column_size tables.now query.now.query.items (term_view term.now).column
+        ≤ most_sum }
+    ensures { result ≡ term_value query.now.query tables.now
+        (take (length query.now.query.items) rows.now) (term_view term.now) }
+{
+    let (item, place) = term.column;
+    let table = query.table_of(item);
+    let weight = tables
+        .weight(table, rows[item as usize], place)
+        .unwrap_or(0);
+    if term.minus { -weight } else { weight }
 }

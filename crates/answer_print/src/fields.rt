@@ -1,46 +1,39 @@
-//! The fields of a record, in order, borrowed from their sources.
-ghost use Rattle.std.specs.Prelude.{◌≡◌, ◌++◌, OnOk, map, option_map, string_bytes};
+//! Fields of a record, written one after another.
+ghost use Rattle.std.specs.Prelude.{◌≡◌, ◌++◌, ◌∷◌, [], List, ℕ, OnOk, decimal, option_map};
+ghost use Rattle.std.specs.Fmt.{signed_decimal};
 ghost use Rattle.anyk_model.specs.Output.{optional_field};
+ghost use Rattle.csv_tables.specs.WrittenRecords.{HasFields};
 
-use crate::number::Number;
-use smallvec::SmallVec;
+use csv_tables::RecordWriter;
+use number_text::NumberText;
 use step_counter::NoMemory;
 
-/// The fields of a record. Up to 12 are kept in place, more on the heap.
-pub type Fields<'a> = SmallVec<&'a [u8], 12>;
-
-/// Appends a field, if there is one. `NoMemory` if memory is refused.
-pub fn push_optional<'a>(fields: &mut Fields<'a>, field: Option<&'a [u8]>) -> Result<(), NoMemory>
-    ensures { OnOk result
-        (map (λ f. f.now) fields.new.items
-        ≡ map (λ f. f.now) fields.old.items
-        ++ optional_field (option_map (λ f. f.now) field.entry)) }
+/// Writes a field, if there is one. `NoMemory` if memory is refused.
+pub fn push_optional(records: &mut RecordWriter, field: Option<&[u8]>) -> Result<(), NoMemory>
+    ensures { (fields : List (List ℕ)) → HasFields fields records.old.begun → OnOk result
+        (HasFields (fields ++ optional_field (option_map (λ f. f.now) field.entry))
+        records.new.begun) }
 {
     if let Some(field) = field {
-        fields.push(field)?;
+        records.push(field)?;
     }
     Ok(())
 }
 
-/// Appends texts. `NoMemory` if memory is refused.
-pub fn push_texts<'a>(fields: &mut Fields<'a>, texts: &'a [String]) -> Result<(), NoMemory>
-    ensures { OnOk result
-        (map (λ f. f.now) fields.new.items
-        ≡ map (λ f. f.now) fields.old.items ++ map string_bytes texts.now) }
+/// Writes a number that is not negative, in decimal. `NoMemory` if memory is refused.
+pub fn push_number(records: &mut RecordWriter, number: u32) -> Result<(), NoMemory>
+    ensures { (fields : List (List ℕ)) → HasFields fields records.old.begun → OnOk result
+        (HasFields (fields ++ decimal number ∷ []) records.new.begun) }
 {
-    for text in texts {
-        fields.push(text.as_bytes())?;
-    }
-    Ok(())
+    let text = NumberText::of(number);
+    records.push(text.as_bytes())
 }
 
-/// Appends the texts of numbers. `NoMemory` if memory is refused.
-pub fn push_numbers<'a>(fields: &mut Fields<'a>, numbers: &'a [Number]) -> Result<(), NoMemory>
-    ensures { OnOk result
-        (map (λ f. f.now) fields.new.items ≡ map (λ f. f.now) fields.old.items ++ numbers.now) }
+/// Writes a number that may be negative, in decimal. `NoMemory` if memory is refused.
+pub fn push_signed(records: &mut RecordWriter, number: i128) -> Result<(), NoMemory>
+    ensures { (fields : List (List ℕ)) → HasFields fields records.old.begun → OnOk result
+        (HasFields (fields ++ signed_decimal number ∷ []) records.new.begun) }
 {
-    for number in numbers {
-        fields.push(number.as_bytes())?;
-    }
-    Ok(())
+    let text = NumberText::of_signed(number);
+    records.push(text.as_bytes())
 }

@@ -4,16 +4,12 @@
 
 mod answer;
 mod fields;
-mod number;
 mod printing;
 mod style;
 mod titles;
-mod writer;
 
-pub use answer::{key_sum, line, push_rows, push_sums, push_values, write_line};
-pub use fields::{Fields, push_numbers, push_optional, push_texts};
-pub use number::{Number, Numbers};
+pub use answer::{key_sum, push_rows, push_sums, push_values, write_line};
+pub use fields::{push_number, push_optional, push_signed};
 pub use printing::{print_answer, print_header};
 pub use style::Style;
-pub use titles::{header, push_names, push_numbered, title_of_cursor};
-pub use writer::AnswerWriter;
+pub use titles::{push_names, push_numbered, title_of_cursor, write_header};

@@ -9,17 +9,19 @@ ghost use Rattle.refusal_lines.specs.SinkState.{state_of};
 
 use crate::answer::write_line;
 use crate::style::Style;
-use crate::titles::header;
-use crate::writer::AnswerWriter;
+use crate::titles::write_header;
 use bound_query::Query;
+use csv_tables::RecordWriter;
 use outer_io::Sink;
 use refusal_lines::{Refusal, print};
 use std::alloc::Global;
 use table_store::Tables;
 
-/// Prints the header. `WriteFault` if the write failed, and `NoMemory` if memory is refused.
+/// Prints the header. `records` keeps the memory for it. `WriteFault` if the write failed, and
+/// `NoMemory` if memory is refused.
 pub fn print_header<'a, S: Sink>(
     alloc: Global,
+    records: &mut RecordWriter,
     query: &Query,
     tables: &Tables,
     style: &Style<'_>,
@@ -29,15 +31,14 @@ pub fn print_header<'a, S: Sink>(
     ensures { Printed (state_of S.Sink out.old) (state_of S.Sink out.new)
         (header_text query.now.query tables.now (style_view style.now)) result }
 {
-    let text = header(alloc, query, tables, style)?;
-    print(out, &text)
+    write_header(alloc, records, query, tables, style)?;
+    print(out, records.text())
 }
 
-/// Prints the record of the answer with these rows, one for each item, counted from 1. `writer`
+/// Prints the record of the answer with these rows, one for each item, counted from 1. `records`
 /// keeps the memory for it. `WriteFault` if the write failed, and `NoMemory` if memory is refused.
 pub fn print_answer<'a, S: Sink>(
-    alloc: Global,
-    writer: &mut AnswerWriter,
+    records: &mut RecordWriter,
     query: &Query,
     tables: &Tables,
     style: &Style<'_>,
@@ -51,6 +52,6 @@ pub fn print_answer<'a, S: Sink>(
         (line_text query.now.query tables.now (style_view style.now)
         (take (length query.now.query.items) rows.now)) result }
 {
-    write_line(alloc, writer, query, tables, rows, style)?;
-    print(out, writer.text())
+    write_line(records, query, tables, rows, style)?;
+    print(out, records.text())
 }

@@ -185,7 +185,7 @@ module _ (tables : List Table) (items : List Item) (row : ℕ) where
       let w = weight_small (table_in tables items c.item).rows (row - 1) c.place in
       omega (arith, p, w)
 
-  term_small : (t : Term) → nat_abs (row_term tables items row t) ≤ column_size tables items t.column
+  pub term_small : (t : Term) → nat_abs (row_term tables items row t) ≤ column_size tables items t.column
   term_small t =
       let s = signed_size t.minus (worth_at tables items row t.column) in
       let w = column_bounds t.column in

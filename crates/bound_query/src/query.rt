@@ -3,14 +3,14 @@ ghost use Rattle.std.specs.Prelude.{◌≡◌, ◌↔◌, IsTrue, ◌<◌, ◌�
 ghost use Rattle.anyk_model.specs.Table.{Table};
 ghost use Rattle.bound_query.specs.Items.{item_at};
 ghost use Rattle.bound_query.specs.Graph.{IsGraphOf};
-ghost use Rattle.bound_query.specs.StoredParts.{column_view, equality_view, lists_view};
+ghost use Rattle.bound_query.specs.StoredParts.{column_view, equality_view, lists_view, term_view};
 ghost use Rattle.bound_query.specs.Classes.{AreVariablesOf, Passes};
 ghost use Rattle.bound_query.specs.FilterViews.{filter_view};
 ghost use Rattle.bound_query.specs.WeighedQuery.{Fits, variables_at};
 ghost use Rattle.bound_query.specs.WeighedView.{weighed_view};
 ghost use Rattle.bound_query.specs.Weights.{cap_of, key_at, part_of, table_in};
 
-use crate::bound::{BoundEquality, ItemWeights, Variables, part_at};
+use crate::bound::{BoundEquality, BoundTerm, ItemWeights, Variables, part_at};
 use crate::filters::{Filter, stands};
 use crate::item_sets::item_sets;
 use crate::selection::Selection;
@@ -120,6 +120,14 @@ impl Query {
         ensures { map column_view result.now ≡ self.now.query.list }
     {
         self.selection.columns()
+    }
+
+    /// The terms of an order key.
+    pub fn terms(&self, key: u32) -> &[BoundTerm]
+        requires { key < length self.now.query.order }
+        ensures { map term_view result.now ≡ (key_at self.now.query.order key).terms }
+    {
+        self.selection.terms(key)
     }
 
     /// Whether an order key descends.

@@ -1,10 +1,10 @@
 //! A query with a column for each reference, before its weights.
 ghost use Rattle.std.specs.Prelude.{◌≡◌, ◌<◌, ◌≤◌, length, map};
 ghost use Rattle.bound_query.specs.Items.{item_at};
-ghost use Rattle.bound_query.specs.StoredParts.{column_view, equality_view, items_view, key_view};
+ghost use Rattle.bound_query.specs.StoredParts.{column_view, equality_view, items_view, key_view, term_view};
 ghost use Rattle.bound_query.specs.Weights.{key_at};
 
-use crate::bound::{BoundEquality, BoundItem, BoundKey};
+use crate::bound::{BoundEquality, BoundItem, BoundKey, BoundTerm};
 use std::marker::Model;
 
 /// A query whose names are bound to the columns of tables.
@@ -125,6 +125,14 @@ impl Selection {
         ensures { map column_view result.now ≡ self.now.list }
     {
         self.list.as_slice()
+    }
+
+    /// The terms of an order key.
+    pub fn terms(&self, key: u32) -> &[BoundTerm]
+        requires { key < length self.now.order }
+        ensures { map term_view result.now ≡ (key_at self.now.order key).terms }
+    {
+        self.keys[key as usize].terms.as_slice()
     }
 
     /// Whether an order key descends.

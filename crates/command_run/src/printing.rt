@@ -9,8 +9,9 @@ ghost use Rattle.step_bounds.specs.Steps.{Paced, calls_for, steps_for, whole_lin
 ghost use Rattle.refusal_lines.specs.Printing.{Printed};
 ghost use Rattle.refusal_lines.specs.SinkState.{state_of};
 
-use answer_print::{AnswerWriter, Style, print_answer, print_header};
+use answer_print::{Style, print_answer, print_header};
 use bound_query::Query;
+use csv_tables::RecordWriter;
 use outer_io::Sink;
 use refusal_lines::Refusal;
 use std::alloc::Global;
@@ -45,24 +46,14 @@ pub fn print_ranking<'a, E: Ranked, S: Sink, L: Ledger>(
         (cut query.now.query.limit (combinations_in query.now.query (E.rest engine.old))))
         (drop (length (header_text query.now.query tables.now (style_view style.now))) part) + 1) }
 {
-    print_header(alloc, query, tables, style, out)?;
-    let mut records = AnswerWriter::new(alloc);
-    print_answers(
-        alloc,
-        &mut records,
-        query,
-        tables,
-        style,
-        engine,
-        out,
-        steps,
-    )
+    let mut records = RecordWriter::new(alloc);
+    print_header(alloc, &mut records, query, tables, style, out)?;
+    print_answers(&mut records, query, tables, style, engine, out, steps)
 }
 
 /// Prints the answers, up to the limit or the engine's end. `records` keeps the memory for them.
 fn print_answers<'a, E: Ranked, S: Sink, L: Ledger>(
-    alloc: Global,
-    records: &mut AnswerWriter,
+    records: &mut RecordWriter,
     query: &Query,
     tables: &Tables,
     style: &Style<'_>,
@@ -86,7 +77,7 @@ fn print_answers<'a, E: Ranked, S: Sink, L: Ledger>(
         let Some(answer) = engine.next(steps)? else {
             return Ok(());
         };
-        print_answer(alloc, records, query, tables, style, &answer.rows, out)?;
+        print_answer(records, query, tables, style, &answer.rows, out)?;
     }
     if query.limit().is_none() {
         return Err(Refusal::NoMemory);

@@ -13,8 +13,9 @@ ghost use Rattle.witness_key.specs.WitnessKey.{AreCombinations, combinations_in}
 ghost use Rattle.command_session.specs.Costs.{Paid, calls_at};
 
 use crate::open_cursors::OpenCursor;
-use answer_print::{AnswerWriter, Style, print_answer};
+use answer_print::{Style, print_answer};
 use bound_query::Query;
+use csv_tables::RecordWriter;
 use cursor_set::{CursorId, Cursors};
 use outer_io::Sink;
 use refusal_lines::{Refusal, print};
@@ -29,7 +30,7 @@ use tdp_core::{Answer, Ranked};
 /// limit.
 pub(crate) fn print_next<'a, E: Ranked, S: Sink, L: Ledger>(
     alloc: Global,
-    records: &mut AnswerWriter,
+    records: &mut RecordWriter,
     query: &Query,
     tables: &Tables,
     style: &Style<'_>,
@@ -79,7 +80,7 @@ pub(crate) fn print_next<'a, E: Ranked, S: Sink, L: Ledger>(
         let Some(answer) = next_member(set, id, cursor, query.limit(), steps)? else {
             return print_end(alloc, cursor.name, out);
         };
-        print_answer(alloc, records, query, tables, &named, &answer.rows, out)?;
+        print_answer(records, query, tables, &named, &answer.rows, out)?;
     }
     Ok(())
 }

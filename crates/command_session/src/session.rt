@@ -17,8 +17,9 @@ ghost use Rattle.command_session.specs.Costs.{IsWithin, Paid};
 
 use crate::moving::print_next;
 use crate::open_cursors::{OpenCursors, close, fork, number_of, open, rewind};
-use answer_print::{AnswerWriter, Style, print_header};
+use answer_print::{Style, print_header};
 use bound_query::Query;
+use csv_tables::RecordWriter;
 use cursor_set::{CursorId, Cursors, MAX_OPEN};
 use outer_io::Sink;
 use refusal_lines::Refusal;
@@ -66,9 +67,9 @@ pub fn print_session<'a, E: Ranked + Drop, S: Sink, L: Ledger>(
         rows: style.rows,
         cursor: Some(b""),
     };
-    print_header(alloc, query, tables, &titled, out)?;
+    let mut records = RecordWriter::new(alloc);
+    print_header(alloc, &mut records, query, tables, &titled, out)?;
     let mut set = Cursors::new(alloc, engine);
-    let mut records = AnswerWriter::new(alloc);
     print_steps(
         alloc,
         &mut records,
@@ -85,7 +86,7 @@ pub fn print_session<'a, E: Ranked + Drop, S: Sink, L: Ledger>(
 /// Prints what the steps print, over a set without an open cursor.
 fn print_steps<'a, E: Ranked, S: Sink, L: Ledger>(
     alloc: Global,
-    records: &mut AnswerWriter,
+    records: &mut RecordWriter,
     query: &Query,
     tables: &Tables,
     style: &Style<'_>,
@@ -136,7 +137,7 @@ fn print_steps<'a, E: Ranked, S: Sink, L: Ledger>(
 /// refused.
 fn take_step<'a, 's, E: Ranked, S: Sink, L: Ledger>(
     alloc: Global,
-    records: &mut AnswerWriter,
+    records: &mut RecordWriter,
     query: &Query,
     tables: &Tables,
     style: &Style<'_>,
@@ -197,7 +198,7 @@ fn take_step<'a, 's, E: Ranked, S: Sink, L: Ledger>(
 /// Takes the step `next` of the cursor with this name.
 fn take_next<'a, E: Ranked, S: Sink, L: Ledger>(
     alloc: Global,
-    records: &mut AnswerWriter,
+    records: &mut RecordWriter,
     query: &Query,
     tables: &Tables,
     style: &Style<'_>,

@@ -11,8 +11,9 @@ ghost use Rattle.union_list.specs.UnionOutput.{union_header_text, union_line_tex
 ghost use Rattle.union_all.specs.Firsts.{tagged_view};
 ghost use Rattle.command_union.specs.UnionSteps.{AreMembers, IsMember, UnionPaced, union_steps};
 
-use answer_print::{AnswerWriter, Style};
+use answer_print::Style;
 use bound_query::Query;
+use csv_tables::RecordWriter;
 use outer_io::Sink;
 use refusal_lines::{Refusal, print};
 use std::alloc::Global;
@@ -20,7 +21,7 @@ use std::sync::ledger::Ledger;
 use step_counter::Steps;
 use table_store::Tables;
 use tdp_core::Ranked;
-use union_all::{Merge, Tagged, header_of, write_line_of};
+use union_all::{Merge, Tagged, write_header_of, write_line_of};
 
 /// Prints the header, and then the members that the merge has left, as many as the limit allows.
 /// `NoMemory` if memory is refused, and `WriteFault` if a write failed.
@@ -52,10 +53,9 @@ pub fn print_union<'a, 'q, E: Ranked + Drop, S: Sink, L: Ledger>(
         (drop (length (union_header_text all tables.now (style_view style.now))) part)
         + 1) members) }
 {
-    print_union_header(alloc, queries, tables, style, out)?;
-    let mut records = AnswerWriter::new(alloc);
+    let mut records = RecordWriter::new(alloc);
+    print_union_header(alloc, &mut records, queries, tables, style, out)?;
     print_members(
-        alloc,
         &mut records,
         queries,
         tables,
@@ -67,10 +67,11 @@ pub fn print_union<'a, 'q, E: Ranked + Drop, S: Sink, L: Ledger>(
     )
 }
 
-/// Prints the record above the members. `WriteFault` if the write failed, and `NoMemory` if memory
+/// Prints the record above the members. `records` keeps the memory for it. `WriteFault` if the write failed, and `NoMemory` if memory
 /// is refused.
 fn print_union_header<'a, S: Sink>(
     alloc: Global,
+    records: &mut RecordWriter,
     queries: &[Query],
     tables: &Tables,
     style: &Style<'_>,
@@ -82,15 +83,14 @@ fn print_union_header<'a, S: Sink>(
         (union_header_text (map (λ q. q.query) queries.now) tables.now
         (style_view style.now)) result }
 {
-    let text = header_of(alloc, queries, tables, style)?;
-    print(out, &text)
+    write_header_of(alloc, records, queries, tables, style)?;
+    print(out, records.text())
 }
 
 /// Prints the members, up to the limit or the end of the union. `records` keeps the memory for a
 /// record.
 fn print_members<'a, 'q, E: Ranked + Drop, S: Sink, L: Ledger>(
-    alloc: Global,
-    records: &mut AnswerWriter,
+    records: &mut RecordWriter,
     queries: &[Query],
     tables: &Tables,
     style: &Style<'_>,
@@ -116,7 +116,7 @@ fn print_members<'a, 'q, E: Ranked + Drop, S: Sink, L: Ledger>(
         let Some(tagged) = merge.next(steps)? else {
             return Ok(());
         };
-        print_member(alloc, records, &tagged, queries, tables, style, out)?;
+        print_member(records, &tagged, queries, tables, style, out)?;
     }
     if limit.is_none() {
         return Err(Refusal::NoMemory);
@@ -127,8 +127,7 @@ fn print_members<'a, 'q, E: Ranked + Drop, S: Sink, L: Ledger>(
 /// Prints the record of a member. `records` keeps the memory for it. `WriteFault` if the write
 /// failed, and `NoMemory` if memory is refused.
 fn print_member<'a, S: Sink>(
-    alloc: Global,
-    records: &mut AnswerWriter,
+    records: &mut RecordWriter,
     tagged: &Tagged,
     queries: &[Query],
     tables: &Tables,
@@ -143,6 +142,6 @@ fn print_member<'a, S: Sink>(
         (union_line_text all tables.now (style_view style.now)
         (tagged_view all tagged.now)) result }
 {
-    write_line_of(alloc, records, tagged, queries, tables, style)?;
+    write_line_of(records, tagged, queries, tables, style)?;
     print(out, records.text())
 }

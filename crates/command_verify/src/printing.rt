@@ -8,8 +8,9 @@ ghost use Rattle.bound_query.specs.WeighedQuery.{Fits};
 ghost use Rattle.refusal_lines.specs.Printing.{Printed};
 ghost use Rattle.refusal_lines.specs.SinkState.{state_of};
 
-use answer_print::{AnswerWriter, Style, print_answer, print_header};
+use answer_print::{Style, print_answer, print_header};
 use bound_query::Query;
+use csv_tables::RecordWriter;
 use outer_io::Sink;
 use refusal_lines::Refusal;
 use std::alloc::Global;
@@ -33,13 +34,14 @@ pub fn print_listed<'a, S: Sink>(
         (output_of query.now.query tables.now (style_view style.now)
         (map (take (length query.now.query.items)) answers.now)) result }
 {
-    print_header(alloc, query, tables, style, out)?;
-    print_records(alloc, query, tables, style, answers, out)
+    let mut records = RecordWriter::new(alloc);
+    print_header(alloc, &mut records, query, tables, style, out)?;
+    print_records(&mut records, query, tables, style, answers, out)
 }
 
-/// Prints the record of each answer.
+/// Prints the record of each answer. `records` keeps the memory for them.
 fn print_records<'a, S: Sink>(
-    alloc: Global,
+    records: &mut RecordWriter,
     query: &Query,
     tables: &Tables,
     style: &Style<'_>,
@@ -54,9 +56,8 @@ fn print_records<'a, S: Sink>(
         (flat_map (line_text query.now.query tables.now (style_view style.now))
         (map (take (length query.now.query.items)) answers.now)) result }
 {
-    let mut records = AnswerWriter::new(alloc);
     for answer in answers {
-        print_answer(alloc, &mut records, query, tables, style, answer, out)?;
+        print_answer(records, query, tables, style, answer, out)?;
     }
     Ok(())
 }

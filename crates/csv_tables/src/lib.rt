@@ -20,4 +20,4 @@ mod writing;
 
 pub use fault::TableFault;
 pub use reading::TableReader;
-pub use writing::{RecordWriter, line};
+pub use writing::RecordWriter;

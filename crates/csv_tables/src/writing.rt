@@ -1,7 +1,8 @@
 //! The texts of records.
-ghost use Rattle.std.specs.Prelude.{◌≡◌, ◌++◌, [], IfOk, OnOk, map};
+ghost use Rattle.std.specs.Prelude.{◌≡◌, ◌==◌, ◌+◌, ◌-◌, ◌^◌, ◌++◌, ◌∷◌, [], List, ℕ, OnOk, false, length, min, not, true};
 ghost use Rattle.anyk_model.specs.Output.{record_text};
-ghost use Rattle.csv_tables.specs.WrittenRecords.{IsBetween, bytes_under};
+ghost use Rattle.csv.specs.Writing.{field_text, fields_written, has_written, next_sep, tail_text, writer_pending, writer_setup};
+ghost use Rattle.csv_tables.specs.WrittenRecords.{HasFields, IsBetween, any_length, bytes_under};
 
 use csv::{Writer, WriterBuilder};
 use std::alloc::Global;
@@ -12,49 +13,63 @@ use step_counter::NoMemory;
 /// writer replaces it.
 const MAX_KEPT: usize = 16_384;
 
-/// Writes records one after another, as `csv` writes them by default, each with its line end.
-/// Contracts see the text of the record that was written last.
+/// Writes records one after another, as `csv` writes them by default, each with its line end, and
+/// each field by field. Contracts see the text of the record that was ended last, and what is
+/// written of the next one.
 #[derive(Drop)]
 pub struct RecordWriter {
     writer: Writer<Vec<u8>>,
     // Where the last record starts in what the writer has written.
     start: usize,
+    // Whether the record has a field and was not ended.
+    open: bool,
     alloc: Global,
 }
 
 impl Model for RecordWriter {
-    ghost use Rattle.std.specs.Prelude.{List, ℕ, drop, length, ◌≤◌};
-    ghost use Rattle.csv_tables.specs.WrittenRecords.{IsBetween, bytes_under};
+    ghost use Rattle.csv_tables.specs.RecordWriters.{RecordView, record_view, KeepsRecords};
 
-    ghost Value = { List ℕ };
+    ghost Value = { RecordView };
 
-    ghost view = { λ w. drop w.start (bytes_under w.writer) };
+    ghost view = { record_view };
 
-    ghost invariant = { λ w. IsBetween w.writer × (w.start ≤ length (bytes_under w.writer)) };
+    ghost invariant = { KeepsRecords };
 }
 
 impl RecordWriter {
     /// A writer without a record. Takes no memory.
     pub fn new(alloc: Global) -> RecordWriter
-        ensures { result ≡ [] }
+        ensures text { result.text ≡ [] }
+        ensures fields { HasFields [] result.begun }
     {
         RecordWriter {
             writer: new_writer(alloc),
             start: 0,
+            open: false,
             alloc,
         }
     }
 
-    /// Writes a record of these fields, which replaces the one before. `NoMemory` if memory is
-    /// refused; `text` is then unspecified, and further records can be written.
-    pub fn write(&mut self, fields: &[&[u8]]) -> Result<(), NoMemory>
-        ensures { OnOk result (self.new ≡ record_text (map (λ f. f.now) fields.now)) }
+    /// Begins a record, which has no field yet. What was written of a record that was not ended is
+    /// left out.
+    pub fn begin(&mut self)
+        ensures { HasFields [] self.new.begun }
     {
-        if self.writer.get_ref().len() > MAX_KEPT {
+        if self.open || self.writer.get_ref().len() > MAX_KEPT {
             renew(&mut self.writer, self.alloc);
+            self.open = false;
         }
         self.start = self.writer.get_ref().len();
-        let written = append_record(&mut self.writer, fields);
+    }
+
+    /// Writes one more field of the record. `NoMemory` if memory is refused; another record can be
+    /// begun then.
+    pub fn push(&mut self, field: &[u8]) -> Result<(), NoMemory>
+        ensures { (fields : List (List ℕ)) → HasFields fields self.old.begun
+            → OnOk result (HasFields (fields ++ field.now ∷ []) self.new.begun) }
+    {
+        self.open = true;
+        let written = write_field(&mut self.writer, field);
         if written.is_err() {
             renew(&mut self.writer, self.alloc);
             self.start = 0;
@@ -62,11 +77,29 @@ impl RecordWriter {
         written
     }
 
-    /// The text of the record that was written last.
-    pub fn text(&self) -> &[u8]
-        ensures { result.now ≡ self.now }
+    /// Ends the record. `NoMemory` if memory is refused; another record can be begun then.
+    pub fn end(&mut self) -> Result<(), NoMemory>
+        ensures { (fields : List (List ℕ)) → HasFields fields self.old.begun
+            → OnOk result (self.new.text ≡ record_text fields) }
     {
-        &self.writer.get_ref()[self.start..]
+        let ended = end_record(&mut self.writer);
+        self.open = false;
+        if ended.is_err() {
+            renew(&mut self.writer, self.alloc);
+            self.start = 0;
+        }
+        ended
+    }
+
+    /// The text of the record that was ended last, until another one is begun.
+    pub fn text(&self) -> &[u8]
+        ensures { result.now ≡ self.now.text }
+    {
+        let written = self.writer.get_ref();
+        if self.start > written.len() {
+            return &[];
+        }
+        &written[self.start..]
     }
 }
 
@@ -90,35 +123,40 @@ fn renew(writer: &mut Writer<Vec<u8>>, alloc: Global)
     *writer = new_writer(alloc);
 }
 
-/// Writes a record of these fields after the earlier ones. Nothing is known of the writer if memory
-/// is refused.
-fn append_record(writer: &mut Writer<Vec<u8>>, fields: &[&[u8]]) -> Result<(), NoMemory>
-    requires { IsBetween writer.old }
-    ensures between { OnOk result (IsBetween writer.new) }
-    ensures bytes { OnOk result
-        (bytes_under writer.new
-        ≡ bytes_under writer.old ++ record_text (map (λ f. f.now) fields.now)) }
+/// Writes one more field of a record. Nothing is known of the writer if memory is refused.
+fn write_field(writer: &mut Writer<Vec<u8>>, field: &[u8]) -> Result<(), NoMemory>
+    requires { writer_setup writer.old ≡ any_length }
+    ensures setup { OnOk result (writer_setup writer.new ≡ any_length) }
+    ensures bytes { OnOk result (bytes_under writer.new ++ writer_pending writer.new
+        ≡ (bytes_under writer.old ++ writer_pending writer.old)
+        ++ (next_sep any_length (fields_written writer.old)
+        ++ field_text any_length field.now)) }
+    ensures fields { OnOk result
+        (fields_written writer.new ≡ min (fields_written writer.old + 1) (2 ^ 64 - 1)) }
+    ensures first { OnOk result (has_written writer.old ≡ false
+        → has_written writer.new ≡ not (length (field_text any_length field.now) == 0)) }
+    ensures stays { OnOk result (has_written writer.old ≡ true → has_written writer.new ≡ true) }
 {
-    let Ok(()) = writer.write_fields(fields) else {
+    let Ok(()) = writer.write_field(field) else {
+        return Err(NoMemory);
+    };
+    Ok(())
+}
+
+/// Writes the end of a record, and all that the writer holds. Nothing is known of the writer if
+/// memory is refused.
+fn end_record(writer: &mut Writer<Vec<u8>>) -> Result<(), NoMemory>
+    requires { writer_setup writer.old ≡ any_length }
+    ensures between { OnOk result (IsBetween writer.new) }
+    ensures bytes { OnOk result (bytes_under writer.new
+        ≡ (bytes_under writer.old ++ writer_pending writer.old)
+        ++ tail_text any_length (has_written writer.old) (fields_written writer.old)) }
+{
+    let Ok(()) = writer.end_record() else {
         return Err(NoMemory);
     };
     let Ok(()) = writer.flush() else {
         return Err(NoMemory);
     };
     Ok(())
-}
-
-/// A record of these fields as `csv` writes it by default, with its line end. `NoMemory` if memory
-/// is refused.
-pub fn line(alloc: Global, fields: &[&[u8]]) -> Result<Vec<u8>, NoMemory>
-    ensures { IfOk result (λ v. v.items ≡ record_text (map (λ f. f.now) fields.now)) }
-{
-    let mut writer = WriterBuilder::new().from_writer(Vec::new(alloc));
-    let Ok(()) = writer.write_fields(fields) else {
-        return Err(NoMemory);
-    };
-    let Ok(text) = writer.into_inner() else {
-        return Err(NoMemory);
-    };
-    Ok(text)
 }

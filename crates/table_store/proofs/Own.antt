@@ -70,6 +70,17 @@ pub number_text : (texts : List (List ℕ)) (field : List ℕ) → own_number fi
     → number_in texts field ≡ first_text + position_or_len (bytes_eq field) texts
 number_text texts field e = ap (λ (o : Option ℕ). unwrap_or o (first_text + position_or_len (bytes_eq field) texts)) e
 
+-- a field is its own number if its number is below the first text, and else it is a text
+pub own_below : (texts : List (List ℕ)) (field : List ℕ) (n : ℕ) → n ≡ number_in texts field → n < first_text → own_number field ≡ Some n
+own_below texts field n is small = by (own_number field) refl
+  where
+    by : (o : Option ℕ) → own_number field ≡ o → own_number field ≡ Some n
+    by (Some own) e = e ∙ ap (λ (k : ℕ). Some k) (sym (is ∙ number_own texts field own e))
+    by None e = absurd (omega (arith, small, is, number_text texts field e))
+
+pub own_above : (texts : List (List ℕ)) (field : List ℕ) (n : ℕ) → n ≡ number_in texts field → first_text ≤ n → own_number field ≡ None
+own_above texts field n is great = own_none field (λ own e. omega (arith, great, is, number_own texts field own e, (own_is_lem field own e).0))
+
 -- fields with one number of their own are one
 pub own_tell : (a b : List ℕ) (m n : ℕ) → own_number a ≡ Some m → own_number b ≡ Some n → m ≡ n → a ≡ b
 own_tell a b m n p q e = (own_is_lem a m p).1 ∙ ap decimal e ∙ sym (own_is_lem b n q).1

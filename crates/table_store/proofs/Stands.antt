@@ -1,11 +1,8 @@
 -- Texts that grow, and numbers that stand for fields.
-use Rattle.std.proofs.Common.{Result, Ok, Err, OnErr, arith, length-append, ◌≡◌, ◌<◌, ℕ, zero, suc, Bool, true, false, ◌||◌, if◌then◌else◌, List, [], ◌∷◌, ◌++◌, map, length, get_or, slice_get, Option, Some, None, is_some, refl, sym, ap, ◌∙◌, append_assoc}
+use Rattle.std.proofs.Common.{Result, Ok, Err, OnErr, arith, length-append, ◌≡◌, ◌<◌, ℕ, zero, suc, Bool, true, false, if◌then◌else◌, List, [], ◌∷◌, ◌++◌, length, get_or, Option, Some, None, is_some, refl, sym, ap, ◌∙◌, append_assoc}
 use Rattle.std.specs.List.{AllByRecursion, AllZip, list_any}
-use Rattle.std.specs.Option.{option_map}
 use Rattle.std.specs.Str.{bytes_eq}
-use Rattle.std.proofs.lemmas.List.{map-append, append-nil, get_or_append_left}
-use Rattle.std.proofs.lemmas.Option.{get_or_from_slice_get, slice_get-map}
-use Rattle.std.proofs.lemmas.Slice.Eq.{bytes_eq-Decides}
+use Rattle.std.proofs.lemmas.List.{append-nil, get_or_append_left}
 use Rattle.anyk_model.specs.Table.{Fields}
 use Rattle.table_store.specs.Values.{Extends, HasNumber, IsNumber, StandsFor, own_number, text_at, with_field, with_fields, with_rows, with_text}
 

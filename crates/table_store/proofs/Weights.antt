@@ -14,8 +14,8 @@ use Rattle.std.proofs.lemmas.Fmt.{IsAscii-from_digits, decimal_is_IsNumeral, len
 use Rattle.std.proofs.lemmas.Str.{IsUtf8-from_ascii, IsUtf8-nil}
 use Rattle.std.proofs.lemmas.Str.Parse.{IsNumeralModel, digit_from_value, numerals_by_value, tells_all_ascii_digits}
 use Rattle.anyk_model.specs.Weight.{are_digits, fits_i128, fitting, weight_of}
-use Rattle.table_store.specs.Values.{first_text, number_in, own_number}
-use Rattle.table_store.proofs.Own.{number_own, number_text, own_is_lem}
+use Rattle.table_store.specs.Values.{first_text, own_number}
+use Rattle.table_store.proofs.Own.{own_is_lem}
 
 -- a list that is told not to be empty has an element
 pub some_bytes : {b : Bool} (n : ℕ) → b ≡ (n == 0) → b ≡ false → 0 < n
@@ -136,12 +136,6 @@ weight_decimal n small =
     ∙ ap fitting (bare.1 ∙ ap (λ (k : ℕ). pos k) numeral.1)
     ∙ ap (λ b. if b then Some (pos n) else None) (lt-ltb n (2 ^ 127) (omega (arith, small)))
 
--- a number below the first text is the weight of its field
-pub number_weight : (texts : List (List ℕ)) (field : List ℕ) (n : ℕ) → n ≡ number_in texts field → n < first_text → weight_of field ≡ Some (pos n)
-number_weight texts field n is small = by (own_number field) refl
-  where
-    by : (o : Option ℕ) → own_number field ≡ o → weight_of field ≡ Some (pos n)
-    by (Some own) e =
-        let p = own_is_lem field own e in
-        ap weight_of p.1 ∙ weight_decimal own p.0 ∙ ap (λ (k : ℕ). Some (pos k)) (sym (is ∙ number_own texts field own e))
-    by None e = absurd (omega (arith, small, is, number_text texts field e))
+-- a field that is its own number has that number as its weight
+pub own_weight : (field : List ℕ) (n : ℕ) → own_number field ≡ Some n → (n < first_text) × (weight_of field ≡ Some (pos n))
+own_weight field n e = let p = own_is_lem field n e in (p.0, ap weight_of p.1 ∙ weight_decimal n p.0)

@@ -1,5 +1,5 @@
 -- What the tables that were read keep.
-use Rattle.std.specs.Prelude.{◌≡◌, ℕ, ◌≤◌, List, [], ◌∷◌, map, length, None}
+use Rattle.std.specs.Prelude.{◌≡◌, ◌≤◌, List, [], ◌∷◌, map, length, None}
 use Rattle.std.specs.List.{AllByRecursion}
 use Rattle.anyk_model.specs.Table.{Table, flaw_of}
 use Rattle.table_store.specs.StoredTables.{IsStored, stored_view}

@@ -2,7 +2,7 @@
 ghost use Rattle.std.specs.Prelude.{◌≡◌, ◌+◌, ◌-◌, ◌*◌, ◌<◌, ◌≤◌, ◌∷◌, ◌++◌, [], IfOk, List, OnErr, OnOk, get_or, length, ℕ};
 ghost use Rattle.anyk_model.specs.Table.{Table, field_at, table_at};
 ghost use Rattle.anyk_model.specs.Weight.{weight_of};
-ghost use Rattle.table_store.specs.Values.{number_of, with_tables};
+ghost use Rattle.table_store.specs.Values.{number_of, own_number, with_tables};
 
 use crate::number::FIRST_TEXT;
 use crate::stored::StoredTable;
@@ -117,6 +117,24 @@ impl Tables {
         stored.rows.cells[(row as usize - 1) * stored.names.len() + column as usize]
     }
 
+    /// The number that a field writes as a decimal without a sign and without leading zeros, if it
+    /// is below `FIRST_TEXT`, and `None` for any other field. It is read without the bytes of the
+    /// field. Tables and columns count from 0, and rows from 1.
+    pub fn own_number(&self, table: u32, row: u32, column: u32) -> Option<u32>
+        requires table { table < length self.now }
+        requires first { 1 ≤ row }
+        requires row { row ≤ length (table_at self.now table).rows }
+        requires column { column < length (table_at self.now table).names }
+        ensures { result ≡ own_number (field_at (table_at self.now table) (row - 1) column) }
+    {
+        let number = self.value(table, row, column);
+        if number < FIRST_TEXT {
+            Some(number)
+        } else {
+            None
+        }
+    }
+
     /// The bytes of a field. Tables and columns count from 0, and rows from 1.
     pub fn field(&self, table: u32, row: u32, column: u32) -> &[u8]
         requires table { table < length self.now }
@@ -143,8 +161,7 @@ impl Tables {
         requires column { column < length (table_at self.now table).names }
         ensures { result ≡ weight_of (field_at (table_at self.now table) (row - 1) column) }
     {
-        let number = self.value(table, row, column);
-        if number < FIRST_TEXT {
+        if let Some(number) = self.own_number(table, row, column) {
             return Some(number as i128);
         }
         parse_weight(self.field(table, row, column))

@@ -4,9 +4,9 @@ ghost use Rattle.anyk_model.specs.Query.{IsCombination, row_counts};
 ghost use Rattle.bound_query.specs.WeighedQuery.{Fits};
 
 use crate::fixtures::{R, S, query_of, read_two};
-use answer_print::{AnswerWriter, Style, header, line, write_line};
+use answer_print::{Style, write_header, write_line};
 use bound_query::Query;
-use csv_tables::TableReader;
+use csv_tables::{RecordWriter, TableReader};
 use std::alloc::Global;
 use table_store::Tables;
 
@@ -54,10 +54,9 @@ fn style_of(case: &Case) -> Style<'static> {
 fn has_header(alloc: Global, query: &Query, tables: &Tables, case: &Case) -> bool
     requires { Fits query.now tables.now }
 {
-    match header(alloc, query, tables, &style_of(case)) {
-        Ok(text) => text.as_slice() == case.header.as_bytes(),
-        Err(_) => false,
-    }
+    let mut records = RecordWriter::new(alloc);
+    let written = write_header(alloc, &mut records, query, tables, &style_of(case));
+    written.is_ok() && records.text() == case.header.as_bytes()
 }
 
 /// Whether the line is printed.
@@ -66,20 +65,8 @@ fn has_line(alloc: Global, query: &Query, tables: &Tables, rows: &[u32; 16], cas
     requires rows { IsCombination (row_counts query.now.query.items tables.now)
         (take (length query.now.query.items) rows.now) }
 {
-    match line(alloc, query, tables, rows, &style_of(case)) {
-        Ok(text) => text.as_slice() == case.line.as_bytes(),
-        Err(_) => false,
-    }
-}
-
-/// Whether the line is written as a record.
-fn writes_line(alloc: Global, query: &Query, tables: &Tables, rows: &[u32; 16], case: &Case) -> bool
-    requires fits { Fits query.now tables.now }
-    requires rows { IsCombination (row_counts query.now.query.items tables.now)
-        (take (length query.now.query.items) rows.now) }
-{
-    let mut records = AnswerWriter::new(alloc);
-    let written = write_line(alloc, &mut records, query, tables, rows, &style_of(case));
+    let mut records = RecordWriter::new(alloc);
+    let written = write_line(&mut records, query, tables, rows, &style_of(case));
     written.is_ok() && records.text() == case.line.as_bytes()
 }
 
@@ -93,7 +80,6 @@ fn is_printed(alloc: Global, query: &Query, tables: &Tables, case: &Case) -> boo
     are_rows(query, tables, &rows)
         && has_header(alloc, query, tables, case)
         && has_line(alloc, query, tables, &rows, case)
-        && writes_line(alloc, query, tables, &rows, case)
 }
 
 /// The same for the query of the case's text.

@@ -1,17 +1,16 @@
 -- The sums of order keys as they are compared, and two lists of them.
-use Rattle.std.proofs.Common.{◌≡◌, ◌≢◌, ◌<◌, ◌≤◌, ◌+◌, ◌⊎◌, ◌∙◌, ℕ, ℤ, pos, ◌-ℤ◌, neg_ℤ, int_lt, nat_lt, Bool, true, false, if◌then◌else◌, List, [], ◌∷◌, map, length, drop, inl, inr, refl, sym, ap, arith, FitsSigned, length-drop}
+use Rattle.std.proofs.Common.{◌≡◌, ◌≢◌, ◌<◌, ◌≤◌, ◌+◌, ◌⊎◌, ◌∙◌, ℕ, ℤ, pos, ◌-ℤ◌, neg_ℤ, nat_abs, int_lt, nat_lt, Bool, true, false, if◌then◌else◌, List, [], ◌∷◌, map, length, drop, inl, inr, refl, sym, ap, arith, FitsSigned, length-drop}
 use mir.Syntax.{w128}
-use Rattle.std.proofs.lemmas.Int.{ints}
+use Rattle.std.proofs.lemmas.Int.{fits_signed_from_abs, ints}
 use Rattle.std.proofs.lemmas.List.{get_or-map, length-map}
 use Rattle.anyk_model.specs.Table.{Table}
 use Rattle.anyk_model.specs.Query.{OrderKey, rank_of, sum_of}
 use Rattle.anyk_model.specs.Ranking.{is_before}
-use Rattle.bound_query.specs.Inside.{KeyInside}
 use Rattle.bound_query.specs.WeighedQuery.{BoundQuery, Fits}
-use Rattle.bound_query.specs.Weights.{key_at}
-use Rattle.bound_query.proofs.Parts.{parts_add}
+use Rattle.bound_query.specs.Weights.{KeyInRange, key_at}
+use Rattle.bound_query.proofs.Parts.{nat_abs_neg}
 use Rattle.bound_query.proofs.Lists.{all_at, drop_step}
-use Rattle.answer_print.proofs.Sums.{sum_fits}
+use Rattle.answer_print.proofs.Sums.{sum_small}
 
 -- # One sum
 
@@ -19,12 +18,16 @@ negated : (b : Bool) (sum z : ℤ) → z ≡ sum → b ≡ true → pos 0 -ℤ z
 negated true sum z e t = omega (arith, ints, e)
 negated false sum z e t = absurd (cc t)
 
+rank_size : (b : Bool) (sum : ℤ) → nat_abs (if b then neg_ℤ sum else sum) ≡ nat_abs sum
+rank_size true sum = nat_abs_neg sum
+rank_size false sum = refl
+
 module _ (bound : BoundQuery) (tables : List Table) (fits : Fits bound tables) (rows : List ℕ) (k : ℕ) (there : k < length bound.query.order) where
   abbrev key : OrderKey
   key = key_at bound.query.order k
 
-  inside : KeyInside tables bound.query.items key
-  inside = all_at (KeyInside tables bound.query.items) bound.query.order k (record { terms = []; descending = false }) fits.within.order there
+  range : KeyInRange tables bound.query.items key
+  range = all_at (KeyInRange tables bound.query.items) bound.query.order k (record { terms = []; descending = false }) fits.range there
 
   -- if the key descends, its sum is compared with the other sign
   pub descending_rank : (z : ℤ) → z ≡ sum_of bound.query tables rows key → key.descending ≡ true → pos 0 -ℤ z ≡ rank_of bound.query tables rows key
@@ -32,7 +35,10 @@ module _ (bound : BoundQuery) (tables : List Table) (fits : Fits bound tables) (
 
   -- and it fits 128 bits as it is compared
   pub rank_fits : (z : ℤ) → z ≡ rank_of bound.query tables rows key → FitsSigned w128 z
-  rank_fits z is = sum_fits bound tables fits rows k there (length bound.query.items) z (omega arith) (is ∙ sym (parts_add bound.query tables rows key inside))
+  rank_fits z is =
+      let small = sum_small bound.query tables rows key.terms in
+      let same = rank_size key.descending (sum_of bound.query tables rows key) in
+      fits_signed_from_abs w128 z (omega (arith, small, range, same, ap nat_abs is))
 
 -- # Lists of sums
 

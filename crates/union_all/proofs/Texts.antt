@@ -1,4 +1,4 @@
--- The fields of the header and of a line, in two orders of appending.
+-- The fields of a line, in two orders of appending.
 use Rattle.std.proofs.Common.{◌≡◌, ◌<◌, ◌+◌, ◌-◌, ◌∙◌, ℕ, max, None, Bool, true, false, if◌then◌else◌, List, [], ◌∷◌, ◌++◌, map, length, take, get_or, replicate, refl, sym, ap, subst, append_assoc, append-nil, arith}
 use Rattle.std.specs.List.{All}
 use Rattle.std.proofs.lemmas.List.{get_or-map, length-map, map-append, take_more}
@@ -57,13 +57,8 @@ module _ {X : Type 0} where
       ap (λ (l : List X). os ++ (vs ++ l)) (append_assoc ss (d ∷ ms) es) ∙ sym (append_assoc os vs (ss ++ (d ∷ (ms ++ es)))) ∙ joined os vs ss (d ∷ (ms ++ es))
   line_joined false os vs ss ms es d = ap (λ (l : List X). os ++ (vs ++ l)) (append-nil (ss ++ [])) ∙ sym (append-nil (os ++ (vs ++ (ss ++ []))))
 
-  -- the first fields are all
-  pub all_first : (before after fields : List X) → before ≡ [] → after ≡ before ++ fields → after ≡ fields
-  all_first before after fields none is = is ∙ ap (λ (l : List X). l ++ fields) none
-
-  -- the titles of the branch's own numbers, and then those of the union
-  pub header_told : (cs ns ts rs bs : List X) → ts ≡ rs ++ bs → cs ++ (ns ++ ts) ≡ (cs ++ (ns ++ (rs ++ []))) ++ bs
-  header_told cs ns ts rs bs shown = ap (λ (l : List X). cs ++ (ns ++ l)) shown ∙ sym (append_assoc cs ns (rs ++ bs)) ∙ joined cs ns rs bs
+  pub four_parts : (a b c d : List X) → ((a ++ b) ++ c) ++ d ≡ a ++ (b ++ (c ++ d))
+  four_parts a b c d = append_assoc (a ++ b) c d ∙ append_assoc a b (c ++ d)
 
 -- # The fields of a line
 

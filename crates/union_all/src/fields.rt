@@ -1,17 +1,17 @@
 //! The empty fields of a record.
-ghost use Rattle.std.specs.Prelude.{◌≡◌, ◌++◌, [], OnOk, map, replicate};
+ghost use Rattle.std.specs.Prelude.{◌≡◌, ◌++◌, [], List, ℕ, OnOk, replicate};
+ghost use Rattle.csv_tables.specs.WrittenRecords.{HasFields};
 
-use answer_print::Fields;
+use csv_tables::RecordWriter;
 use step_counter::NoMemory;
 
-/// Appends empty fields.
-pub(crate) fn push_empty(fields: &mut Fields<'_>, count: u32) -> Result<(), NoMemory>
-    ensures { OnOk result
-        (map (λ f. f.now) fields.new.items
-        ≡ map (λ f. f.now) fields.old.items ++ replicate count []) }
+/// Writes empty fields.
+pub(crate) fn push_empty(records: &mut RecordWriter, count: u32) -> Result<(), NoMemory>
+    ensures { (fields : List (List ℕ)) → HasFields fields records.old.begun → OnOk result
+        (HasFields (fields ++ replicate count []) records.new.begun) }
 {
     for _field in 0..count {
-        fields.push(b"")?;
+        records.push(b"")?;
     }
     Ok(())
 }

@@ -18,7 +18,7 @@ mod merge;
 mod sums;
 mod tagged;
 
-pub use header::header_of;
+pub use header::write_header_of;
 pub use line::write_line_of;
 pub use merge::Merge;
 pub use tagged::Tagged;

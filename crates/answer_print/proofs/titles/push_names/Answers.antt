@@ -1,7 +1,8 @@
-use Rattle.std.proofs.Common.{◌≡◌, ℕ, [], get_or, ap, ◌∙◌}
+use Rattle.std.proofs.Common.{◌≡◌, ℕ, List, [], get_or, ap, subst, ◌∙◌}
 use Rattle.anyk_model.specs.Table.{table_at}
 use Rattle.anyk_model.specs.Output.{column_name}
 use Rattle.bound_query.specs.StoredParts.{column_view}
+use Rattle.csv_tables.specs.WrittenRecords.{HasFields}
 use Rattle.answer_print.proofs.Places.{column_there}
 use Rattle.answer_print.proofs.Pushing.{element_more}
 use Rattle.answer_print.proofs.titles.push_names.Goals as goal
@@ -21,12 +22,12 @@ name-requires-clause-column c =
     rw c.table_of.ensures there.column
 
 pub loop-item-preserved : goal.loop-item-preserved
-loop-item-preserved c =
+loop-item-preserved c = λ fields has.
     let query = c.args.query.now.query in
     let there = column_there query c.args.tables.now c.columns-item-items.result.now c.loop-item.item-index (0, 0) c.requires.within c.columns-item-items.ensures c.loop-item-test.true in
     let place = (get_or c.columns-item-items.result.now c.loop-item.item-index (0, 0)).1 in
     let named : c.name.result.now ≡ column_name query c.args.tables.now (get_or query.list c.loop-item.item-index (column_view (0, 0))) =
     c.name.ensures ∙ ap (λ (t : ℕ). get_or (table_at c.args.tables.now t).names place []) c.table_of.ensures
     ∙ ap (column_name query c.args.tables.now) there.same in
-    element_more (λ f. f.now) (column_name query c.args.tables.now) c.loop-item.fields.items c.push.new.self.items c.name.result _ query.list c.loop-item.item-index (column_view (0, 0))
-    c.loop-item.invariant c.in_ok-push.ensures.ok named there.place
+    let more = element_more (column_name query c.args.tables.now) fields query.list c.loop-item.item-index (column_view (0, 0)) _ named there.place in
+    subst (λ (fs : List (List ℕ)). HasFields fs c.push.new.self.begun) more (c.in_ok-push.ensures _ (c.loop-item.invariant fields has))

@@ -1,4 +1,4 @@
-use Rattle.std.proofs.Common.{◌≡◌, ℕ, List, Some, ap, sym, ◌∙◌}
+use Rattle.std.proofs.Common.{ℕ, List, Some, ap, sym, ◌∙◌}
 use Rattle.std.specs.Prelude.{slice_set}
 use Rattle.anyk_model.specs.Output.{cut, line_text}
 use Rattle.answer_print.specs.StyleView.{style_view}

@@ -3,10 +3,10 @@ use Rattle.refusal_lines.specs.declared.refusal.Refusal.TheVariants as refusal
 use Rattle.refusal_lines.proofs.Prints.{unprinted}
 use Rattle.command_union.proofs.printing.print_union_header.Goals as goal
 
-pub returns-in_err-text : goal.returns-in_err-text
-returns-in_err-text g c =
+pub returns-in_err-write_header_of : goal.returns-in_err-write_header_of
+returns-in_err-write_header_of g c =
     let e : c.from_residual.result ≡ Err refusal.NoMemory = search rules in
     rw e (unprinted _ _)
 
 pub returns : goal.returns
-returns g c = rw (c.deref.ensures.value, c.in_ok-text.ensures) at c.print.ensures
+returns g c = rw (c.text.ensures, c.in_ok-write_header_of.ensures) at c.print.ensures

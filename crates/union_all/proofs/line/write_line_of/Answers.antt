@@ -1,8 +1,9 @@
-use Rattle.std.proofs.Common.{◌≡◌, ℕ, List, ap, map, refl, rules, subst, OnOk}
-use Rattle.anyk_model.specs.Output.{record_text}
+use Rattle.std.proofs.Common.{◌≡◌, ◌+◌, ◌++◌, ◌∷◌, [], ℕ, List, OnOk, if◌then◌else◌, length, map, replicate, take, refl, subst}
+use Rattle.std.specs.Fmt.{decimal, signed_decimal}
+use Rattle.anyk_model.specs.Output.{optional_field, record_text}
+use Rattle.anyk_model.specs.Query.{OrderKey, sum_of, value_of}
 use Rattle.answer_print.specs.StyleView.{style_view}
-use Rattle.union_all.proofs.Texts.{line_is, rows_of}
-use Rattle.union_all.proofs.line.write_line_of.Goals.{in-Heap-1, in-Inline-1}
+use Rattle.union_all.proofs.Texts.{four_parts, line_is, rows_of}
 use Rattle.union_all.proofs.line.write_line_of.Goals as goal
 
 pub returns : goal.returns
@@ -14,9 +15,12 @@ returns c =
     let q = c.index-queries-tagged.result in
     let at = c.index-queries-tagged.is in
     let are = rows_of bounds t.branch c.requires.branch q at tables t.rows c.requires.rows in
-    let numbers = c.fill_numbers.new.numbers.items in
-    let told = line_is bounds tables style t.branch t.rows c.requires.branch q at are numbers _ c.lacking_items-lacking.result c.in_ok-fill_numbers.ensures c.lacking_items-lacking.ensures refl in
-    let written = rw (ap (map (λ f. f.now)) c.new-fields.ensures.items, c.as_slice.ensures) at c.write_fields.ensures in
-    let kept : c.match-fields.writer-inside.records ≡ c.write_fields.new.records =
-    elim c.match-fields.branch [ in-Heap-1 w ↦ search rules | in-Inline-1 w ↦ search rules ] in
-    subst (λ (fs : List (List ℕ)). OnOk c.write_fields.result (c.match-fields.writer-inside.records ≡ record_text fs)) told (rw kept written)
+    let chosen = take (length q.query.items) t.rows in
+    let cursor = optional_field style.cursor in
+    let values = map (value_of q.query tables chosen) q.query.list in
+    let numbers = (if style.ranks then map (λ (k : OrderKey). signed_decimal (sum_of q.query tables chosen k)) q.query.order else [])
+    ++ (if style.rows then decimal (t.branch + 1) ∷ map decimal chosen else []) in
+    let empty : List (List ℕ) = replicate c.lacking_items-lacking.result [] in
+    let has = c.in_ok-push_empty.ensures ((cursor ++ values) ++ numbers) (c.in_ok-push_shown.ensures (cursor ++ values) (c.in_ok-push_values.ensures cursor (c.in_ok-push_optional.ensures [] c.begin.ensures))) in
+    let told = line_is bounds tables style t.branch t.rows c.requires.branch q at are numbers (((cursor ++ values) ++ numbers) ++ empty) c.lacking_items-lacking.result refl c.lacking_items-lacking.ensures (four_parts cursor values numbers empty) in
+    subst (λ (fs : List (List ℕ)). OnOk c.end.result (c.end.new.self.text ≡ record_text fs)) told (c.end.ensures (((cursor ++ values) ++ numbers) ++ empty) has)

@@ -1,4 +1,4 @@
-use Rattle.std.proofs.Common.{◌≡◌, ◌∙◌, [], List, ℕ, ap, sym, take, subst}
+use Rattle.std.proofs.Common.{◌∙◌, [], ℕ, ap, sym, take, subst}
 use Rattle.table_store.specs.StoredTables.{IsStored, stored_view}
 use Rattle.table_store.specs.Values.{with_tables}
 use Rattle.table_store.proofs.Stands.{with_rows_extends}

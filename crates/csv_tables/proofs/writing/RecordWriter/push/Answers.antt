@@ -1,0 +1,13 @@
+use Rattle.std.proofs.Common.{sym, subst}
+use Rattle.csv_tables.specs.RecordWriters.{RecordView}
+use Rattle.csv_tables.specs.WrittenRecords.{HasFields}
+use Rattle.csv_tables.proofs.Written.{field_more, on_ok_four}
+use Rattle.csv_tables.proofs.writing.RecordWriter.push.Goals as goal
+
+pub returns-else-is_err : goal.returns-else-is_err
+returns-else-is_err c = λ fields has.
+    let own = subst (λ (v : RecordView). HasFields fields v.begun) (sym c.self.view_is) has in
+    let put = c.write_field-written.ensures in
+    on_ok_four c.write_field-written.result
+    (λ bytes counted first stays. field_more fields c.self.inside.start _ _ _ _ c.self.invariant.start own c.args.field.now _ _ bytes counted first stays)
+    put.bytes put.fields put.first put.stays
