@@ -1,8 +1,10 @@
 //! Entries of a store, and their names.
+ghost use Rattle.std.specs.Prelude.{◌≡◌, ◌+◌, ◌^◌, ◌<◌};
+
 use std::marker::Model;
 
 /// The name of an entry of a store. Contracts see its place there, from 0.
-#[derive(Clone, Copy, Debug, PartialEq, Eq)]
+#[derive(Clone, Copy, PartialEq, Eq)]
 pub struct EntryId {
     pub(crate) place: u32,
 }
@@ -15,6 +17,25 @@ impl Model for EntryId {
     ghost view = { λ e. e.place };
 
     ghost inverse = { λ n. record { place = n } };
+}
+
+impl EntryId {
+    /// The name of a store's first entry.
+    pub fn first() -> EntryId
+        ensures { result ≡ 0 }
+    {
+        EntryId { place: 0 }
+    }
+
+    /// The name of the entry that is `count` places after this one.
+    pub fn later(self, count: u32) -> EntryId
+        requires { self + count < 2 ^ 32 }
+        ensures { result ≡ self + count }
+    {
+        EntryId {
+            place: self.place + count,
+        }
+    }
 }
 
 /// An entry: a value, and the entry that follows it, if that is set.

@@ -65,7 +65,8 @@ impl<T, A: Allocator + Clone> Store<T, A> {
 
     /// The name that the next new entry will have.
     pub fn next_id(&self) -> EntryId
-        ensures { result ≡ length self.now.entries }
+        ensures id { result ≡ length self.now.entries }
+        ensures fits { result < 2 ^ 32 }
     {
         EntryId {
             place: self.len as u32,

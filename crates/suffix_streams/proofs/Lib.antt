@@ -6,6 +6,7 @@ pub mod Ranks
 pub mod Stores
 pub mod Chunks
 pub mod OpenedRows
+pub mod HeadedStreams
 pub mod NodeFacts
 pub mod Rows
 pub mod Firsts

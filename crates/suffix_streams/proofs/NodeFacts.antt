@@ -1,31 +1,55 @@
 -- A node in which one queue, one product or a row's products change.
-use Rattle.std.proofs.Common.{◌≡◌, ℕ, ◌<◌, List, [], length, get_or, slice_set, refl, sym, ap, ◌∙◌, subst}
+use Rattle.std.proofs.Common.{◌≡◌, ℕ, ◌+◌, ◌<◌, List, [], length, get_or, slice_set, refl, sym, ap, ◌∙◌, subst, arith}
 use Rattle.std.proofs.lemmas.List.{get_or-set_same}
+use Rattle.take2_heap.specs.Heap.{Heap}
+use Rattle.stream_cells.specs.declared.source.Source.{Source}
 use Rattle.suffix_streams.specs.ProductView.{ProductView}
-use Rattle.suffix_streams.specs.StreamView.{StreamView}
+use Rattle.suffix_streams.specs.StreamView.{StreamView, headed}
 use Rattle.suffix_streams.specs.NodeStreamsView.{NodeStreamsView, product_at, stream_at, with_product, with_queue}
-use Rattle.suffix_streams.proofs.Stores.{any_default, row_inside}
+use Rattle.suffix_streams.proofs.HeadedStreams.{stream_at_head, headed_length, headed_at, headed_set}
+use Rattle.suffix_streams.proofs.Stores.{row_inside}
 
--- a stream of a node, when a queue of the node changes
-pub queue_changed : {R : Type 0} (children : List ℕ) (streams : List (StreamView R)) (products : List (List (ProductView R))) (n : NodeStreamsView R) (g : ℕ) (s old : StreamView R)
-    → record { children = children; streams = streams; products = products } ≡ n → old ≡ get_or streams g old → s.head ≡ old.head → g < length n.streams
-    → (stream_at n g ≡ old) × (stream_at (record { children = children; streams = slice_set streams g s; products = products }) g ≡ s)
-    × (record { children = children; streams = slice_set streams g s; products = products } ≡ with_queue n g s.queue s.room)
-queue_changed {R} children streams products n g s old e o h l =
-    subst (λ (n : NodeStreamsView R). g < length n.streams → (stream_at n g ≡ old) × (stream_at (record { children = children; streams = slice_set streams g s; products = products }) g ≡ s)
-    × (record { children = children; streams = slice_set streams g s; products = products } ≡ with_queue n g s.queue s.room)) e literal l
-  where
-    literal : g < length streams → (stream_at (record { children = children; streams = streams; products = products }) g ≡ old)
-        × (stream_at (record { children = children; streams = slice_set streams g s; products = products }) g ≡ s)
-        × (record { children = children; streams = slice_set streams g s; products = products } ≡ with_queue (record { children = children; streams = streams; products = products }) g s.queue s.room)
-    literal l =
-        let was : get_or streams g (record { head = 0; queue = []; room = 0 }) ≡ old = any_default streams g (record { head = 0; queue = []; room = 0 }) old l ∙ sym o in
-        let is : s ≡ record { head = (get_or streams g (record { head = 0; queue = []; room = 0 })).head; queue = s.queue; room = s.room } =
-        ap (λ (k : ℕ). (let x : StreamView R = record { head = k; queue = s.queue; room = s.room } in x)) (h ∙ ap (λ z. z.head) (sym was)) in (
-          was,
-          get_or-set_same streams g s (record { head = 0; queue = []; room = 0 }) l,
-          ap (λ (x : StreamView R). (let n : NodeStreamsView R = record { children = children; streams = slice_set streams g x; products = products } in n)) is,
-        )
+module _ {R : Type 0} (children : List ℕ) (first : ℕ) (queues : List (Heap R Source)) (products : List (List (ProductView R))) (n : NodeStreamsView R)
+    (is : record { children = children; streams = headed first queues; products = products } ≡ n) (g : ℕ) (l : g < length n.streams) where
+  pub in_queues : g < length queues
+  in_queues = omega (arith, l, ap (λ (m : NodeStreamsView R). length m.streams) is, headed_length first queues)
+
+  -- a stream of a node, by its queue
+  pub queue_read : (q : Heap R Source) → q ≡ get_or queues g q → stream_at n g ≡ stream_at_head (first + g) q
+  queue_read q e =
+      ap (λ (m : NodeStreamsView R). stream_at m g) (sym is) ∙ headed_at first queues g (record { head = 0; queue = []; room = 0 }) q in_queues
+      ∙ ap (λ (p : Heap R Source). stream_at_head (first + g) p) (sym e)
+
+  pub head_read : (stream_at n g).head ≡ first + g
+  head_read =
+      ap (λ (m : NodeStreamsView R). (stream_at m g).head) (sym is)
+      ∙ ap (λ (s : StreamView R). s.head) (headed_at first queues g (record { head = 0; queue = []; room = 0 }) (record { entries = []; spare = 0 }) in_queues)
+
+  -- a stream of a node, when a queue of the node changes
+  pub queue_changed : (q old : Heap R Source) → old ≡ get_or queues g old
+      → (stream_at n g ≡ stream_at_head (first + g) old)
+      × (stream_at (record { children = children; streams = headed first (slice_set queues g q); products = products }) g ≡ stream_at_head (first + g) q)
+      × (record { children = children; streams = headed first (slice_set queues g q); products = products } ≡ with_queue n g q.entries q.spare)
+  queue_changed q old o = (was, ap (λ z. get_or z g (record { head = 0; queue = []; room = 0 })) set ∙ get_or-set_same (headed first queues) g (stream_at_head (first + g) q) (record { head = 0; queue = []; room = 0 }) inside, whole)
+    where
+      was : stream_at n g ≡ stream_at_head (first + g) old
+      was = queue_read old o
+
+      set : headed first (slice_set queues g q) ≡ slice_set (headed first queues) g (stream_at_head (first + g) q)
+      set = headed_set first queues g q
+
+      inside : g < length (headed first queues)
+      inside = omega (arith, in_queues, headed_length first queues)
+
+      node : List (StreamView R) → NodeStreamsView R
+      node streams = record { children = children; streams = streams; products = products }
+
+      changed : StreamView R → NodeStreamsView R → NodeStreamsView R
+      changed s m = record m { streams = slice_set m.streams g s }
+
+      whole : record { children = children; streams = headed first (slice_set queues g q); products = products } ≡ with_queue n g q.entries q.spare
+      whole = ap node set ∙ ap (changed (stream_at_head (first + g) q)) is
+          ∙ ap (λ (h : ℕ). changed (record { head = h; queue = q.entries; room = q.spare }) n) (sym (ap (λ (s : StreamView R). s.head) was))
 
 -- a product of a node, when it changes
 pub product_changed : {R : Type 0} (children : List ℕ) (streams : List (StreamView R)) (products : List (List (ProductView R))) (n : NodeStreamsView R) (r c : ℕ) (p : ProductView R)

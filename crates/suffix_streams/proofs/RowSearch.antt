@@ -4,6 +4,7 @@ use Rattle.stream_store.specs.declared.entry.Linked.{Linked}
 use Rattle.take2_heap.specs.declared.entry.Entry.{Entry}
 use Rattle.rank_key.specs.Bits.{bit_length}
 use Rattle.tdp_core.specs.TreeView.{NodeView, parent, rows, child_count, group_named}
+use Rattle.tdp_core.specs.WellFormed.{IsTieFreeTree}
 use Rattle.tdp_model.specs.Below.{is_below}
 use Rattle.tdp_model.specs.KeyTuple.{KeyOf}
 use Rattle.suffix_streams.specs.declared.stream.Found.{Found}
@@ -18,6 +19,7 @@ use Rattle.suffix_streams.proofs.Rankings.{kid, kid_below}
 use Rattle.suffix_streams.proofs.Heads.{lists_at}
 use Rattle.suffix_streams.proofs.Entries.{child_in}
 use Rattle.suffix_streams.proofs.Stores.{any_default}
+use Rattle.suffix_streams.proofs.FirstSums.{first_right}
 use Rattle.suffix_streams.proofs.StepCells.{cell_known}
 use Rattle.suffix_streams.proofs.Searching.{extended_none, extended_child, queues_child}
 use Rattle.suffix_streams.proofs.SearchRoom.{room_formed, room_count, room_extended, room_queues, room_within, room_unstepped, unstepped_on, unstepped_own}
@@ -148,6 +150,18 @@ module _ {R : Type 0} {d : ℕ} {key : R → KeyOf d 16} {t : List (NodeView R)}
 
   pub asked_unstepped : AreUnstepped v n o
   asked_unstepped = unstepped_on v n m o (made_unstepped a) (unstepped_own v m o k.own)
+
+  -- the product has solutions, and x is the data of the node that was read
+  pub asked_some : (x : NodeStreamsView R) → x ≡ get_or o v x → 0 < length (product_at x r (count - 1)).found
+  asked_some x read = subst (λ z. 0 < length (product_at z r (count - 1)).found) (lists_at o v x read (omega (arith, a.node, k.formed.all_nodes))) (k.formed.products v r (count - 1) a.node a.row k.in_row).sums.prefix.0
+
+  -- the first solution's right part is the head of the child's stream
+  pub asked_right : IsTieFreeTree t → (x : NodeStreamsView R) (right : ℕ) → x ≡ get_or o v x → ((first : Cell) → right ≡ (get_or (product_at x r (count - 1)).found 0 first).right)
+      → right ≡ (stream_of o (child t v (count - 1)) (group_named t v r (count - 1))).head
+  asked_right apart x right read is =
+      let first : Cell = record { left = 0; right = right } in
+      is first ∙ ap (λ z. (get_or (product_at z r (count - 1)).found 0 first).right) (sym (lists_at o v x read (omega (arith, a.node, k.formed.all_nodes))))
+      ∙ first_right d key t b o k.formed apart v r (count - 1) first a.node a.row k.in_row
 
 -- # The search with the other children was made
 

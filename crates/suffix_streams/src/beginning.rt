@@ -1,11 +1,12 @@
 //! The streams of a tree at their start, when each has only its head.
-ghost use Rattle.std.specs.Prelude.{◌≡◌, ◌≢◌, ℕ, ◌+◌, ◌*◌, ◌<◌, ◌≤◌, [], ◌∷◌, ◌++◌, None, length, slice_index, slice_index_or, IfOk, OnOk};
+ghost use Rattle.std.specs.Prelude.{◌≡◌, ◌≢◌, ℕ, ◌+◌, ◌*◌, ◌^◌, ◌<◌, ◌≤◌, [], ◌∷◌, ◌++◌, None, length, slice_index, slice_index_or, IfOk, OnOk};
 ghost use Rattle.stream_store.specs.declared.entry.Linked.{Linked};
 ghost use Rattle.take2_heap.specs.declared.entry.Entry.{Entry};
 ghost use Rattle.tdp_core.specs.TreeView.{rows, row_count, group_count, child_count, members};
 ghost use Rattle.tdp_core.specs.WellFormed.{IsFormed};
 ghost use Rattle.tdp_model.specs.KeyTuple.{key_none};
 ghost use Rattle.suffix_streams.specs.Rankings.{group_list};
+ghost use Rattle.suffix_streams.specs.StreamView.{IsNextHead};
 ghost use Rattle.suffix_streams.specs.TreeStreams.{open_rows, lists_of, IsHeaded};
 ghost use Rattle.suffix_streams.specs.Beginnings.{AreChildren, IsEmptyNode, HasFirst, IsBegunFrom};
 
@@ -19,7 +20,7 @@ use std::sync::ledger::Ledger;
 use step_counter::{NoMemory, Steps};
 use stream_cells::Source;
 use stream_model::Queue;
-use stream_store::Store;
+use stream_store::{EntryId, Store};
 use tdp_core::Tree;
 
 /// The children of a node, in ascending order.
@@ -75,6 +76,7 @@ fn empty_node<R: Rank, A: Allocator + Clone>(
     let streams = empty_streams(alloc, tree.groups(node))?;
     Ok(NodeStreams {
         children,
+        first_head: EntryId::first(),
         streams,
         products,
     })
@@ -97,8 +99,8 @@ pub(crate) fn empty_nodes<R: Rank, A: Allocator + Clone>(
     Ok(nodes)
 }
 
-/// The stream of a group with its head. The queue has the first solution of the group's first
-/// member.
+/// The stream of a group, after its head was added to the store. The queue has the first solution of
+/// the group's first member.
 fn first_stream<R: Rank, A: Allocator + Clone, L: Ledger>(
     tree: &Tree<R>,
     nodes: &[NodeStreams<R, A>],
@@ -112,20 +114,19 @@ fn first_stream<R: Rank, A: Allocator + Clone, L: Ledger>(
     requires group { group < group_count tree.now node }
     requires headed { IsHeaded R.KEYS R.key tree.now entries.old.entries nodes.now node
         (slice_index (members tree.now node group) 0) }
-    ensures head { IfOk result (λ s. s.head ≡ length entries.old.entries) }
     ensures only { IfOk result
-        (λ s. HasFirst R.KEYS R.key tree.now entries.old.entries node group s.queue) }
+        (λ s. HasFirst R.KEYS R.key tree.now entries.old.entries node group s.entries) }
     ensures entry { IfOk result (λ s.
         (e : Linked (Found R)) × (entries.new.entries ≡ entries.old.entries ++ e ∷ [])
         × (e.value.node ≡ node) × (e.value.group ≡ group) × (e.next ≡ None)
         × (R.key e.value.solution.rank
         ≡ slice_index_or (group_list R.KEYS R.key tree.now node group) 0 (key_none R.KEYS 16))
-        × ((d : Entry R Source) → e.value.solution ≡ slice_index_or s.queue 0 d)) }
+        × ((d : Entry R Source) → e.value.solution ≡ slice_index_or s.entries 0 d)) }
     ensures cost { steps.new ≤ steps.old + 5 }
 {
     let solution = first_solution(tree, nodes, entries, node, group, 0, steps);
     entries.reserve(1)?;
-    let head = entries.push_reserved(
+    entries.push_reserved(
         Found {
             node,
             group,
@@ -134,17 +135,25 @@ fn first_stream<R: Rank, A: Allocator + Clone, L: Ledger>(
         steps,
     );
     Ok(Stream {
-        head,
         queue: Queue::of(solution),
     })
 }
 
 impl<R: Rank, A: Allocator> NodeStreams<R, A> {
-    /// Adds the stream of the next group.
-    fn add_stream(&mut self, stream: Stream<R, A>) -> Result<(), NoMemory>
+    /// Adds the stream of the next group. Its head comes after that of the group before it.
+    /// `NoMemory` if memory is refused.
+    fn add_stream(&mut self, head: EntryId, stream: Stream<R, A>) -> Result<(), NoMemory>
+        requires next { IsNextHead self.old.streams head }
+        requires fits { head < 2 ^ 32 }
         ensures { OnOk result
-            (self.new ≡ record self.old { streams = self.old.streams ++ stream ∷ [] }) }
+            (self.new ≡ record self.old {
+              streams = self.old.streams
+                  ++ record { head = head; queue = stream.entries; room = stream.spare } ∷ [];
+            }) }
     {
+        if self.streams.is_empty() {
+            self.first_head = head;
+        }
         self.streams.push(stream)?;
         Ok(())
     }
@@ -168,8 +177,9 @@ pub(crate) fn begin_node<R: Rank, A: Allocator + Clone, L: Ledger>(
     ensures cost { steps.new ≤ steps.old + 5 * rows tree.now node }
 {
     for group in 0..tree.groups(node) {
+        let head = entries.next_id();
         let stream = first_stream(tree, nodes.as_slice(), entries, node, group, steps)?;
-        nodes[node as usize].add_stream(stream)?;
+        nodes[node as usize].add_stream(head, stream)?;
     }
     Ok(())
 }

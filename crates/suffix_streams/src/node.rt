@@ -28,23 +28,28 @@ use take2_heap::Entry;
 #[derive(Drop)]
 pub(crate) struct NodeStreams<R: Rank, A: Allocator> {
     pub(crate) children: Vec<u32, A>,
+    /// The first entry of the first group. Those of the other groups come after it in their order,
+    /// so that none is kept for each group.
+    pub(crate) first_head: EntryId,
     pub(crate) streams: Vec<Stream<R, A>, A>,
     pub(crate) products: RowProducts<R, A>,
 }
 
 impl<R: Rank, A: Allocator> Model for NodeStreams<R, A> {
-    ghost use Rattle.std.specs.Prelude.{◌≡◌, length};
+    ghost use Rattle.std.specs.Prelude.{◌≡◌, ◌+◌, ◌^◌, ◌≤◌, length};
+    ghost use Rattle.suffix_streams.specs.StreamView.{headed};
     ghost use Rattle.suffix_streams.specs.NodeStreamsView.{NodeStreamsView};
 
     ghost Value = { NodeStreamsView R };
 
     ghost view = { λ n. record {
       children = n.children.items;
-      streams = n.streams.items;
+      streams = headed n.first_head n.streams.items;
       products = n.products.rows;
     } };
 
-    ghost invariant = { λ n. n.products.width ≡ length n.children.items };
+    ghost invariant = { λ n. (n.products.width ≡ length n.children.items)
+        × (n.first_head + length n.streams.items ≤ 2 ^ 32) };
 }
 
 impl<R: Rank, A: Allocator> NodeStreams<R, A> {
@@ -68,8 +73,7 @@ impl<R: Rank, A: Allocator> NodeStreams<R, A> {
         requires { group < length self.now.streams }
         ensures { result ≡ (stream_at self.now group).head }
     {
-        let stream = &self.streams[group as usize];
-        stream.head
+        self.first_head.later(group)
     }
 
     /// The number of products of a row.
@@ -108,6 +112,21 @@ impl<R: Rank, A: Allocator> NodeStreams<R, A> {
             → result ≡ slice_index_or (product_at self.now row child).found place d }
     {
         self.product(row, child).cell(place)
+    }
+
+    /// What a sum's right part must be for another sum to be beside it: the right part of the
+    /// product's first sum. In the first product of a row no sum is beside another one, and `right`
+    /// is returned there.
+    pub(crate) fn head_beside(&self, row: u32, child: usize, right: EntryId) -> EntryId
+        requires child { child < length (slice_index_or self.now.products row []) }
+        requires some { 0 < length (product_at self.now row child).found }
+        ensures { (d : Cell) → 0 < child
+            → result ≡ (slice_index_or (product_at self.now row child).found 0 d).right }
+    {
+        if child == 0 {
+            return right;
+        }
+        self.cell(row, child, 0).right
     }
 
     /// The rank of this solution. The product must keep ranks.

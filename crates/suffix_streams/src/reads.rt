@@ -47,35 +47,6 @@ pub(crate) fn child_head<R: Rank, A: Allocator + Clone, L: Ledger>(
     nodes[child_node as usize].head(group)
 }
 
-/// What a sum's right part must be for another sum to be beside it: the first entry of the group
-/// that the row names for the child. A row has one solution without children, so no sum is beside
-/// another in its first product, and `right` is returned there.
-pub(crate) fn head_beside<R: Rank, A: Allocator + Clone, L: Ledger>(
-    tree: &Tree<R>,
-    nodes: &[NodeStreams<R, A>],
-    entries: &Store<Found<R>, A>,
-    node: u32,
-    row: u32,
-    child: usize,
-    right: EntryId,
-    steps: &mut Steps<L>,
-) -> EntryId
-    requires formed { IsFormed R.KEYS R.key tree.now }
-    requires node { node < length tree.now }
-    requires row { row < rows tree.now node }
-    requires child { child < child_count tree.now node }
-    requires headed { IsHeaded R.KEYS R.key tree.now entries.now.entries nodes.now node row }
-    ensures head { 0 < child → result
-        ≡ (stream_of nodes.now (child_node tree.now node child)
-        (group_named tree.now node row child)).head }
-    ensures cost { steps.new ≤ steps.old + 1 }
-{
-    if child == 0 {
-        return right;
-    }
-    child_head(tree, nodes, entries, node, row, child, steps)
-}
-
 /// The parts of the first solution of a row: the first solution of the row with its children but
 /// the last, and that of the last child's group. They say nothing if the node has no children.
 pub(crate) fn first_cell<R: Rank, A: Allocator + Clone, L: Ledger>(

@@ -17,7 +17,7 @@ ghost use Rattle.suffix_streams.specs.Growing.{IsStoreGrown, IsGrown, IsExtended
 use crate::members::pass_last;
 use crate::node::NodeStreams;
 use crate::product::Product;
-use crate::reads::{head_beside, make_products, offered, row_offer};
+use crate::reads::{make_products, offered, row_offer};
 use crate::stream::Found;
 use rank_key::Rank;
 use std::alloc::Allocator;
@@ -186,17 +186,9 @@ impl<'t, R: Rank, A: Allocator + Clone> Solutions<'t, R, A> {
         let cell = top.tag;
         make_room(&self.alloc, &mut self.nodes, node, row, child)?;
         let below = self.after(cell.right, steps)?;
-        let head = head_beside(
-            self.tree,
-            self.nodes.as_slice(),
-            &self.entries,
-            node,
-            row,
-            child,
-            cell.right,
-            steps,
-        );
-        let known = self.nodes[node as usize].known(row, child);
+        let lists = &self.nodes[node as usize];
+        let head = lists.head_beside(row, child, cell.right);
+        let known = lists.known(row, child);
         let (earlier, next) = left_search(&cell, head, child, known);
         self.extend(node, row, earlier, next, steps)?;
         self.step(node, row, child, &cell, below, head, steps);

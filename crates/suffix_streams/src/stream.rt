@@ -15,7 +15,6 @@ use std::sync::ledger::Ledger;
 use step_counter::{NoMemory, Steps};
 use stream_cells::Source;
 use stream_model::Queue;
-use stream_store::EntryId;
 use take2_heap::Entry;
 
 /// A subtree solution of a group, as the store has it: its rank, and the source that its rows are
@@ -27,36 +26,31 @@ pub(crate) struct Found<R> {
     pub(crate) group: u32,
 }
 
-/// The stream of a group: its first entry, and a queue of what follows. The queue's top is the last
-/// entry of the stream, until the entry after it is asked for. The queue begins with the first
-/// solution of the group's first member. The first solution of each other member enters when the
-/// one of the member above it in the group's heap is passed, and a later solution when the one
-/// before it is passed.
+/// The stream of a group: a queue of what follows it. The queue's top is the last entry of the
+/// stream, until the entry after it is asked for. The queue begins with the first solution of the
+/// group's first member. The first solution of each other member enters when the one of the member
+/// above it in the group's heap is passed, and a later solution when the one before it is passed.
 #[derive(Drop)]
 pub(crate) struct Stream<R: Rank, A: Allocator> {
-    pub(crate) head: EntryId,
     pub(crate) queue: Queue<R, Source, A>,
 }
 
 impl<R: Rank, A: Allocator> Model for Stream<R, A> {
-    ghost use Rattle.suffix_streams.specs.StreamView.{StreamView};
+    ghost use Rattle.take2_heap.specs.Heap.{Heap};
+    ghost use Rattle.stream_cells.specs.declared.source.Source.{Source};
 
-    ghost Value = { StreamView R };
+    ghost Value = { Heap R Source };
 
-    ghost view = { λ s. record {
-      head = s.head;
-      queue = s.queue.entries;
-      room = s.queue.spare;
-    } };
+    ghost view = { λ s. s.queue };
 }
 
 impl<R: Rank, A: Allocator> Stream<R, A> {
     /// The last solution found, or `None` if no further one follows.
     pub(crate) fn top(&self) -> Option<Entry<R, Source>>
-        ensures variant { IsSome result ↔ (0 < length self.now.queue) }
+        ensures variant { IsSome result ↔ (0 < length self.now.entries) }
         ensures top { IfSome result
-            (λ e. (d : Entry R Source) → e ≡ slice_index_or self.now.queue 0 d) }
-        ensures least { IfSome result (λ e. IsLeast R.KEYS R.key e self.now.queue) }
+            (λ e. (d : Entry R Source) → e ≡ slice_index_or self.now.entries 0 d) }
+        ensures least { IfSome result (λ e. IsLeast R.KEYS R.key e self.now.entries) }
     {
         self.queue.top()
     }
@@ -70,18 +64,17 @@ impl<R: Rank, A: Allocator> Stream<R, A> {
         right: Option<Entry<R, Source>>,
         steps: &mut Steps<L>,
     )
-        requires top { 0 < length self.old.queue }
-        requires left_room { IsSome left → 0 < self.old.room }
-        requires right_room { IsSome right → 1 < self.old.room }
-        ensures head { self.new.head ≡ self.old.head }
+        requires top { 0 < length self.old.entries }
+        requires left_room { IsSome left → 0 < self.old.spare }
+        requires right_room { IsSome right → 1 < self.old.spare }
         ensures moved { (d : Entry R Source)
-            → IsPermutation (offers right None (offers next left self.old.queue))
-            (slice_index_or self.old.queue 0 d ∷ self.new.queue) }
+            → IsPermutation (offers right None (offers next left self.old.entries))
+            (slice_index_or self.old.entries 0 d ∷ self.new.entries) }
         ensures least { (d : Entry R Source)
-            → IsLeast R.KEYS R.key (slice_index_or self.old.queue 0 d) self.old.queue }
+            → IsLeast R.KEYS R.key (slice_index_or self.old.entries 0 d) self.old.entries }
         ensures cost { steps.new
-            ≤ steps.old + 2 * bit_length (length self.old.queue)
-            + bit_length (length self.old.queue + 1) + bit_length (length self.new.queue) }
+            ≤ steps.old + 2 * bit_length (length self.old.entries)
+            + bit_length (length self.old.entries + 1) + bit_length (length self.new.entries) }
     {
         self.queue.pass(next, left, steps);
         self.queue.offer(right, steps);
@@ -92,10 +85,9 @@ impl<R: Rank, A: Allocator + Clone> Stream<R, A> {
     /// Makes room in the queue for what can follow its top in a group of so many members.
     /// `NoMemory` if memory is refused.
     pub(crate) fn reserve(&mut self, alloc: &A, members: u32) -> Result<(), NoMemory>
-        requires { length self.old.queue ≤ members }
-        ensures head { self.new.head ≡ self.old.head }
-        ensures queue { self.new.queue ≡ self.old.queue }
-        ensures room { OnOk result (can_enter members ≤ self.new.room) }
+        requires { length self.old.entries ≤ members }
+        ensures entries { self.new.entries ≡ self.old.entries }
+        ensures room { OnOk result (can_enter members ≤ self.new.spare) }
     {
         let count = queue_room(members, self.queue.len());
         self.queue.reserve(alloc, count)

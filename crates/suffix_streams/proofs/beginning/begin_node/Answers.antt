@@ -1,13 +1,18 @@
-use Rattle.std.proofs.Common.{◌+◌, ◌<◌, List, length, get_or, slice_set, refl, sym, subst, arith}
+use Rattle.std.proofs.Common.{[], ◌≡◌, ◌+◌, ◌<◌, List, length, get_or, slice_set, refl, sym, ap, ◌∙◌, subst, arith}
 use Rattle.stream_store.specs.declared.entry.Linked.{Linked}
 use Rattle.tdp_core.specs.TreeView.{members, group_count}
 use Rattle.tdp_core.proofs.TreeFacts.{group_count_within, member_is_row}
 use Rattle.suffix_streams.specs.declared.stream.Found.{Found}
+use Rattle.suffix_streams.specs.StreamView.{StreamView, IsNextHead}
 use Rattle.suffix_streams.specs.NodeStreamsView.{NodeStreamsView}
-use Rattle.suffix_streams.specs.TreeStreams.{IsHeaded}
+use Rattle.suffix_streams.specs.TreeStreams.{lists_of, IsHeaded}
 use Rattle.suffix_streams.specs.Beginnings.{IsBegunIn}
+use Rattle.suffix_streams.proofs.HeadedStreams.{next_head_none, next_head_more}
+use Rattle.suffix_streams.proofs.BeginOwners.{length_behind}
 use Rattle.suffix_streams.proofs.BeginBegun.{headed_begun}
-use Rattle.suffix_streams.proofs.BeginNodes.{in_more, nodes_set}
+use Rattle.suffix_streams.proofs.Errors.{none_given}
+use Rattle.suffix_streams.proofs.Stores.{any_default}
+use Rattle.suffix_streams.proofs.BeginNodes.{from_in, in_from, in_more, nodes_set}
 use Rattle.suffix_streams.proofs.beginning.begin_node.Goals as goal
 
 pub loop-group-preserved : goal.loop-group-preserved
@@ -19,12 +24,16 @@ loop-group-preserved g c =
     let within : n < group_count t c.args.node = omega (arith, c.loop-group-test.true, c.groups-group-end.ensures) in
     let entry = c.in_ok-stream.ensures.entry in
     let e : Linked (Found g.row.R.Denot) = entry.0 in
+    let s : StreamView g.row.R.Denot = record { head = c.next_id-head.result; queue = c.in_ok-stream.stream.entries; room = c.in_ok-stream.stream.spare } in
     let here : c.args.node < length c.loop-group.nodes.items = omega (arith, c.requires.node, c.loop-group.invariant.begun.streams.all_nodes) in
-    let set = nodes_set d key t c.loop-group.nodes.items c.args.node c.index_mut.result.now c.add_stream.new.self c.in_ok-stream.stream here c.index_mut.ensures.value c.in_ok-add_stream.ensures in
+    let set = nodes_set d key t c.loop-group.nodes.items c.args.node c.index_mut.result.now c.add_stream.new.self s here c.index_mut.ensures.value c.in_ok-add_stream.ensures in
     record {
       begun = subst (λ es. IsBegunIn d key t es (slice_set c.loop-group.nodes.items c.args.node c.add_stream.new.self) c.args.node (n + 1)) (sym entry.1)
-          (in_more d key t c.loop-group.entries.entries c.loop-group.nodes.items (slice_set c.loop-group.nodes.items c.args.node c.add_stream.new.self) c.args.node n (n + 1) e c.in_ok-stream.stream
-          set.0 set.1 set.2 c.requires.node within refl entry.2 entry.3 entry.4 c.in_ok-stream.ensures.head entry.5 entry.6 c.in_ok-stream.ensures.only c.loop-group.invariant.begun);
+          (in_more d key t c.loop-group.entries.entries c.loop-group.nodes.items (slice_set c.loop-group.nodes.items c.args.node c.add_stream.new.self) c.args.node n (n + 1) e s
+          set.0 set.1 set.2 c.requires.node within refl entry.2 entry.3 entry.4 c.next_id-head.ensures.id entry.5 entry.6 c.in_ok-stream.ensures.only c.loop-group.invariant.begun);
+      heads = subst (λ n. IsNextHead n.streams (length c.first_stream.new.entries.entries)) (sym set.2)
+          (next_head_more (lists_of c.loop-group.nodes.items c.args.node).streams s (length c.loop-group.entries.entries) (length c.first_stream.new.entries.entries) c.loop-group.invariant.heads c.next_id-head.ensures.id
+          (ap length entry.1 ∙ length_behind c.loop-group.entries.entries e));
       cost = omega (arith, c.loop-group.invariant.cost, c.first_stream.ensures.cost);
     }
 
@@ -85,3 +94,33 @@ first_stream-requires-clause-group g c = omega (arith, c.loop-group-test.true, c
 
 pub index_mut-requires : goal.index_mut-requires
 index_mut-requires g c = omega (arith, c.requires.node, c.loop-group.invariant.begun.streams.all_nodes)
+
+pub loop-group-init : goal.loop-group-init
+loop-group-init g c =
+    let begun = from_in g.R.Rank.KEYS g.R.Rank.key c.args.tree.now c.args.entries.now.entries c.args.nodes.now.items c.args.node (c.args.node + 1) refl c.requires.begun in
+    record {
+      begun = begun;
+      heads = next_head_none (lists_of c.args.nodes.now.items c.args.node).streams (length c.args.entries.now.entries) begun.own;
+      cost = omega arith;
+    }
+
+pub add_stream-requires-clause-next : goal.add_stream-requires-clause-next
+add_stream-requires-clause-next g c =
+    let here : c.args.node < length c.loop-group.nodes.items = omega (arith, c.requires.node, c.loop-group.invariant.begun.streams.all_nodes) in
+    subst (λ (n : NodeStreamsView g.row.R.Denot). IsNextHead n.streams c.next_id-head.result)
+    (any_default c.loop-group.nodes.items c.args.node (record { children = []; streams = []; products = [] }) c.index_mut.result.now here ∙ sym c.index_mut.ensures.value)
+    (subst (IsNextHead (lists_of c.loop-group.nodes.items c.args.node).streams) (sym c.next_id-head.ensures.id) c.loop-group.invariant.heads)
+
+pub add_stream-requires-clause-fits : goal.add_stream-requires-clause-fits
+add_stream-requires-clause-fits g c = c.next_id-head.ensures.fits
+
+pub returns-clause-begun : goal.returns-clause-begun
+returns-clause-begun g c =
+    let all : c.loop-group.group ≡ group_count c.args.tree.now c.args.node = omega (arith, c.loop-group-test.false, c.loop-group.auto.group-end, c.groups-group-end.ensures) in
+    in_from g.R.Rank.KEYS g.R.Rank.key c.args.tree.now c.loop-group.entries.entries c.loop-group.nodes.items c.args.node c.loop-group.group all c.loop-group.invariant.begun
+
+pub returns-in_err-stream-clause-begun : goal.returns-in_err-stream-clause-begun
+returns-in_err-stream-clause-begun g c = none_given _ c.from_residual.result c.from_residual.ensures.0
+
+pub returns-in_err-add_stream-clause-begun : goal.returns-in_err-add_stream-clause-begun
+returns-in_err-add_stream-clause-begun g c = none_given _ c.from_residual-in_err-add_stream.result c.from_residual-in_err-add_stream.ensures.0

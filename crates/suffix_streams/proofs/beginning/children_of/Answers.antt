@@ -1,6 +1,7 @@
 use Rattle.std.proofs.Common.{◌≡◌, ℕ, ◌+◌, ◌∷◌, [], ◌++◌, Vec, length, get_or, sym, ap, ◌∙◌, arith}
 use Rattle.tdp_core.specs.declared.parts.NodeShape.{NodeShape}
-use Rattle.tdp_core.specs.TreeView.{parent}
+use Rattle.tdp_core.specs.TreeView.{parent, kids_below}
+use Rattle.suffix_streams.specs.Rankings.{child_among}
 use Rattle.suffix_streams.proofs.BeginChildren.{no_kids_before, each_more, each_other}
 use Rattle.suffix_streams.proofs.beginning.children_of.Goals as goal
 use Rattle.suffix_streams.proofs.beginning.children_of.Goals.{then-shape-node+in_ok-push, else-shape-node}
@@ -28,3 +29,11 @@ loop-child-preserved g c =
           let same : c.if-shape-node.children.items ≡ c.loop-child.children.items = ap (λ (v : Vec ℕ g.row.A.Denot). v.items) w.children-is in
           record { count = ap length same ∙ more.0; each = λ k l. ap (λ z. get_or z k 0) same ∙ more.1 k l }
     ]
+
+pub returns : goal.returns
+returns g c =
+    let all : c.loop-child.child ≡ length c.args.tree.now = omega (arith, c.loop-child-test.false, c.loop-child.auto.child, c.nodes-nodes.ensures.count, c.requires) in
+    record {
+      count = c.loop-child.invariant.count ∙ ap (kids_below (parent c.args.tree.now) c.args.node) all;
+      each = λ k l. c.loop-child.invariant.each k (omega (arith, l, ap (kids_below (parent c.args.tree.now) c.args.node) all)) ∙ ap (child_among (parent c.args.tree.now) c.args.node k) all;
+    }

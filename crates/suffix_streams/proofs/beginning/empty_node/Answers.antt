@@ -1,5 +1,7 @@
 use Rattle.std.proofs.Common.{◌≡◌, ap, ◌∙◌, arith}
+use Rattle.suffix_streams.specs.StreamView.{headed}
 use Rattle.suffix_streams.specs.TreeStreams.{open_rows}
+use Rattle.suffix_streams.proofs.HeadedStreams.{headed_none}
 use Rattle.tdp_core.specs.TreeView.{child_count}
 use Rattle.suffix_streams.proofs.Errors.{none_given}
 use Rattle.suffix_streams.proofs.beginning.empty_node.Goals as goal
@@ -10,7 +12,7 @@ returns g c =
     let kids : c.len.result ≡ child_count t c.args.node = omega (arith, c.len.ensures, c.in_ok-children.ensures.count) in
     record {
       children = c.in_ok-children.ensures;
-      no_streams = c.in_ok-streams.ensures;
+      no_streams = ap (λ z. headed c.first.result z) c.in_ok-streams.ensures ∙ headed_none c.first.result;
       all_rows = c.in_ok-products.ensures.count ∙ c.rows_to_open-rows.ensures ∙ ap (λ n. open_rows n c.len-2.result) kids ∙ ap (λ n. open_rows (child_count t c.args.node) n) c.len-2.ensures;
       no_products = c.in_ok-products.ensures.none;
     }

@@ -1,4 +1,4 @@
-use Rattle.std.proofs.Common.{◌≡◌, None, [], ◌∷◌, ◌++◌, length, get_or, refl, sym, ap, ◌∙◌, arith}
+use Rattle.std.proofs.Common.{◌≡◌, None, [], ◌∷◌, ◌++◌, get_or, refl, sym, ap, ◌∙◌, arith}
 use Rattle.stream_store.specs.declared.entry.Linked.{Linked}
 use Rattle.suffix_streams.specs.declared.stream.Found.{Found}
 use Rattle.suffix_streams.proofs.BeginNodes.{first_best, first_member}
@@ -16,7 +16,7 @@ returns-clause-entry g c =
     let t = c.args.tree.now in
     let e : Linked (Found g.row.R.Denot) = record { value = record { node = c.args.node; group = c.args.group; solution = c.first_solution-solution.result }; next = None } in (
       e,
-      c.push_reserved-head.ensures.entries ∙ ap (λ es. es ++ (e ∷ [])) c.reserve.ensures.entries,
+      c.push_reserved.ensures.entries ∙ ap (λ es. es ++ (e ∷ [])) c.reserve.ensures.entries,
       refl,
       refl,
       refl,
@@ -44,8 +44,5 @@ first_solution-solution-requires-clause-member g c = c.requires.formed.inhabited
 pub first_solution-solution-requires-clause-headed : goal.first_solution-solution-requires-clause-headed
 first_solution-solution-requires-clause-headed g c = c.requires.headed
 
-pub returns-clause-head : goal.returns-clause-head
-returns-clause-head g c = c.push_reserved-head.ensures.id ∙ ap length c.reserve.ensures.entries
-
 pub returns-clause-cost : goal.returns-clause-cost
-returns-clause-cost g c = omega (arith, c.first_solution-solution.ensures.cost, c.push_reserved-head.ensures.cost)
+returns-clause-cost g c = omega (arith, c.first_solution-solution.ensures.cost, c.push_reserved.ensures.cost)

@@ -28,12 +28,12 @@ step-requires-clause-room g c =
 
 pub returns-clause-changed : goal.returns-clause-changed
 returns-clause-changed g c =
-    let o = product_changed c.self.inside.children.items c.self.inside.streams.items _ c.args.self.now c.args.row c.args.child c.step.new.self c.self.view_is c.requires.child in
+    let o = product_changed c.self.inside.children.items _ _ c.args.self.now c.args.row c.args.child c.step.new.self c.self.view_is c.requires.child in
     o.1 ∙ ap (λ (p : ProductView g.row.R.Denot). with_product c.args.self.now c.args.row c.args.child p) (sym o.0)
 
 pub returns-clause-moved : goal.returns-clause-moved
 returns-clause-moved g c d =
-    let o = product_changed c.self.inside.children.items c.self.inside.streams.items _ c.args.self.now c.args.row c.args.child c.step.new.self c.self.view_is c.requires.child in
+    let o = product_changed c.self.inside.children.items _ _ c.args.self.now c.args.row c.args.child c.step.new.self c.self.view_is c.requires.child in
     let same = c.product_mut-product.ensures.value (record { found = []; ranks = []; frontier = []; room = 0; frontier_room = 0 }) ∙ ap (λ n. product_at n c.args.row c.args.child) c.self.view_is in
     subst (λ (p : ProductView g.row.R.Denot). IsPermutation (offers c.args.down c.args.across (product_at c.args.self.now c.args.row c.args.child).frontier) (slice_index_or (product_at c.args.self.now c.args.row c.args.child).frontier 0 d ∷ p.frontier)) (sym o.0)
     (subst (λ (p : ProductView g.row.R.Denot). IsPermutation (offers c.args.down c.args.across p.frontier) (slice_index_or p.frontier 0 d ∷ c.step.new.self.frontier)) same (c.step.ensures.moved d))
@@ -45,33 +45,33 @@ returns-clause-least g c d =
 
 pub returns-clause-limit : goal.returns-clause-limit
 returns-clause-limit g c =
-    let o = product_changed c.self.inside.children.items c.self.inside.streams.items _ c.args.self.now c.args.row c.args.child c.step.new.self c.self.view_is c.requires.child in
+    let o = product_changed c.self.inside.children.items _ _ c.args.self.now c.args.row c.args.child c.step.new.self c.self.view_is c.requires.child in
     subst (λ (p : ProductView g.row.R.Denot). length p.frontier < 2 ^ 64) (sym o.0) c.step.ensures.limit
 
 pub returns-clause-ended : goal.returns-clause-ended
 returns-clause-ended g c =
-    let o = product_changed c.self.inside.children.items c.self.inside.streams.items _ c.args.self.now c.args.row c.args.child c.step.new.self c.self.view_is c.requires.child in
+    let o = product_changed c.self.inside.children.items _ _ c.args.self.now c.args.row c.args.child c.step.new.self c.self.view_is c.requires.child in
     let same = c.product_mut-product.ensures.value (record { found = []; ranks = []; frontier = []; room = 0; frontier_room = 0 }) ∙ ap (λ n. product_at n c.args.row c.args.child) c.self.view_is in
     subst (λ (p : ProductView g.row.R.Denot). length p.frontier ≡ 0 → (p.found ≡ (product_at c.args.self.now c.args.row c.args.child).found) × (p.ranks ≡ (product_at c.args.self.now c.args.row c.args.child).ranks)) (sym o.0)
     (subst (λ (p : ProductView g.row.R.Denot). length c.step.new.self.frontier ≡ 0 → (c.step.new.self.found ≡ p.found) × (c.step.new.self.ranks ≡ p.ranks)) same c.step.ensures.ended)
 
 pub returns-clause-found : goal.returns-clause-found
 returns-clause-found g c d =
-    let o = product_changed c.self.inside.children.items c.self.inside.streams.items _ c.args.self.now c.args.row c.args.child c.step.new.self c.self.view_is c.requires.child in
+    let o = product_changed c.self.inside.children.items _ _ c.args.self.now c.args.row c.args.child c.step.new.self c.self.view_is c.requires.child in
     let same = c.product_mut-product.ensures.value (record { found = []; ranks = []; frontier = []; room = 0; frontier_room = 0 }) ∙ ap (λ n. product_at n c.args.row c.args.child) c.self.view_is in
     subst (λ (p : ProductView g.row.R.Denot). 0 < length p.frontier → p.found ≡ (product_at c.args.self.now c.args.row c.args.child).found ++ (slice_index_or p.frontier 0 d).tag ∷ []) (sym o.0)
     (subst (λ (p : ProductView g.row.R.Denot). 0 < length c.step.new.self.frontier → c.step.new.self.found ≡ p.found ++ (slice_index_or c.step.new.self.frontier 0 d).tag ∷ []) same (c.step.ensures.found d))
 
 pub returns-clause-ranks : goal.returns-clause-ranks
 returns-clause-ranks g c d =
-    let o = product_changed c.self.inside.children.items c.self.inside.streams.items _ c.args.self.now c.args.row c.args.child c.step.new.self c.self.view_is c.requires.child in
+    let o = product_changed c.self.inside.children.items _ _ c.args.self.now c.args.row c.args.child c.step.new.self c.self.view_is c.requires.child in
     let same = c.product_mut-product.ensures.value (record { found = []; ranks = []; frontier = []; room = 0; frontier_room = 0 }) ∙ ap (λ n. product_at n c.args.row c.args.child) c.self.view_is in
     subst (λ (p : ProductView g.row.R.Denot). 0 < length p.frontier → p.ranks ≡ with_rank (product_at c.args.self.now c.args.row c.args.child).ranks (slice_index_or p.frontier 0 d).rank) (sym o.0)
     (subst (λ (p : ProductView g.row.R.Denot). 0 < length c.step.new.self.frontier → c.step.new.self.ranks ≡ with_rank p.ranks (slice_index_or c.step.new.self.frontier 0 d).rank) same (c.step.ensures.ranks d))
 
 pub returns-clause-next : goal.returns-clause-next
 returns-clause-next g c d =
-    let o = product_changed c.self.inside.children.items c.self.inside.streams.items _ c.args.self.now c.args.row c.args.child c.step.new.self c.self.view_is c.requires.child in
+    let o = product_changed c.self.inside.children.items _ _ c.args.self.now c.args.row c.args.child c.step.new.self c.self.view_is c.requires.child in
     subst (λ (p : ProductView g.row.R.Denot). 0 < length p.frontier → IsLeast g.R.Rank.KEYS g.R.Rank.key (slice_index_or p.frontier 0 d) p.frontier) (sym o.0) (c.step.ensures.next d)
 
 pub returns-clause-cost : goal.returns-clause-cost

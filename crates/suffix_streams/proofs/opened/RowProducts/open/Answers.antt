@@ -1,5 +1,6 @@
 use Rattle.std.proofs.Common.{◌≡◌, ◌/◌, map, length, sym, ap, ◌∙◌, subst, arith}
 use Rattle.suffix_streams.specs.OpenedRows.{list_numbered, AreChunked}
+use Rattle.suffix_streams.proofs.Stores.{map_length}
 use Rattle.suffix_streams.proofs.SearchCalls.{on_err}
 use Rattle.suffix_streams.proofs.OpenedRows.{same_chunked, same_rows, chunk_kept, view_kept, view_changed, opened_own, opened_chunked, opened_rows}
 use Rattle.suffix_streams.proofs.opened.RowProducts.open.Goals as goal
@@ -32,3 +33,22 @@ pub returns-clause-opened : goal.returns-clause-opened
 returns-clause-opened g c =
     let width : length c.args.products.now.items ≡ c.self.inside.width = (c.requires.width ∙ ap (λ z. z.width) (sym c.self.view_is)) in
     view_changed c.args.self.now c.self.inside.width _ _ _ c.self.view_is (opened_rows c.self.inside.width c.self.inside.count c.make_chunk.new.chunks.items c.self.inside.opened.items c.self.invariant.0 (same_chunked c.self.inside.width c.self.inside.count c.self.inside.chunks.items c.make_chunk.new.chunks.items c.self.inside.opened.items c.make_chunk.ensures.same c.make_chunk.ensures.longer c.self.invariant.1) c.args.self.now.rows (same_rows c.self.inside.width c.self.inside.count c.self.inside.chunks.items c.make_chunk.new.chunks.items c.self.inside.opened.items c.make_chunk.ensures.same ∙ ap (λ z. z.rows) c.self.view_is) c.args.row c.requires.row c.index_mut.result.now c.append.new.self (omega (arith, c.in_ok-make_chunk.ensures.there)) c.index_mut.ensures.value c.args.products.now.items width c.in_ok-append.ensures.items)
+
+pub invariant_of-self : goal.invariant_of-self
+invariant_of-self g c = (
+  c.self.invariant.0,
+  same_chunked c.self.inside.width c.self.inside.count c.self.inside.chunks.items c.make_chunk.new.chunks.items c.self.inside.opened.items c.make_chunk.ensures.same c.make_chunk.ensures.longer c.self.invariant.1,
+  c.self.invariant.2,
+  c.self.invariant.3,
+)
+
+pub returns-in_err-make_chunk-clause-refused : goal.returns-in_err-make_chunk-clause-refused
+returns-in_err-make_chunk-clause-refused g c =
+    on_err c.from_residual.result
+    (view_kept c.args.self.now c.self.inside.width _ _ c.self.view_is (same_rows c.self.inside.width c.self.inside.count c.self.inside.chunks.items c.make_chunk.new.chunks.items c.self.inside.opened.items c.make_chunk.ensures.same ∙ ap (λ z. z.rows) c.self.view_is))
+
+pub index_mut-requires : goal.index_mut-requires
+index_mut-requires g c = omega (arith, c.in_ok-make_chunk.ensures.there, c.make_chunk.new.chunks.ok.0)
+
+pub index_mut-requires-2 : goal.index_mut-requires-2
+index_mut-requires-2 g c = omega (arith, c.requires.row, ap (λ z. length z.rows) c.self.view_is, map_length (list_numbered c.self.inside.width (map (λ l. l.items) c.self.inside.chunks.items)) c.self.inside.opened.items, c.self.inside.opened.ok.0)

@@ -8,18 +8,17 @@ use Rattle.tdp_core.proofs.Children.{kids_below_most}
 use Rattle.suffix_streams.specs.declared.stream.Found.{Found}
 use Rattle.suffix_streams.specs.ProductView.{ProductView}
 use Rattle.suffix_streams.specs.StreamView.{StreamView}
-use Rattle.suffix_streams.specs.NodeStreamsView.{NodeStreamsView, product_at, stream_at, known_of}
+use Rattle.suffix_streams.specs.NodeStreamsView.{product_at, stream_at, known_of}
 use Rattle.suffix_streams.specs.Firsts.{can_enter}
 use Rattle.suffix_streams.specs.Rankings.{child}
-use Rattle.suffix_streams.specs.TreeStreams.{group_of, next_of, node_of, stream_of, part_known, row_known, IsStreams, IsHeaded}
+use Rattle.suffix_streams.specs.TreeStreams.{group_of, next_of, node_of, stream_of, part_known, row_known, IsStreams}
 use Rattle.suffix_streams.specs.Growing.{IsGrown, IsExtended, IsReached, IsAnswered}
 use Rattle.suffix_streams.proofs.Heads.{lists_at}
-use Rattle.suffix_streams.proofs.Entries.{headed_of}
 use Rattle.suffix_streams.proofs.Stores.{any_default}
 use Rattle.suffix_streams.proofs.StepCells.{no_top}
 use Rattle.suffix_streams.proofs.Searching.{answered_stays, extended_none, last_of_all, sums_done, reached_none}
 use Rattle.suffix_streams.proofs.NextCall.{IsOwned, IsTopRead, IsRowOpen, IsRowCounted, IsRowSearched, owned, top_read, row_within, row_open, row_counted, row_searched, only_opened, searched_grown, searched_queues, searched_steps, searched_stream, searched_queue, linked_grown, linked_queues}
-use Rattle.suffix_streams.proofs.RowSearch.{IsRoomMade, IsChildAsked, IsLeftSearched, room_made, made_none, made_queues, made_unstepped, child_asked, asked_extended, asked_queues, asked_within, asked_unstepped, left_searched, left_extended, left_queues, left_steps, one_more_extended, one_more_queues}
+use Rattle.suffix_streams.proofs.RowSearch.{IsRoomMade, IsChildAsked, IsLeftSearched, room_made, made_none, made_queues, made_unstepped, child_asked, asked_extended, asked_queues, asked_within, asked_unstepped, asked_some, asked_right, left_searched, left_extended, left_queues, left_steps, one_more_extended, one_more_queues}
 use Rattle.suffix_streams.proofs.Errors.{none_given, none_done}
 use Rattle.suffix_streams.proofs.SearchCosts.{none_within}
 use Rattle.suffix_streams.proofs.SearchRoom.{unstepped_on}
@@ -58,10 +57,10 @@ module _ (g : Over) (t : ℕ) where
   child_of : (c : search-After-after g t) → IsRoomMade g.R.Rank.KEYS g.R.Rank.key c.args.self.now.tree.now c.args.self.now.entries.entries c.args.self.now.nodes.items c.make_room.new.nodes.items c.args.node c.args.row c.args.count c.in-Some.top.tag → IsChildAsked g.R.Rank.KEYS g.R.Rank.key c.args.self.now.tree.now c.args.self.now.entries.entries c.after.new.self.entries.entries c.make_room.new.nodes.items c.after.new.self.nodes.items c.args.node c.args.row c.args.count c.in-Some.top.tag c.args.steps.now c.after.new.steps
   child_of c a = child_asked a c.after.new.self.tree.now c.after.new.self.entries.entries c.after.new.self.nodes.items c.args.steps.now c.after.new.steps c.after.ensures.tree c.after.ensures.formed c.after.ensures.grown c.after.ensures.queues c.after.ensures.cost
 
-  left_of : (c : search-After-extend g t) → IsRoomMade g.R.Rank.KEYS g.R.Rank.key c.args.self.now.tree.now c.args.self.now.entries.entries c.args.self.now.nodes.items c.make_room.new.nodes.items c.args.node c.args.row c.args.count c.in-Some.top.tag → IsChildAsked g.R.Rank.KEYS g.R.Rank.key c.args.self.now.tree.now c.args.self.now.entries.entries c.after.new.self.entries.entries c.make_room.new.nodes.items c.after.new.self.nodes.items c.args.node c.args.row c.args.count c.in-Some.top.tag c.args.steps.now c.after.new.steps → IsLeftSearched g.R.Rank.KEYS g.R.Rank.key c.args.self.now.tree.now c.extend.new.self.tree.now c.after.new.self.entries.entries c.extend.new.self.entries.entries c.make_room.new.nodes.items c.after.new.self.nodes.items c.extend.new.self.nodes.items c.args.node c.args.row c.args.count c.head_beside-head.new.steps c.extend.new.steps
+  left_of : (c : search-After-extend g t) → IsRoomMade g.R.Rank.KEYS g.R.Rank.key c.args.self.now.tree.now c.args.self.now.entries.entries c.args.self.now.nodes.items c.make_room.new.nodes.items c.args.node c.args.row c.args.count c.in-Some.top.tag → IsChildAsked g.R.Rank.KEYS g.R.Rank.key c.args.self.now.tree.now c.args.self.now.entries.entries c.after.new.self.entries.entries c.make_room.new.nodes.items c.after.new.self.nodes.items c.args.node c.args.row c.args.count c.in-Some.top.tag c.args.steps.now c.after.new.steps → IsLeftSearched g.R.Rank.KEYS g.R.Rank.key c.args.self.now.tree.now c.extend.new.self.tree.now c.after.new.self.entries.entries c.extend.new.self.entries.entries c.make_room.new.nodes.items c.after.new.self.nodes.items c.extend.new.self.nodes.items c.args.node c.args.row c.args.count c.after.new.steps c.extend.new.steps
   left_of c a b =
       let kids : c.args.count ≤ child_count c.args.self.now.tree.now c.args.node = count_few g.R.Rank.KEYS g.R.Rank.key c.args.self.now.tree.now c.args.self.now.entries.entries c.args.self.now.nodes.items c.requires.formed c.args.node c.args.row c.args.count c.requires.node c.requires.row c.requires.count in
-      left_searched a b (searched g.R.Rank.KEYS g.R.Rank.key c.args.self.now.tree.now c.after.new.self.tree.now c.args.node c.args.row (c.args.count - 1) c.after.new.self.entries.entries c.after.new.self.nodes.items c.extend.new.self.tree.now c.extend.new.self.entries.entries c.extend.new.self.nodes.items c.left_search-earlier.result.0 c.head_beside-head.new.steps c.extend.new.steps c.after.ensures.tree c.extend.ensures.tree (omega (arith, kids)) (all_or_none c.in-Some.top.tag.right c.head_beside-head.result c.left_search-earlier.result.0 (c.args.count - 1) c.left_search-earlier.result.1 (c.in-Some.top.tag.left + 1) c.left_search-earlier.ensures.beside c.left_search-earlier.ensures.apart) c.extend.ensures.formed c.extend.ensures.extended c.extend.ensures.queues c.extend.ensures.cost)
+      left_searched a b (searched g.R.Rank.KEYS g.R.Rank.key c.args.self.now.tree.now c.after.new.self.tree.now c.args.node c.args.row (c.args.count - 1) c.after.new.self.entries.entries c.after.new.self.nodes.items c.extend.new.self.tree.now c.extend.new.self.entries.entries c.extend.new.self.nodes.items c.left_search-earlier.result.0 c.after.new.steps c.extend.new.steps c.after.ensures.tree c.extend.ensures.tree (omega (arith, kids)) (all_or_none c.in-Some.top.tag.right c.head_beside-head.result c.left_search-earlier.result.0 (c.args.count - 1) c.left_search-earlier.result.1 (c.in-Some.top.tag.left + 1) c.left_search-earlier.ensures.beside c.left_search-earlier.ensures.apart) c.extend.ensures.formed c.extend.ensures.extended c.extend.ensures.queues c.extend.ensures.cost)
 
 pub after-returns-in-Some-clause-answer : goal.after-returns-in-Some-clause-answer
 after-returns-in-Some-clause-answer g t c =
@@ -501,19 +500,6 @@ search-returns-in_err-below-clause-cost g t c =
     let b = child_of g t at.After-after a in
     asked_within a b
 
-pub search-head_beside-head-requires-clause-headed : goal.search-head_beside-head-requires-clause-headed
-search-head_beside-head-requires-clause-headed g t c =
-    let in_tree = subst (λ (z : List (NodeView g.row.R.Denot)). c.args.node < length z) (sym c.after.ensures.tree) c.requires.node in
-    let in_node = subst (λ (z : List (NodeView g.row.R.Denot)). c.args.row < rows z c.args.node) (sym c.after.ensures.tree) c.requires.row in
-    subst (λ (z : List (NodeStreamsView g.row.R.Denot)). IsHeaded g.R.Rank.KEYS g.R.Rank.key c.after.new.self.tree.now c.after.new.self.entries.entries z c.args.node c.args.row) (sym c.as_slice.ensures.value)
-    (headed_of g.R.Rank.KEYS g.R.Rank.key c.after.new.self.tree.now c.after.new.self.entries.entries c.after.new.self.nodes.items c.after.ensures.formed c.args.node c.args.row in_tree in_node)
-
-pub search-head_beside-head-requires-clause-child : goal.search-head_beside-head-requires-clause-child
-search-head_beside-head-requires-clause-child g t c =
-    let at = goal.at.search-head_beside-head-requires-clause-child g t c in
-    let a = room_of g t at.After-make_room in
-    subst (λ (z : List (NodeView g.row.R.Denot)). c.args.count - 1 < child_count z c.args.node) (sym c.after.ensures.tree) a.in_kids
-
 pub search-returns-in_err-extend-clause-extended : goal.search-returns-in_err-extend-clause-extended
 search-returns-in_err-extend-clause-extended g t c =
     let at = goal.at.search-returns-in_err-extend-clause-extended g t c in
@@ -536,7 +522,7 @@ search-returns-in_err-extend-clause-cost g t c =
     let a = room_of g t at.After-make_room in
     let b = child_of g t at.After-after a in
     let l = left_of g t at.After-extend a b in
-    left_steps a b l c.extend.new.steps (omega (arith, c.head_beside-head.ensures.cost)) (omega arith)
+    left_steps a b l c.extend.new.steps (omega arith) (omega arith)
 
 pub search-step-requires-clause-tie_free : goal.search-step-requires-clause-tie_free
 search-step-requires-clause-tie_free g t c =
@@ -592,8 +578,7 @@ search-step-requires-clause-head g t c later =
     let a = room_of g t at.After-make_room in
     let b = child_of g t at.After-after a in
     let l = left_of g t at.After-extend a b in
-    let head = subst (λ (z : List (NodeView g.row.R.Denot)). c.head_beside-head.result ≡ (stream_of c.after.new.self.nodes.items (child z c.args.node (c.args.count - 1)) (group_named z c.args.node c.args.row (c.args.count - 1))).head) c.after.ensures.tree
-    (subst (λ (n : List (NodeStreamsView g.row.R.Denot)). c.head_beside-head.result ≡ (stream_of n (child c.after.new.self.tree.now c.args.node (c.args.count - 1)) (group_named c.after.new.self.tree.now c.args.node c.args.row (c.args.count - 1))).head) c.as_slice.ensures.value (c.head_beside-head.ensures.head later)) in
+    let head = asked_right a b c.requires.tie_free c.index-lists.result.now c.head_beside-head.result c.index-lists.ensures (λ first. c.head_beside-head.ensures first later) in
     subst (λ (y : List (NodeView g.row.R.Denot)). c.head_beside-head.result ≡ (stream_of c.extend.new.self.nodes.items (child y c.args.node (c.args.count - 1)) (group_named y c.args.node c.args.row (c.args.count - 1))).head) (sym l.searched.tree) (head ∙ sym l.head)
 
 pub search-step-requires-clause-below : goal.search-step-requires-clause-below
@@ -672,21 +657,35 @@ search-returns-clause-cost g t c =
     let a = room_of g t at.After-make_room in
     let b = child_of g t at.After-after a in
     let l = left_of g t at.After-extend a b in
-    left_steps a b l c.step.new.steps (omega (arith, c.head_beside-head.ensures.cost)) c.step.ensures.cost
+    left_steps a b l c.step.new.steps (omega arith) c.step.ensures.cost
 
 pub search-left_search-earlier-requires : goal.search-left_search-earlier-requires
 search-left_search-earlier-requires g t c =
     let at = goal.at.search-left_search-earlier-requires g t c in
     let a = room_of g t at.After-make_room in
     let b = child_of g t at.After-after a in
-    omega (arith, b.left, c.known-known.ensures, ap (λ z. known_of z c.args.row (c.args.count - 1)) (lists_at c.after.new.self.nodes.items c.args.node c.index-2.result.now c.index-2.ensures (omega (arith, c.requires.node, b.formed.all_nodes))))
+    omega (arith, b.left, c.known-known.ensures, ap (λ z. known_of z c.args.row (c.args.count - 1)) (lists_at c.after.new.self.nodes.items c.args.node c.index-lists.result.now c.index-lists.ensures (omega (arith, c.requires.node, b.formed.all_nodes))))
+
+pub search-head_beside-head-requires-clause-child : goal.search-head_beside-head-requires-clause-child
+search-head_beside-head-requires-clause-child g t c =
+    let at = goal.at.search-head_beside-head-requires-clause-child g t c in
+    let a = room_of g t at.After-make_room in
+    let b = child_of g t at.After-after a in
+    omega (arith, b.in_row, ap (λ z. length (get_or z.products c.args.row [])) (lists_at c.after.new.self.nodes.items c.args.node c.index-lists.result.now c.index-lists.ensures (omega (arith, c.requires.node, b.formed.all_nodes))))
+
+pub search-head_beside-head-requires-clause-some : goal.search-head_beside-head-requires-clause-some
+search-head_beside-head-requires-clause-some g t c =
+    let at = goal.at.search-head_beside-head-requires-clause-some g t c in
+    let a = room_of g t at.After-make_room in
+    let b = child_of g t at.After-after a in
+    asked_some a b c.index-lists.result.now c.index-lists.ensures
 
 pub search-known-known-requires : goal.search-known-known-requires
 search-known-known-requires g t c =
     let at = goal.at.search-known-known-requires g t c in
     let a = room_of g t at.After-make_room in
     let b = child_of g t at.After-after a in
-    omega (arith, b.in_row, ap (λ z. length (get_or z.products c.args.row [])) (lists_at c.after.new.self.nodes.items c.args.node c.index-2.result.now c.index-2.ensures (omega (arith, c.requires.node, b.formed.all_nodes))))
+    omega (arith, b.in_row, ap (λ z. length (get_or z.products c.args.row [])) (lists_at c.after.new.self.nodes.items c.args.node c.index-lists.result.now c.index-lists.ensures (omega (arith, c.requires.node, b.formed.all_nodes))))
 
 pub extend-index-requires : goal.extend-index-requires
 extend-index-requires g t c =
@@ -783,10 +782,6 @@ search-returns-in_err-below-clause-formed g t c =
 pub search-returns-in_err-extend-clause-formed : goal.search-returns-in_err-extend-clause-formed
 search-returns-in_err-extend-clause-formed g t c =
     c.extend.ensures.formed
-
-pub search-head_beside-head-requires-clause-formed : goal.search-head_beside-head-requires-clause-formed
-search-head_beside-head-requires-clause-formed g t c =
-    c.after.ensures.formed.tree
 
 pub after-returns-in-Some-clause-formed : goal.after-returns-in-Some-clause-formed
 after-returns-in-Some-clause-formed g t c =
@@ -885,16 +880,8 @@ pub search-overflow_sub-child : goal.search-overflow_sub-child
 search-overflow_sub-child g t c =
     omega (arith, c.requires.some)
 
-pub search-head_beside-head-requires-clause-node : goal.search-head_beside-head-requires-clause-node
-search-head_beside-head-requires-clause-node g t c =
-    omega (arith, c.requires.node, ap length c.after.ensures.tree)
-
-pub search-head_beside-head-requires-clause-row : goal.search-head_beside-head-requires-clause-row
-search-head_beside-head-requires-clause-row g t c =
-    subst (λ (z : List (NodeView g.row.R.Denot)). c.args.row < rows z c.args.node) (sym c.after.ensures.tree) c.requires.row
-
-pub search-index-requires-2 : goal.search-index-requires-2
-search-index-requires-2 g t c =
+pub search-index-lists-requires : goal.search-index-lists-requires
+search-index-lists-requires g t c =
     omega (arith, c.requires.node, c.after.ensures.formed.all_nodes, ap length c.after.ensures.tree)
 
 pub search-returns-in_err-below-clause-tree : goal.search-returns-in_err-below-clause-tree

@@ -1,8 +1,9 @@
-use Rattle.std.proofs.Common.{◌≡◌, ◌+◌, ◌*◌, ◌<◌, ◌≤◌, Result, Ok, Err, IfOk, length, sym, ap, ◌∙◌, subst, arith}
+use Rattle.std.proofs.Common.{◌≡◌, ◌+◌, ◌*◌, ◌<◌, ◌≤◌, Result, Ok, Err, IfOk, IsSome, length, sym, ap, ◌∙◌, subst, arith}
 use Rattle.rank_key.specs.Bits.{bit_length}
 use Rattle.tdp_core.specs.TreeView.{parent, row_count}
+use Rattle.tdp_core.specs.AnswerView.{counted}
 use Rattle.tdp_core.specs.WellFormed.{IsFormed, IsTieFreeTree}
-use Rattle.suffix_streams.specs.TreeStreams.{node_of, group_of, node_size, IsStreams}
+use Rattle.suffix_streams.specs.TreeStreams.{node_of, group_of, next_of, node_size, IsStreams}
 use Rattle.suffix_streams.specs.Growing.{IsAnswered}
 use Rattle.suffix_streams.specs.StreamsView.{StreamsView, size_of_node}
 use Rattle.suffix_streams.proofs.ViewPrefixes.{all_prefixes}
@@ -70,3 +71,14 @@ after-requires-clause-tie_free g c = c.self.invariant.tie_free
 
 pub after-requires-clause-entry : goal.after-requires-clause-entry
 after-requires-clause-entry g c = subst (λ (v : StreamsView g.row.R.Denot). c.args.entry < length v.entries) (sym c.self.view_is) c.requires
+
+pub returns-clause-known : goal.returns-clause-known
+returns-clause-known g c some =
+    let k = c.after.ensures.known (subst (λ (v : StreamsView g.row.R.Denot). IsSome (next_of v.entries c.args.entry)) (sym c.self.view_is) some) in
+    let calls : c.saturating_add-self-inside.result ≡ counted c.args.self.now.calls = c.saturating_add-self-inside.ensures ∙ ap (λ (v : StreamsView g.row.R.Denot). counted v.calls) c.self.view_is in (
+      k.0,
+      ap (λ s. (let v : StreamsView g.row.R.Denot = record { tree = s.tree.now; entries = s.entries.entries; nodes = s.nodes.items; calls = c.saturating_add-self-inside.result } in v)) k.1
+          ∙ ap (λ (v : StreamsView g.row.R.Denot). (let w : StreamsView g.row.R.Denot = record v { calls = c.saturating_add-self-inside.result } in w)) c.self.view_is
+          ∙ ap (λ n. (let w : StreamsView g.row.R.Denot = record c.args.self.now { calls = n } in w)) calls,
+      k.2,
+    )
