@@ -1,4 +1,5 @@
 pub mod Adding
 pub mod Digits
 pub mod Distinct
+pub mod Pairing
 pub mod Taken

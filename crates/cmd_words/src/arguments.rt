@@ -75,7 +75,10 @@ fn with_arg<'a>(
     ensures { IfOk result (λ whole. IsOkAnd command.entry
         (λ c. app_of whole ≡ with_rule (app_of c) (rule_of arg.entry))) }
 {
-    command?.arg(arg)
+    match command {
+        Ok(command) => command.arg(arg),
+        Err(refused) => Err(refused),
+    }
 }
 
 /// The command with QUERYFILE and TABLE=FILE after its options.

@@ -3,7 +3,7 @@
 use crate::pairs::Named;
 
 /// Which engine enumerates the answers.
-#[derive(Clone, Copy, Debug, PartialEq, Eq, Drop)]
+#[derive(Clone, Copy, PartialEq, Eq, Drop)]
 pub enum Engine {
     /// The engine by regions, which divides the answers that are left.
     Part,

@@ -6,7 +6,7 @@ ghost use Rattle.cmd_words.specs.declared.fault.WordsFault.TheVariants.{NoMemory
 use std::alloc::{AllocError, AllocFailed};
 
 /// Why a command line was rejected.
-#[derive(Clone, Copy, Debug, PartialEq, Eq, Drop)]
+#[derive(Clone, Copy, PartialEq, Eq, Drop)]
 pub enum WordsFault {
     /// The arguments do not form a command.
     Usage,

@@ -77,11 +77,15 @@ fn read_run(alloc: Global, words: &[String]) -> Result<Words, WordsFault>
         (λ said. run_of (map string_bytes words.now) ≡ Some (words_view said)) }
     ensures usage { IsErrOf result WordsFault.Usage → run_of (map string_bytes words.now) ≡ None }
 {
-    let matches = parsed(run_command(alloc), words)?;
-    let mut texts = texts_of(&matches);
-    texts.script = None;
-    texts.proof = None;
-    read_texts(alloc, texts)
+    match parsed(run_command(alloc), words) {
+        Ok(matches) => {
+            let mut texts = texts_of(&matches);
+            texts.script = None;
+            texts.proof = None;
+            read_texts(alloc, texts)
+        }
+        Err(fault) => Err(fault),
+    }
 }
 
 /// What the arguments of `session` say. `Usage` if they say nothing.
@@ -91,10 +95,14 @@ fn read_session(alloc: Global, words: &[String]) -> Result<Words, WordsFault>
     ensures usage { IsErrOf result WordsFault.Usage
         → session_of (map string_bytes words.now) ≡ None }
 {
-    let matches = parsed(session_command(alloc), words)?;
-    let mut texts = texts_of(&matches);
-    texts.proof = None;
-    read_session_texts(alloc, texts)
+    match parsed(session_command(alloc), words) {
+        Ok(matches) => {
+            let mut texts = texts_of(&matches);
+            texts.proof = None;
+            read_session_texts(alloc, texts)
+        }
+        Err(fault) => Err(fault),
+    }
 }
 
 /// What the arguments of `plan` say. `Usage` if they say nothing.
@@ -103,21 +111,25 @@ fn read_plan(alloc: Global, words: &[String]) -> Result<Words, WordsFault>
         (λ said. plan_of (map string_bytes words.now) ≡ Some (words_view said)) }
     ensures usage { IsErrOf result WordsFault.Usage → plan_of (map string_bytes words.now) ≡ None }
 {
-    let matches = parsed(plan_command(alloc), words)?;
-    let texts = texts_of(&matches);
-    read_texts(
-        alloc,
-        Texts {
-            engine: Some("part"),
-            ranks: None,
-            rows: None,
-            script: None,
-            proof: None,
-            best_of: None,
-            query: texts.query,
-            tables: texts.tables,
-        },
-    )
+    match parsed(plan_command(alloc), words) {
+        Ok(matches) => {
+            let texts = texts_of(&matches);
+            read_texts(
+                alloc,
+                Texts {
+                    engine: Some("part"),
+                    ranks: None,
+                    rows: None,
+                    script: None,
+                    proof: None,
+                    best_of: None,
+                    query: texts.query,
+                    tables: texts.tables,
+                },
+            )
+        }
+        Err(fault) => Err(fault),
+    }
 }
 
 /// What the arguments of `prove` say. `Usage` if they say nothing.
@@ -126,21 +138,25 @@ fn read_prove(alloc: Global, words: &[String]) -> Result<Words, WordsFault>
         (λ said. prove_of (map string_bytes words.now) ≡ Some (words_view said)) }
     ensures usage { IsErrOf result WordsFault.Usage → prove_of (map string_bytes words.now) ≡ None }
 {
-    let matches = parsed(prove_command(alloc), words)?;
-    let texts = texts_of(&matches);
-    read_texts(
-        alloc,
-        Texts {
-            engine: texts.engine,
-            ranks: None,
-            rows: None,
-            script: None,
-            proof: None,
-            best_of: None,
-            query: texts.query,
-            tables: texts.tables,
-        },
-    )
+    match parsed(prove_command(alloc), words) {
+        Ok(matches) => {
+            let texts = texts_of(&matches);
+            read_texts(
+                alloc,
+                Texts {
+                    engine: texts.engine,
+                    ranks: None,
+                    rows: None,
+                    script: None,
+                    proof: None,
+                    best_of: None,
+                    query: texts.query,
+                    tables: texts.tables,
+                },
+            )
+        }
+        Err(fault) => Err(fault),
+    }
 }
 
 /// What the arguments of `verify` say. `Usage` if they say nothing.
@@ -150,21 +166,25 @@ fn read_verify(alloc: Global, words: &[String]) -> Result<Words, WordsFault>
     ensures usage { IsErrOf result WordsFault.Usage
         → verify_of (map string_bytes words.now) ≡ None }
 {
-    let matches = parsed(verify_command(alloc), words)?;
-    let texts = texts_of(&matches);
-    read_verify_texts(
-        alloc,
-        Texts {
-            engine: Some("part"),
-            ranks: texts.ranks,
-            rows: texts.rows,
-            script: None,
-            proof: texts.proof,
-            best_of: None,
-            query: texts.query,
-            tables: texts.tables,
-        },
-    )
+    match parsed(verify_command(alloc), words) {
+        Ok(matches) => {
+            let texts = texts_of(&matches);
+            read_verify_texts(
+                alloc,
+                Texts {
+                    engine: Some("part"),
+                    ranks: texts.ranks,
+                    rows: texts.rows,
+                    script: None,
+                    proof: texts.proof,
+                    best_of: None,
+                    query: texts.query,
+                    tables: texts.tables,
+                },
+            )
+        }
+        Err(fault) => Err(fault),
+    }
 }
 
 /// What the arguments of `load` say: the engine, the generator's number and the rows. `Usage` if
@@ -175,6 +195,8 @@ fn read_load(alloc: Global, words: &[String]) -> Result<(Engine, u32, u32), Word
     ensures usage { IsErrOf result WordsFault.Usage → load_of (map string_bytes words.now) ≡ None }
     ensures ranges { IfOk result (λ said. IsInRange said.1 said.2) }
 {
-    let matches = parsed(load_command(alloc), words)?;
-    read_load_texts(&matches)
+    match parsed(load_command(alloc), words) {
+        Ok(matches) => read_load_texts(&matches),
+        Err(fault) => Err(fault),
+    }
 }

@@ -31,6 +31,10 @@ none_some e = cc
 pub no_place : {A : Type 0} {p : ℕ} → ◌≡◌ {A = Option ℕ} None (Some p) → A
 no_place e = cc
 
+-- a set of which only the places are others
+pub only_places : (old new : CursorSet) (places : List (Option ℕ)) → new ≡ record old { places = places } → new ≡ record old { places = new.places }
+only_places old new places e = e ∙ ap (λ (p : List (Option ℕ)). record old { places = p }) (sym (ap (λ (s : CursorSet). s.places) e))
+
 apart : (i j : ℕ) → (i ≡ j) ⊎ (i ≢ j)
 apart i j = elim (cases_order i j) [ inl same ↦ inl same | inr (inl less) ↦ inr (λ e. omega (arith, less, e)) | inr (inr more) ↦ inr (λ e. omega (arith, more, e)) ]
 
@@ -207,6 +211,10 @@ found_named cursors number name e =
     by : (o : Cursor) → get_or cursors number None ≡ o → is_named name o ≡ true → number < length cursors → Found cursors number name
     by None at passes within = let t : false ≡ true = passes in cc
     by (Some c) at passes within = record { cursor = c; at = at; is = same_name c.name.now name passes; within = within }
+
+-- the number of a cursor that was found is one of the 64
+pub number_below : (cursors : List Cursor) (number : ℕ) (name : List ℕ) → length cursors ≡ 64 → Some number ≡ position (is_named name) cursors → number < 64
+number_below cursors number name long e = let found = found_named cursors number name e in omega (arith, long, found.within)
 
 pub no_cursor : {A : Type 0} (cursors : List Cursor) (number : ℕ) (name : List ℕ) → Some number ≡ position (is_named name) cursors → get_or cursors number None ≡ None → A
 no_cursor cursors number name e none = let f = found_named cursors number name e in none_some (sym none ∙ f.at)

@@ -4,7 +4,7 @@ use step_counter::NoMemory;
 
 /// Why the bytes of a file are not a table, in the order in which a file is tested. Columns and
 /// rows count from 1.
-#[derive(Clone, Copy, Debug, PartialEq, Eq)]
+#[derive(Clone, Copy, PartialEq, Eq)]
 pub enum TableFault {
     /// The file has no record.
     NoHeader,

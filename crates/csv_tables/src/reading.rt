@@ -156,25 +156,29 @@ fn copy_fields(alloc: Global, row: &ByteRecord) -> Result<Vec<Vec<u8>>, NoMemory
         let Some(field) = row.get(i) else {
             unreachable!()
         };
-        copies.push(Vec::from_slice(alloc, field)?)?;
+        let copy = Vec::from_slice(alloc, field)?;
+        copies.push(copy)?;
     }
     Ok(copies)
 }
 
-/// The names of the columns, from the first record that is left.
-fn read_names(alloc: Global, records: &mut Records<'_>) -> Result<Vec<Vec<u8>>, TableFault>
+/// The names of the columns, from the first record that is left, which is read into `row`.
+fn read_names(
+    alloc: Global,
+    records: &mut Records<'_>,
+    row: &mut ByteRecord,
+) -> Result<Vec<Vec<u8>>, TableFault>
     ensures names { IfOk result (λ names. records.old ≡ lists_of names.items ∷ records.new) }
     ensures sound { IfOk result (λ names. header_flaw (lists_of names.items) ≡ None) }
     ensures fault { IfErr result (Tells (flaw_of records.old)) }
 {
-    let mut header = ByteRecord::new(alloc);
-    if !records.next(&mut header)? {
+    if !records.next(row)? {
         return Err(TableFault::NoHeader);
     }
-    if header.len() > MAX_COLUMNS {
+    if row.len() > MAX_COLUMNS {
         return Err(TableFault::TooManyColumns);
     }
-    let names = copy_fields(alloc, &header)?;
+    let names = copy_fields(alloc, row)?;
     check_names(&names)?;
     Ok(names)
 }
@@ -183,6 +187,7 @@ fn read_names(alloc: Global, records: &mut Records<'_>) -> Result<Vec<Vec<u8>>, 
 fn read_rows(
     alloc: Global,
     records: &mut Records<'_>,
+    row: &mut ByteRecord,
     names: Vec<Vec<u8>>,
 ) -> Result<PlainTable, TableFault>
     ensures sound { OnOk result
@@ -193,15 +198,46 @@ fn read_rows(
 {
     let width = names.len();
     let mut table = PlainTable::new(alloc, names);
-    let mut row = ByteRecord::new(alloc);
+    let read = add_rows(records, width, row, &mut table);
+    read.and(Ok(table))
+}
+
+/// Adds the records that are left as rows of a table that has none, each read into `row`.
+fn add_rows(
+    records: &mut Records<'_>,
+    width: usize,
+    row: &mut ByteRecord,
+    table: &mut PlainTable,
+) -> Result<(), TableFault>
+    requires width { width ≡ length table.old.names }
+    requires no_rows { table.old ≡ table_of (table.old.names ∷ []) }
+    ensures sound { OnOk result (rows_flaw width 1 records.old ≡ None) }
+    ensures table { OnOk result (table.new ≡ table_of (table.old.names ∷ records.old)) }
+    ensures fault { IfErr result (Tells (rows_flaw width 1 records.old)) }
+{
     'rows: for count in 0..usize::MAX {
-        if !records.next(&mut row)? {
-            return Ok(table);
+        if !records.next(row)? {
+            return Ok(());
         }
-        check_row(width, count + 1, &row)?;
-        table.push_row(&row)?;
+        check_row(width, count + 1, row)?;
+        table.push_row(row)?;
     }
     Err(TableFault::NoMemory)
+}
+
+/// The table of the records that are left, each read into `row`. The function and those that it
+/// calls are lent what they read with, so that a fault leaves little to drop.
+fn read_table(
+    alloc: Global,
+    records: &mut Records<'_>,
+    row: &mut ByteRecord,
+) -> Result<PlainTable, TableFault>
+    ensures sound { OnOk result (flaw_of records.old ≡ None) }
+    ensures table { IfOk result (λ t. t ≡ table_of records.old) }
+    ensures fault { IfErr result (Tells (flaw_of records.old)) }
+{
+    let names = read_names(alloc, records, row)?;
+    read_rows(alloc, records, row, names)
 }
 
 /// The table of the bytes of a file. The fault is that of `read_table`.
@@ -211,6 +247,6 @@ fn parse_table(alloc: Global, bytes: &[u8]) -> Result<PlainTable, TableFault>
     ensures fault { IfErr result (Tells (flaw_of (records_of bytes.now))) }
 {
     let mut records = Records::new(alloc, bytes);
-    let names = read_names(alloc, &mut records)?;
-    read_rows(alloc, &mut records, names)
+    let mut row = ByteRecord::new(alloc);
+    read_table(alloc, &mut records, &mut row)
 }

@@ -10,7 +10,7 @@ use step_counter::Steps;
 use tdp_core::Ranked;
 
 /// How far a cursor was driven.
-#[derive(Clone, Copy, Debug, PartialEq, Eq)]
+#[derive(Clone, Copy, PartialEq, Eq)]
 pub struct Driven {
     /// The number of answers it returned.
     pub given: u64,

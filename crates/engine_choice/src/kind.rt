@@ -1,7 +1,7 @@
 //! The names of the engines.
 
 /// Which engine enumerates the answers.
-#[derive(Clone, Copy, Debug, PartialEq, Eq, Drop)]
+#[derive(Clone, Copy, PartialEq, Eq, Drop)]
 pub enum EngineKind {
     /// The engine by regions, which divides the answers that are left.
     Part,

@@ -9,3 +9,4 @@ pub mod MadeShelf
 pub mod NoneRefused
 pub mod Reading
 pub mod Shapes
+pub mod Seeking

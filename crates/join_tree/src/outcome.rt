@@ -2,7 +2,7 @@
 
 /// The course of ear removal: which atoms were removed, in which order and each below which atom,
 /// and which are left. Atoms are numbered from 0.
-#[derive(Clone, Copy, Debug, PartialEq, Eq)]
+#[derive(Clone, Copy, PartialEq, Eq)]
 pub struct Ears {
     /// For each atom that was removed, the atom below which it hangs.
     pub parent: [u32; 16],

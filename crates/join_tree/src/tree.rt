@@ -10,7 +10,7 @@ use crate::outcome::Ears;
 use hyper_graph::{least, without};
 
 /// A join tree. Its nodes are numbered from 0, parents first, and node 0 is its own parent.
-#[derive(Clone, Copy, Debug, PartialEq, Eq)]
+#[derive(Clone, Copy, PartialEq, Eq)]
 pub struct JoinTree {
     /// The number of nodes.
     pub count: u32,

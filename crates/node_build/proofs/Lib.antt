@@ -4,6 +4,7 @@ pub mod Collected
 pub mod Costs
 pub mod Fitting
 pub mod Growing
+pub mod Handed
 pub mod Held
 pub mod Items
 pub mod Naming

@@ -1,5 +1,7 @@
 -- Facts of a result.
 use Rattle.std.proofs.Common.{Result, Ok, Err, OnOk}
+use Rattle.std.specs.Result.{IsErr}
+use Rattle.std.proofs.lemmas.Result.{IfOk-from_err}
 
 pub on_ok : {T E P : Type 0} (r : Result T E) → P → OnOk r P
 on_ok (Ok x) p = p
@@ -8,3 +10,7 @@ on_ok (Err e) p = tt
 pub on_ok_map : {T E P Q : Type 0} (r : Result T E) → (P → Q) → OnOk r P → OnOk r Q
 on_ok_map (Ok x) f p = f p
 on_ok_map (Err e) f p = tt
+
+-- nothing is asked after an error
+pub failed : {T E : Type 0} (r : Result T E) (P : Type 0) → IsErr r → OnOk r P
+failed r P e = IfOk-from_err r (λ _. P) e

@@ -16,7 +16,7 @@ pub struct Built<R: Rank> {
 }
 
 /// Why there is no raw tree.
-#[derive(Clone, Copy, Debug, PartialEq, Eq)]
+#[derive(Clone, Copy, PartialEq, Eq)]
 pub enum BuildFault {
     /// All nodes together have more rows than this budget.
     TooManyRows(u64),

@@ -1,14 +1,16 @@
 //! Filling the raw tree, one node after another.
-ghost use Rattle.std.specs.Prelude.{◌<◌, ◌≤◌, ◌+◌, ◌*◌, length, IfOk};
+ghost use Rattle.std.specs.Prelude.{◌≡◌, ◌<◌, ◌≤◌, ◌+◌, ◌*◌, length, IfOk, OnOk};
 ghost use Rattle.tdp_model.specs.NodeRows.{most_node_rows};
 ghost use Rattle.std.specs.List.{sum_by};
 ghost use Rattle.bound_query.specs.WeighedQuery.{Fits};
-ghost use Rattle.node_build.specs.PartialTrees.{IsFilledTree};
+ghost use Rattle.counted_index.specs.Pairs.{AreNumbers};
+ghost use Rattle.node_build.specs.Columns.{HaveColumns};
+ghost use Rattle.node_build.specs.PartialTrees.{AreFilled, IsFilledTree};
 ghost use Rattle.node_build.specs.Nodes.{CapsBelow, IsJoinTreeOf};
 ghost use Rattle.node_build.specs.Rows.{HaveRows, lists_of};
 ghost use Rattle.node_build.specs.Shapes.{AreShapesOf};
 
-use crate::columns::columns_of;
+use crate::columns::{Columns, columns_of};
 use crate::node::add_rows;
 use crate::shapes::shapes_of;
 use bound_query::Query;
@@ -49,11 +51,52 @@ pub(crate) fn filled_tree<R: Rank, L: Ledger>(
     let mut tree = RawTree::with_keys(alloc, shapes.as_slice(), keys)?;
     let columns = columns_of(alloc, query, join)?;
     let mut links = PairIndex::new(alloc, join.count, keys)?;
+    let added = add_nodes(
+        alloc, query, tables, join, &columns, rows, &mut links, &mut tree, steps,
+    );
+    added.and(Ok(tree))
+}
+
+/// Adds the rows of each node to a tree without rows. It owns nothing, so that a refusal of memory
+/// leaves nothing to drop.
+fn add_nodes<R: Rank, L: Ledger>(
+    alloc: Global,
+    query: &Query,
+    tables: &Tables,
+    join: &JoinTree,
+    columns: &Columns,
+    rows: &[Vec<u32>],
+    links: &mut PairIndex,
+    tree: &mut RawTree<R>,
+    steps: &mut Steps<L>,
+) -> Result<(), NoMemory>
+    requires fits { Fits query.now tables.now }
+    requires keys { length query.now.query.order ≤ R.KEYS }
+    requires slots { length query.now.query.items ≤ R.ITEMS }
+    requires limit { CapsBelow R.LIMIT query.now tables.now }
+    requires tree { IsJoinTreeOf query.now.query join.now }
+    requires columns { HaveColumns query.now join.now join.now.count
+        (lists_of columns.now.own.items) (lists_of columns.now.above.items) }
+    requires rows { HaveRows query.now.query tables.now join.now join.now.count
+        (lists_of rows.now) }
+    requires room { sum_by length (lists_of rows.now) ≤ most_node_rows }
+    requires links { length links.old ≡ join.now.count }
+    requires numbers { AreNumbers links.old }
+    requires shapes { AreShapesOf query.now tables.now join.now join.now.count tree.old.shapes }
+    requires none { AreFilled query.now tables.now join.now (lists_of columns.now.own.items)
+        (lists_of columns.now.above.items)
+        R.KEYS R.key links.old 0 (lists_of rows.now) tree.old }
+    ensures shapes { OnOk result
+        (AreShapesOf query.now tables.now join.now join.now.count tree.new.shapes) }
+    ensures filled { OnOk result
+        (IsFilledTree query.now tables.now join.now R.KEYS R.key (lists_of rows.now) tree.new) }
+    ensures cost { steps.new ≤ steps.old + sum_by length (lists_of rows.now) * join.now.count }
+{
     for node in 0..join.count {
         let list = rows[node as usize].as_slice();
         add_rows(
-            alloc, query, tables, join, &columns, node, list, &mut links, &mut tree, steps,
+            alloc, query, tables, join, columns, node, list, links, tree, steps,
         )?;
     }
-    Ok(tree)
+    Ok(())
 }

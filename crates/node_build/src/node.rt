@@ -64,7 +64,8 @@ fn child_links<L: Ledger>(
             continue;
         }
         let above = columns.above[child].as_slice();
-        named.push(link(tables, table, row, above, links, child, steps)?)?;
+        let number = link(tables, table, row, above, links, child, steps)?;
+        named.push(number)?;
     }
     Ok(())
 }

@@ -51,7 +51,8 @@ pub(crate) fn rows_of_nodes(
 {
     let mut rows = Vec::new(alloc);
     for node in 0..join.count {
-        rows.push(passing_rows(alloc, query, tables, join.atom[node as usize])?)?;
+        let list = passing_rows(alloc, query, tables, join.atom[node as usize])?;
+        rows.push(list)?;
     }
     Ok(rows)
 }

@@ -1,9 +1,10 @@
 -- Bytes that were moved in two calls, one after the other.
-use Rattle.std.proofs.Common.{◌≡◌, ℕ, ◌+◌, ◌≤◌, ◌<◌, List, [], ◌++◌, Option, None, Some, IfSome, sym, ap, ◌∙◌, subst, take, drop, length, arith, length-take-le, length-append, drop_at, Result, Ok, Err, IfOk}
+use Rattle.std.proofs.Common.{min, length-drop, ◌≡◌, ℕ, ◌+◌, ◌≤◌, ◌<◌, List, [], ◌++◌, Option, None, Some, IfSome, sym, ap, ◌∙◌, subst, take, drop, length, arith, length-take-le, length-append, drop_at, Result, Ok, Err, IfOk}
 use Rattle.std.specs.Io.{ReadsAtMost}
 use Rattle.std.specs.Io.KnownBytes.{Appends, Consumes, IsAtEnd}
 use Rattle.std.proofs.KnownBytes.{Appends-trans, Consumes-trans, Consumes-all}
-use lib.Seq.{take-add, take-append-le}
+use Rattle.std.proofs.lemmas.List.{drop_all, take-append-drop}
+use lib.Seq.{take-add, take-append-le, take_at}
 
 -- the first n bytes were written, and then the first k of the others
 pub Appends-more : (a b c : Option (List ℕ)) (n k : ℕ) (bytes rest : List ℕ) → Appends a b (take n bytes) → Appends b c (take k rest) → rest ≡ drop n bytes
@@ -36,3 +37,13 @@ pub Consumes-in_place : {E : Type 0} (a b : Option (List ℕ)) (r : Result ℕ E
 Consumes-in_place a b (Ok n) front part rest at long fits read =
     subst (Consumes a b) (sym (ap (take n) (drop_at front (part ++ rest) at long) ∙ take-append-le n part rest fits.0)) read
 Consumes-in_place a b (Err e) front part rest at long fits read = tt
+
+-- n bytes were moved to the front of a buffer
+pub moved_front : (rest now left buf moved : List ℕ) (n : ℕ) → now ≡ rest → n ≡ min (length buf) (length rest) → moved ≡ take n rest ++ drop n buf → left ≡ drop n rest
+    → (now ≡ take n moved ++ left) × (n ≡ 0 → 0 < length moved → left ≡ [])
+moved_front rest now left buf moved n same count is after =
+    let front : length (take n rest) ≡ n = length-take-le n rest (omega (arith, count)) in
+    let size : length moved ≡ length buf = omega (arith, ap length is, length-append (take n rest) (drop n buf), front, length-drop n buf, count) in (
+      same ∙ sym (take-append-drop n rest) ∙ (λ j. sym (ap (take n) is ∙ take_at (take n rest) (drop n buf) n front) j ++ sym after j),
+      λ none some. after ∙ drop_all n rest (omega (arith, count, size, none, some)),
+    )

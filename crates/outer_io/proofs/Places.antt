@@ -4,6 +4,7 @@ use Rattle.std.specs.List.{position, position_or_len, slice_get}
 use Rattle.std.specs.Option.{option_map, option_map_or}
 use Rattle.std.specs.String.{string_bytes}
 use Rattle.std.specs.Str.{bytes_eq}
+use Rattle.std.proofs.lemmas.List.{drop-drop, drop_all}
 use Rattle.std.proofs.lemmas.Option.{slice_get_past, slice_get_cases}
 use borrow.Author.Tests.{ltb-false, ltb-true}
 use Rattle.outer_io.specs.Entries.{entry_of, rest_at}
@@ -28,6 +29,14 @@ first_named (file ∷ files) name =
       | true ↦ refl
       | false ↦ first_named files name ∙ sym (next_place file files _)
     ]
+
+-- what is left further on
+pub rest_more : (files : List MemFile) (place : Option ℕ) (at n : ℕ) → rest_at files place (at + n) ≡ drop n (rest_at files place at)
+rest_more files None at n = sym (drop_all n [] (omega arith))
+rest_more files (Some place) at n = elim (slice_get files place) as (λ o. option_map_or (λ file. drop (at + n) file.bytes.items) o [] ≡ drop n (option_map_or (λ file. drop at file.bytes.items) o [])) [
+  | Some file ↦ sym (drop-drop n at file.bytes.items)
+  | None ↦ sym (drop_all n [] (omega arith))
+]
 
 pub past_end : (files : List MemFile) (place : ℕ) → length files ≤ place → bytes_at files place ≡ None
 past_end files place h = ap (option_map (λ file. file.bytes.items)) (slice_get_past files place h)

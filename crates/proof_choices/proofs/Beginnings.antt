@@ -1,8 +1,9 @@
 -- Beginnings with one node more.
-use Rattle.std.proofs.Common.{◌≡◌, ◌↔◌, ◌⊎◌, ◌<◌, ◌≤◌, ◌+◌, ℕ, List, [], ◌∷◌, ◌++◌, length, get_or, slice_index}
+use Rattle.std.proofs.Common.{◌≡◌, ◌↔◌, ◌⊎◌, ◌<◌, ◌≤◌, ◌+◌, ℕ, List, [], ◌∷◌, ◌++◌, length}
+use Rattle.std.proofs.Common.{replicate, get_or, slice_index}
 use Rattle.std.proofs.Common.{refl, sym, ap, subst, ◌∙◌, inl, inr, arith, length-append}
 use Rattle.std.proofs.lemmas.Bool.{cases_lt}
-use Rattle.std.proofs.lemmas.List.{get_or_append_left, get_or_push}
+use Rattle.std.proofs.lemmas.List.{get_or_append_left, get_or_push, get_or-replicate, length-replicate}
 use Rattle.proof_answers.specs.RowPlaces.{place_at}
 use Rattle.proof_choices.specs.Adding.{IsAdding}
 use Rattle.proof_choices.specs.Levels.{ArePrefixes, BeginAlike, IsPairAt, IsTaken, list_at}
@@ -252,3 +253,18 @@ module _ (p : ℕ) (places : List (List ℕ)) (numbers : List ℕ) where
           inr (b.0, b.1, subst (λ xs. BeginAlike (p + 1) xs (list_at places b.0)) (sym b.3) (λ q h. refl));
       first = λ z. absurd (omega (arith, z));
     }
+
+-- before the first node there is one beginning, which each answer has
+pub first_prefixes : (places starts : List (List ℕ)) (numbers : List ℕ) → numbers ≡ replicate (length places) 0 → length starts ≡ 1
+    → ArePrefixes 0 places numbers starts
+first_prefixes places starts numbers all one = record {
+  count = ap length all ∙ length-replicate (length places) 0;
+  within = λ i l. let here = at i l in omega (arith, here, one);
+  begins = λ i l q h. absurd (omega (arith, h));
+  apart = λ m n l k alike. omega (arith, l, k, one);
+  begun = λ n l. inl refl;
+  first = λ none. omega (arith, one);
+}
+  where
+    at : (i : ℕ) → i < length places → slice_index numbers i ≡ 0
+    at i l = ap (λ xs. slice_index xs i) all ∙ get_or-replicate (length places) i 0 0 l

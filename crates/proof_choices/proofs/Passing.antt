@@ -19,6 +19,14 @@ use Rattle.proof_choices.specs.Choices.{ArePassed, IsMissed}
 use Rattle.proof_choices.specs.Levels.{IsMissedAt, IsPassedAt, IsPast}
 use Rattle.proof_choices.proofs.Bridge.{choice_value, choice_way, way-choice, way_key}
 
+-- without a last answer there is none to come after
+pub none_passed : {R : Type 0} (query : Query) (tables : List Table) (join : JoinTree) (d : ℕ) (key : R → KeyOf d 16) (c : Certificate)
+    (answer : Option R) → IsLastKey query tables join d c (option_map key answer) → is_some answer ≡ false → c.ended ≡ false
+    → ArePassed query tables join c
+none_passed query tables join d key c None last none more o =
+    subst (λ b. IsPassed (problem_in query tables join) c b o) (sym more) (λ some. absurd (omega (arith, some, last)))
+none_passed query tables join d key c (Some k) last none more o = absurd (false≢true (sym none))
+
 module _ {R : Type 0} (query : Query) (tables : List Table) (join : JoinTree) (d : ℕ) (key : R → KeyOf d 16)
     (c : Certificate) (tree : BoundedView R) (few : length query.order ≤ d)
     (bounded : IsBounded query tables join d key c tree) (ordered : IsTree join.count join.atom join.parent)

@@ -7,7 +7,7 @@ use std::alloc::{AllocError, AllocFailed};
 
 /// Why bytes are not a query, or several, within the limits. The fault is the first of these that
 /// holds, except that memory may run out at any point. Offsets are in bytes, from 0.
-#[derive(Debug, PartialEq, Eq, Drop)]
+#[derive(PartialEq, Eq, Drop)]
 pub enum ParseFault {
     /// There are more than 65,536 bytes.
     TooLong,

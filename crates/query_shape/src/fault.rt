@@ -3,7 +3,7 @@
 use step_counter::NoMemory;
 
 /// The error of finding a query's join tree.
-#[derive(Clone, Copy, Debug, PartialEq, Eq)]
+#[derive(Clone, Copy, PartialEq, Eq)]
 pub enum ShapeFault {
     /// No join tree exists. The items that are left when there is no ear any more, as bits: item 1
     /// is the lowest.

@@ -10,16 +10,18 @@ use std::alloc::Global;
 use std::test::Fail;
 use step_counter::NoMemory;
 
-/// The ears of the graph of this many atoms with these sets.
-fn ears_of(alloc: Global, atoms: u32, sets: &[u16]) -> Result<Ears, NoMemory>
+/// The ears of the graph of this many atoms with these sets, or a message for a test that fails.
+fn ears_of(alloc: Global, atoms: u32, sets: &[u16]) -> Result<Ears, &'static str>
     requires some { 1 ≤ atoms }
     requires few { atoms ≤ 16 }
     requires within { All (λ set. set < 2 ^ atoms) sets.now }
     ensures { IfOk result
         (λ e. (graph : Hypergraph) × IsRemoval graph e.parent e.order e.removed e.core) }
 {
-    let graph = Graph::new(alloc, atoms, sets)?;
-    Ok(ears(&graph))
+    match Graph::new(alloc, atoms, sets) {
+        Ok(graph) => Ok(ears(&graph)),
+        Err(NoMemory) => Err("no memory"),
+    }
 }
 
 /// Two relations that are joined: the second hangs below the first.
@@ -142,7 +144,13 @@ fn parents_of(tree: &JoinTree) -> [u32; 4] {
 }
 
 /// Whether the tree of these variables is a join tree, or there is none and no tree is one.
-fn is_right(alloc: Global, trees: &[[bool; 16]], x: u16, y: u16, z: u16) -> Result<bool, NoMemory>
+fn is_right(
+    alloc: Global,
+    trees: &[[bool; 16]],
+    x: u16,
+    y: u16,
+    z: u16,
+) -> Result<bool, &'static str>
     requires x { x < 16 }
     requires y { y < 16 }
     requires z { z < 16 }
@@ -159,7 +167,7 @@ fn is_right(alloc: Global, trees: &[[bool; 16]], x: u16, y: u16, z: u16) -> Resu
 /// parents is a join tree, and the tree found is one.
 #[test]
 fn finds_a_tree_where_one_is(rt: HostRuntime) -> Result<(), Fail> {
-    let trees = all_trees(rt.alloc())?;
+    let trees = all_trees(rt.alloc()).or(Err("no memory"))?;
     assert!(rt; trees.len() == 64);
     for x in 0..16u16 {
         for y in 0..16u16 {

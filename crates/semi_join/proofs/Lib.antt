@@ -1,6 +1,7 @@
 pub mod FirstOnes
 pub mod Numbering
 pub mod PlacesByNumber
+pub mod Handed
 pub mod Kids
 pub mod Rows
 pub mod SoFar

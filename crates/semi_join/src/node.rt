@@ -12,7 +12,7 @@ use smallvec::SmallVec;
 use std::alloc::{AllocError, Global};
 use std::sync::ledger::Ledger;
 use step_counter::{NoMemory, Steps};
-use tdp_core::{Groups, NamedGroups, NodeParts, NodeRow, RawTree};
+use tdp_core::{Groups, NamedGroups, NodeParts, NodeRow, NodeShape, RawTree};
 
 /// A node with its rows in groups.
 #[derive(Drop)]
@@ -56,18 +56,44 @@ pub(crate) fn reduce_node<R: Rank, L: Ledger>(
     ensures cost { steps.new ≤ steps.old + raw_len raw.now node * length raw.now.shapes }
 {
     let kept = keep_rows(alloc, raw, node, later, steps)?;
-    let groups = Groups::of_numbers(alloc, &kept.numbers, kept.links.len())?;
+    match Groups::of_numbers(alloc, &kept.numbers, kept.links.len()) {
+        Ok(groups) => Ok(grouped(alloc, *raw.shape(node), kept, groups)),
+        Err(refused) => {
+            drop(kept);
+            Err(refused)
+        }
+    }
+}
+
+/// The node with the rows that are kept, in these groups.
+fn grouped<R: Rank>(
+    alloc: Global,
+    shape: NodeShape,
+    kept: KeptRows<R>,
+    groups: Groups,
+) -> GroupedNode<R>
+    ensures shape { result.parts.shape ≡ shape }
+    ensures rows { result.parts.rows ≡ kept.rows }
+    ensures to_child { result.parts.to_child ≡ kept.to_child }
+    ensures groups { result.parts.groups ≡ groups }
+    ensures best { result.parts.best.items ≡ [] }
+    ensures links { result.links ≡ kept.links }
+{
+    let KeptRows {
+        rows,
+        to_child,
+        links,
+        ..
+    } = kept;
+    let best = Vec::new(alloc);
     let parts = NodeParts {
-        shape: *raw.shape(node),
-        rows: kept.rows,
-        to_child: kept.to_child,
+        shape,
+        rows,
+        to_child,
         groups,
-        best: Vec::new(alloc),
+        best,
     };
-    Ok(GroupedNode {
-        parts,
-        links: kept.links,
-    })
+    GroupedNode { parts, links }
 }
 
 /// The rows of a node that are kept, each with the number of its group.
@@ -101,13 +127,55 @@ fn keep_rows<R: Rank, L: Ledger>(
 {
     let children = children_of(alloc, raw, node)?;
     let mut kept = no_rows(alloc, raw, node, children.len())?;
+    let added = add_rows(alloc, raw, node, &children, later, &mut kept, steps);
+    added.and(Ok(kept))
+}
+
+/// Appends the rows that are kept to none, each with the number of its group. It does not own what
+/// it appends to, so that an error leaves little to drop.
+fn add_rows<R: Rank, L: Ledger>(
+    alloc: Global,
+    raw: &RawTree<R>,
+    node: u32,
+    children: &[u32],
+    later: &[GroupLinks],
+    kept: &mut KeptRows<R>,
+    steps: &mut Steps<L>,
+) -> Result<(), NoMemory>
+    requires node { node < length raw.now.shapes }
+    requires shaped { AreShapes raw.now.shapes }
+    requires few_rows { row_total raw.now ≤ most_node_rows }
+    requires later { node + 1 + length later.now ≡ length raw.now.shapes }
+    requires few { AreFew (map links_of later.now) }
+    requires children { children.now ≡ child_nodes raw.now node }
+    requires no_rows { kept.old.rows.items ≡ [] }
+    requires no_children { kept.old.to_child
+        ≡ record { width = length children.now; rows = [] } }
+    requires no_links { links_of kept.old.links ≡ [] }
+    requires no_numbers { kept.old.numbers.items ≡ [] }
+    ensures rows { OnOk result
+        (map Some kept.new.rows.items
+        ≡ map (raw_row_at raw.now node) (kept_rows raw.now node (map links_of later.now))) }
+    ensures to_child { OnOk result
+        (kept.new.to_child.rows
+        ≡ map (groups_named raw.now node (map links_of later.now))
+        (kept_rows raw.now node (map links_of later.now))) }
+    ensures links { OnOk result
+        (links_of kept.new.links ≡ group_links raw.now node (map links_of later.now)) }
+    ensures numbers { OnOk result
+        (IsNumbering
+        (map (group_link raw.now node) (kept_rows raw.now node (map links_of later.now)))
+        (links_of kept.new.links) kept.new.numbers.items) }
+    ensures few { OnOk result (length kept.new.numbers.items ≤ most_node_rows) }
+    ensures cost { steps.new ≤ steps.old + raw_len raw.now node * length raw.now.shapes }
+{
     for i in 0..raw.len(node) {
-        if let Some(named) = child_groups(alloc, raw, node, i, &children, later, steps)? {
+        if let Some(named) = child_groups(alloc, raw, node, i, children, later, steps)? {
             let own = group_link_of(raw, node, i);
-            keep_row(&mut kept, raw.row(node, i), named, own, steps)?;
+            keep_row(kept, raw.row(node, i), &named, own, steps)?;
         }
     }
-    Ok(kept)
+    Ok(())
 }
 
 /// No rows, with room for all rows of a node that has so many children.
@@ -153,18 +221,18 @@ fn greatest_link<R: Rank>(raw: &RawTree<R>, node: u32) -> u32
 fn keep_row<R: Rank, L: Ledger>(
     kept: &mut KeptRows<R>,
     row: NodeRow<R>,
-    named: SmallVec<u32, 4>,
+    named: &[u32],
     own: u32,
     steps: &mut Steps<L>,
 ) -> Result<(), NoMemory>
     requires few { length (links_of kept.old.links) ≤ most_node_rows }
-    requires width { length named.items ≡ kept.old.to_child.width }
+    requires width { length named.now ≡ kept.old.to_child.width }
     requires few_rows { length kept.old.to_child.rows ≤ most_node_rows }
     ensures rows { OnOk result (kept.new.rows.items ≡ kept.old.rows.items ++ row ∷ []) }
     ensures to_child { OnOk result
         (kept.new.to_child ≡ record {
           width = kept.old.to_child.width;
-          rows = kept.old.to_child.rows ++ named.items ∷ [];
+          rows = kept.old.to_child.rows ++ named.now ∷ [];
         }) }
     ensures links { OnOk result
         (links_of kept.new.links ≡ insert_key nat_eq (links_of kept.old.links) own) }
@@ -173,10 +241,10 @@ fn keep_row<R: Rank, L: Ledger>(
         kept.new.numbers.items) }
     ensures cost { steps.new ≤ steps.old + 1 }
 {
+    kept.rows.push(row)?;
     let number = kept.links.insert(own, steps)?;
     kept.numbers.push(number)?;
-    kept.rows.push(row)?;
-    kept.to_child.push(named.as_slice())?;
+    kept.to_child.push(named)?;
     Ok(())
 }
 

@@ -3,7 +3,7 @@ use std::alloc::{AllocError, AllocFailed};
 
 /// Memory was refused. It has one value and no cause. `?` makes it of each error that the allocator
 /// returns.
-#[derive(Clone, Copy, Debug, PartialEq, Eq)]
+#[derive(Clone, Copy, PartialEq, Eq)]
 pub struct NoMemory;
 
 impl From<AllocError> for NoMemory {

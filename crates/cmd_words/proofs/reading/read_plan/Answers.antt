@@ -1,4 +1,4 @@
-use Rattle.std.proofs.Common.{◌≡◌, [], ◌∙◌, ap, map, refl, rules}
+use Rattle.std.proofs.Common.{◌≡◌, [], ◌∙◌, ap, map, refl}
 use Rattle.std.specs.Prelude.{Err}
 use Rattle.std.specs.String.{string_bytes}
 use Rattle.std.proofs.lemmas.Result.{IfOk-weaker}
@@ -17,20 +17,19 @@ parsed-requires-clause-simple c = IfOk-weaker c.plan_command.result _ _ (λ p h.
 pub parsed-requires-clause-free : goal.parsed-requires-clause-free
 parsed-requires-clause-free c = IfOk-weaker c.plan_command.result _ _ (λ p h. ap is_simple_and_free h ∙ plan_free) c.plan_command.ensures
 
-pub returns-in_err-matches-clause-usage : goal.returns-in_err-matches-clause-usage
-returns-in_err-matches-clause-usage c =
-    let same : c.from_residual.result ≡ Err c.in_err-matches.field-0.0 = search rules in
+pub returns-in-Err-clause-usage : goal.returns-in-Err-clause-usage
+returns-in-Err-clause-usage c =
     λ h. plan_refused plan_app (map string_bytes c.args.words.now) refl
-    (at_known c.plan_command.result plan_app (λ app. fault_of app (map string_bytes c.args.words.now) ≡ [] → ⊥) c.plan_command.ensures (c.in_err-matches.ensures.usage (same_error c.from_residual.result (Err c.in_err-matches.field-0.0) c.in_err-matches.field-0.0 _ same refl h)))
+    (at_known c.plan_command.result plan_app (λ app. fault_of app (map string_bytes c.args.words.now) ≡ [] → ⊥) c.plan_command.ensures (c.in-Err.ensures.usage (same_error (Err c.in-Err.fault) (Err c.in-Err.fault) c.in-Err.fault _ refl refl h)))
 
-pub returns-clause-words : goal.returns-clause-words
-returns-clause-words c = IfOk-weaker c.read_texts.result _ _ (λ said h. plan_taken plan_app (map string_bytes c.args.words.now) (rows_of (found_of c.in_ok-matches.matches))
-    (at_known c.plan_command.result plan_app (λ app. fault_of app (map string_bytes c.args.words.now) ≡ []) c.plan_command.ensures c.in_ok-matches.ensures.taken)
-    (at_known c.plan_command.result plan_app (λ app. rows_of (found_of c.in_ok-matches.matches) ≡ matches_of app (map string_bytes c.args.words.now)) c.plan_command.ensures c.in_ok-matches.ensures.matches)
+pub returns-in-Ok-clause-words : goal.returns-in-Ok-clause-words
+returns-in-Ok-clause-words c = IfOk-weaker c.read_texts.result _ _ (λ said h. plan_taken plan_app (map string_bytes c.args.words.now) (rows_of (found_of c.in-Ok.matches))
+    (at_known c.plan_command.result plan_app (λ app. fault_of app (map string_bytes c.args.words.now) ≡ []) c.plan_command.ensures c.in-Ok.ensures.taken)
+    (at_known c.plan_command.result plan_app (λ app. rows_of (found_of c.in-Ok.matches) ≡ matches_of app (map string_bytes c.args.words.now)) c.plan_command.ensures c.in-Ok.ensures.matches)
     (arguments_view c.texts_of-texts.result) c.texts_of-texts.ensures refl ∙ h) c.read_texts.ensures.words
 
-pub returns-clause-usage : goal.returns-clause-usage
-returns-clause-usage c = λ h. plan_taken plan_app (map string_bytes c.args.words.now) (rows_of (found_of c.in_ok-matches.matches))
-    (at_known c.plan_command.result plan_app (λ app. fault_of app (map string_bytes c.args.words.now) ≡ []) c.plan_command.ensures c.in_ok-matches.ensures.taken)
-    (at_known c.plan_command.result plan_app (λ app. rows_of (found_of c.in_ok-matches.matches) ≡ matches_of app (map string_bytes c.args.words.now)) c.plan_command.ensures c.in_ok-matches.ensures.matches)
+pub returns-in-Ok-clause-usage : goal.returns-in-Ok-clause-usage
+returns-in-Ok-clause-usage c = λ h. plan_taken plan_app (map string_bytes c.args.words.now) (rows_of (found_of c.in-Ok.matches))
+    (at_known c.plan_command.result plan_app (λ app. fault_of app (map string_bytes c.args.words.now) ≡ []) c.plan_command.ensures c.in-Ok.ensures.taken)
+    (at_known c.plan_command.result plan_app (λ app. rows_of (found_of c.in-Ok.matches) ≡ matches_of app (map string_bytes c.args.words.now)) c.plan_command.ensures c.in-Ok.ensures.matches)
     (arguments_view c.texts_of-texts.result) c.texts_of-texts.ensures refl ∙ c.read_texts.ensures.usage h

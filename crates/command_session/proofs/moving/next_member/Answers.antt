@@ -1,15 +1,16 @@
-use Rattle.std.proofs.Common.{◌≡◌, ◌+◌, ◌≤◌, inl, inr, Some, None, Ok, length, refl, sym, subst, ◌∙◌, arith}
+use Rattle.std.proofs.Common.{ℕ, ◌≡◌, ◌+◌, ◌≤◌, inl, inr, Some, None, Ok, ap, length, refl, sym, subst, ◌∙◌, arith}
+use Rattle.std.specs.Prelude.{slice_set}
 use Rattle.anyk_model.specs.Output.{cut}
 use Rattle.command_session.specs.Costs.{IsWithin, Spent}
 use Rattle.command_session.proofs.Costs.{paid_spent, spent_call, spent_places, within_call, within_spent}
-use Rattle.command_session.proofs.Follows.{cut_ended, cut_short, place_kept, same_place_in}
+use Rattle.command_session.proofs.Follows.{at_none, at_some, cut_ended, cut_short, place_kept, same_place_in}
 use Rattle.command_session.proofs.Reach.{at_below, at_limit}
 use Rattle.command_session.proofs.moving.next_member.Goals as goal
 
 pub returns-in-Ok-Some-clause-paid : goal.returns-in-Ok-Some-clause-paid
 returns-in-Ok-Some-clause-paid g c =
     let place = c.args.cursor.now.place in
-    let given = rw c.requires.place at (rw c.in-Ok-Some.field-0-is at c.in-Ok-Some.ensures.some) in
+    let given = rw c.requires.place at (at_some _ _ _ c.in-Ok-Some.field-0-is c.in-Ok-Some.ensures.some) in
     paid_spent g.E.Ranked.share g.met.E.Ranked.share_rises c.args.set.now c.next.new.self _ _ c.args.steps.now c.next.new.steps (Ok (Some c.in-Ok-Some.answer))
     (at_below (λ calls. Spent g.E.Ranked.share c.args.set.now c.next.new.self (place + calls) calls c.args.steps.now c.next.new.steps)
     c.args.limit place (c.is_reached.ensures.within c.if-is_reached.false)
@@ -19,7 +20,7 @@ returns-in-Ok-Some-clause-paid g c =
 pub returns-in-Ok-None-clause-paid : goal.returns-in-Ok-None-clause-paid
 returns-in-Ok-None-clause-paid g c =
     let place = c.args.cursor.now.place in
-    let ended = rw c.in-Ok-None.field-0-is at c.in-Ok-None.ensures.end in
+    let ended = at_none _ _ c.in-Ok-None.field-0-is c.in-Ok-None.ensures.end in
     paid_spent g.E.Ranked.share g.met.E.Ranked.share_rises c.args.set.now c.next.new.self _ _ c.args.steps.now c.next.new.steps (Ok None)
     (at_below (λ calls. Spent g.E.Ranked.share c.args.set.now c.next.new.self (place + calls) calls c.args.steps.now c.next.new.steps)
     c.args.limit place (c.is_reached.ensures.within c.if-is_reached.false)
@@ -57,14 +58,14 @@ returns-in_default-clause-places g c = place_kept _ _ _ c.requires.place
 
 pub returns-in-Ok-None-clause-end : goal.returns-in-Ok-None-clause-end
 returns-in-Ok-None-clause-end g c =
-    let ended = rw c.in-Ok-None.field-0-is at c.in-Ok-None.ensures.end in
+    let ended = at_none _ _ c.in-Ok-None.field-0-is c.in-Ok-None.ensures.end in
     let answers = c.args.set.now.answers in
     let at : length answers ≡ c.args.cursor.now.place = same_place_in _ _ (sym ended.0 ∙ c.requires.place) in
     (refl, subst (λ n. length (cut c.args.limit answers) ≤ n) at (cut_short c.args.limit answers))
 
 pub returns-in-Ok-None-clause-places : goal.returns-in-Ok-None-clause-places
 returns-in-Ok-None-clause-places g c =
-    let ended = rw c.in-Ok-None.field-0-is at c.in-Ok-None.ensures.end in
+    let ended = at_none _ _ c.in-Ok-None.field-0-is c.in-Ok-None.ensures.end in
     ended.1 ∙ place_kept _ _ _ c.requires.place
 
 pub returns-in-Err-clause-places : goal.returns-in-Err-clause-places
@@ -81,3 +82,22 @@ returns-in_default-clause-paid g c =
           (within_spent g.E.Ranked.share g.met.E.Ranked.share_rises set set (place + 1) 1 c.args.steps.now c.args.steps.now
           (spent_places g.E.Ranked.share g.met.E.Ranked.share_rises set set (place + 1) 1 c.args.steps.now c.args.steps.now refl (omega arith)));
     }
+
+pub returns-in-Ok-Some-clause-some : goal.returns-in-Ok-Some-clause-some
+returns-in-Ok-Some-clause-some g c =
+    let given = rw c.requires.place at (at_some _ _ _ c.in-Ok-Some.field-0-is c.in-Ok-Some.ensures.some) in
+    (c.is_reached.ensures.within c.if-is_reached.false, omega arith, given.0)
+
+pub returns-in-Ok-Some-clause-kept : goal.returns-in-Ok-Some-clause-kept
+returns-in-Ok-Some-clause-kept g c = c.next.ensures.kept.answers
+
+pub returns-in-Ok-None-clause-kept : goal.returns-in-Ok-None-clause-kept
+returns-in-Ok-None-clause-kept g c = c.next.ensures.kept.answers
+
+pub returns-in-Err-clause-kept : goal.returns-in-Err-clause-kept
+returns-in-Err-clause-kept g c = c.next.ensures.kept.answers
+
+pub returns-in-Ok-Some-clause-places : goal.returns-in-Ok-Some-clause-places
+returns-in-Ok-Some-clause-places g c =
+    let given = rw c.requires.place at (at_some _ _ _ c.in-Ok-Some.field-0-is c.in-Ok-Some.ensures.some) in
+    given.1 ∙ ap (λ (n : ℕ). slice_set c.args.set.now.places c.args.id.number (Some n)) (sym c.in-Some.ensures.1)

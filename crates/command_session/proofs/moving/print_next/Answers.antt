@@ -10,7 +10,7 @@ use Rattle.refusal_lines.specs.SinkState.{state_of}
 use Rattle.verdict.specs.Session.{next_text, with_name}
 use Rattle.tdp_core.specs.AnswerView.{AnswerView}
 use Rattle.witness_key.specs.WitnessKey.{combinations_in}
-use Rattle.command_session.proofs.Follows.{always, answer_given, answer_inside, answers_ended, ending_left, given_all, given_less, next_done, next_start, place_set, places_set, told_all}
+use Rattle.command_session.proofs.Follows.{always, answer_given, answer_inside, answers_ended, at_none, at_some, ending_left, given_all, given_less, next_done, next_start, place_set, places_set, told_all}
 use Rattle.command_session.proofs.Costs.{paid_spent, spent_places}
 use Rattle.command_session.proofs.Reach.{HasGiven, given_done, given_more, given_spent, given_within}
 use Rattle.command_session.proofs.Left.{HasLeft, left_last, left_more, left_none, left_stopped, left_unprinted, left_whole}
@@ -90,9 +90,9 @@ returns-in_default-clause-printed g c =
     let loop = (goal.at.returns-in_default-clause-printed g c).At-loop-given in
     let start = c.args.cursor.now.place in
     let done = c.loop-given._given in
-    let ended = rw c.limit.ensures at (rw c.in_default.is at c.in_ok-answer.ensures.end) in
+    let ended = at_none _ _ c.in_default.is c.in_ok-answer.ensures.end in
     let short = answers_ended (rows_of g loop) c.args.query.now.query.limit c.args.set.now.answers start done c.loop-given.cursor.place c.loop-given.invariant.place
-    (rw c.loop-given.invariant.answers at ended.1) in
+    (rw (c.limit.ensures, c.loop-given.invariant.answers) at ended.1) in
     let last = ending_left (line g loop) (ending g loop) (members g loop) start done c.args.count short c.loop-given-test.true in
     let P : List ℕ → Type 0 = λ text.
     Printed (state_of g.S.Sink c.loop-given.out) (state_of g.S.Sink c.print_end.new.out) text c.print_end.result in
@@ -108,9 +108,9 @@ returns-in_default-clause-moved g c =
     let loop = (goal.at.returns-in_default-clause-moved g c).At-loop-given in
     let start = c.args.cursor.now.place in
     let done = c.loop-given._given in
-    let ended = rw c.limit.ensures at (rw c.in_default.is at c.in_ok-answer.ensures.end) in
+    let ended = at_none _ _ c.in_default.is c.in_ok-answer.ensures.end in
     let short = answers_ended (rows_of g loop) c.args.query.now.query.limit c.args.set.now.answers start done c.loop-given.cursor.place c.loop-given.invariant.place
-    (rw c.loop-given.invariant.answers at ended.1) in
+    (rw (c.limit.ensures, c.loop-given.invariant.answers) at ended.1) in
     let all = given_less (members g loop) start done c.args.count c.loop-given.invariant.within c.loop-given-test.true short in
     always c.print_end.result (omega (arith, ended.0, c.loop-given.invariant.place, all))
 
@@ -126,7 +126,7 @@ returns-in_default-clause-kept g c = always c.print_end.result (c.in_ok-answer.e
 pub print_answer-requires-clause-rows : goal.print_answer-requires-clause-rows
 print_answer-requires-clause-rows g c =
     let query = c.args.query.now.query in
-    let found = rw c.limit.ensures at (rw c.in-Some.is at c.in_ok-answer.ensures.some) in
+    let found = at_some _ _ _ c.in-Some.is c.in_ok-answer.ensures.some in
     let at_place = rw c.loop-given.invariant.answers at found.2 in
     told_all (λ (a : AnswerView). IsCombination (row_counts query.items c.args.tables.now) (take (length query.items) a.rows)) c.args.set.now.answers
     c.loop-given.cursor.place _ c.requires.rows at_place
@@ -134,9 +134,9 @@ print_answer-requires-clause-rows g c =
 pub returns-in_err-print_answer-clause-printed : goal.returns-in_err-print_answer-clause-printed
 returns-in_err-print_answer-clause-printed g c =
     let loop = (goal.at.returns-in_err-print_answer-clause-printed g c).At-loop-given in
-    let found = rw c.limit.ensures at (rw c.in-Some.is at c.in_ok-answer.ensures.some) in
+    let found = at_some _ _ _ c.in-Some.is c.in_ok-answer.ensures.some in
     let split = answer_given (rows_of g loop) c.args.query.now.query.limit c.args.set.now.answers c.args.cursor.now.place c.loop-given._given c.loop-given.cursor.place
-    c.loop-given.invariant.place (line g loop) (ending g loop) c.args.count _ c.loop-given-test.true found.0 (rw c.loop-given.invariant.answers at found.2) in
+    c.loop-given.invariant.place (line g loop) (ending g loop) c.args.count _ c.loop-given-test.true (rw c.limit.ensures at found.0) (rw c.loop-given.invariant.answers at found.2) in
     let e : c.from_residual-in_err-print_answer.result ≡ Err c.in_err-print_answer.field-0.0 = search rules in
     rw e (left_stopped (whole g loop) (left g loop) _ _ _ c.loop-given.invariant.left _ _ c.in_err-print_answer.field-0.0 split c.in_err-print_answer.ensures)
 
@@ -148,22 +148,23 @@ loop-given-preserved g c =
     let done = c.loop-given._given in
     let place = c.loop-given.cursor.place in
     let at = c.loop-given.invariant.place in
-    let found = rw c.limit.ensures at (rw c.in-Some.is at c.in_ok-answer.ensures.some) in
+    let found = at_some _ _ _ c.in-Some.is c.in_ok-answer.ensures.some in
+    let below = rw c.limit.ensures at found.0 in
     let here = rw c.loop-given.invariant.answers at found.2 in
     let split = answer_given (rows_of g loop) limit c.args.set.now.answers start done place at (line g loop) (ending g loop) c.args.count _
-    c.loop-given-test.true found.0 here in
+    c.loop-given-test.true below here in
     let printed = c.in_ok-print_answer.ensures in
     record {
       place = omega (arith, found.1, at);
       name = c.in_ok-answer.ensures.name ∙ c.loop-given.invariant.name;
-      within = answer_inside (rows_of g loop) limit c.args.set.now.answers start done place at _ found.0 here;
+      within = answer_inside (rows_of g loop) limit c.args.set.now.answers start done place at _ below here;
       answers = c.in_ok-answer.ensures.kept ∙ c.loop-given.invariant.answers;
       places = places_set c.args.set.now.places c.loop-given.set.places c.next_member.new.set.places c.args.id.number place c.next_member.new.cursor.place
           c.loop-given.invariant.places c.in_ok-answer.ensures.places;
       here = place_set c.loop-given.set.places c.next_member.new.set.places c.args.id.number place c.next_member.new.cursor.place c.loop-given.invariant.here
           c.in_ok-answer.ensures.places;
       left = left_more (whole g loop) (left g loop) _ _ _ c.loop-given.invariant.left _ _ split printed.whole printed.later;
-      spent = given_more (given g loop) c.next_member.new.set c.next_member.new.steps found.0 (rw c.limit.ensures at c.in_ok-answer.ensures.paid.spent);
+      spent = given_more (given g loop) c.next_member.new.set c.next_member.new.steps below (rw c.limit.ensures at c.in_ok-answer.ensures.paid.spent);
     }
 
 pub returns-clause-printed : goal.returns-clause-printed

@@ -1,10 +1,10 @@
-use Rattle.std.proofs.Common.{◌≡◌, ℕ, Option, Some, ap, sym, subst, ◌∙◌}
+use Rattle.std.proofs.Common.{refl, ◌≡◌, ℕ, Option, Some, ap, sym, subst, ◌∙◌}
 use Rattle.std.specs.Prelude.{slice_set}
 use Rattle.cursor_set.specs.CursorSet.{CursorSet}
 use Rattle.verdict.specs.Session.{with_cursor}
 use Rattle.command_session.specs.OpenCursors.{IsHeld}
 use Rattle.command_session.specs.declared.open_cursors.OpenCursor.{OpenCursor}
-use Rattle.command_session.proofs.Moves.{found_named, held_new, no_cursor, place_held, place_named, some_same, unknown_closed}
+use Rattle.command_session.proofs.Moves.{found_named, held_new, no_cursor, number_below, only_places, place_held, place_named, some_same, unknown_closed}
 use Rattle.command_session.proofs.open_cursors.fork.Goals as goal
 
 pub returns-in_default-clause-held : goal.returns-in_default-clause-held
@@ -31,3 +31,30 @@ returns-clause-held g c = λ places held opened closed.
 
 pub returns-in_default-fork-clause-held : goal.returns-in_default-fork-clause-held
 returns-in_default-fork-clause-held g c = λ places held opened closed. tt
+
+pub returns-clause-answers : goal.returns-clause-answers
+returns-clause-answers g c = ap (λ (s : CursorSet). s.answers) c.in-Ok.ensures.forked.2
+
+pub returns-clause-only : goal.returns-clause-only
+returns-clause-only g c = only_places c.args.set.now c.fork.new.self _ c.in-Ok.ensures.forked.2
+
+pub returns-in_default-fork-clause-answers : goal.returns-in_default-fork-clause-answers
+returns-in_default-fork-clause-answers g c = ap (λ (s : CursorSet). s.answers) c.in_default-fork.ensures.refused.1
+
+pub returns-in_default-fork-clause-only : goal.returns-in_default-fork-clause-only
+returns-in_default-fork-clause-only g c = only_places c.args.set.now c.fork.new.self c.args.set.now.places c.in_default-fork.ensures.refused.1
+
+pub returns-in_default-clause-only : goal.returns-in_default-clause-only
+returns-in_default-clause-only g c = refl
+
+pub returns-in_default-cursors-clause-only : goal.returns-in_default-cursors-clause-only
+returns-in_default-cursors-clause-only g c = refl
+
+pub bounds : goal.bounds
+bounds g c = number_below c.args.cursors.now c.in-Some.number c.args.name.now c.told-cursors c.in-Some.ensures
+
+pub bounds-cursors-number : goal.bounds-cursors-number
+bounds-cursors-number g c = number_below c.args.cursors.now c.in-Some.number c.args.name.now c.told-cursors c.in-Some.ensures
+
+pub invariant_of-fork : goal.invariant_of-fork
+invariant_of-fork g c = record { in_range = number_below c.args.cursors.now c.in-Some.number c.args.name.now c.told-cursors c.in-Some.ensures }

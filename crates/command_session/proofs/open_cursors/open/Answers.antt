@@ -1,6 +1,6 @@
 use Rattle.std.proofs.Common.{ap}
 use Rattle.cursor_set.specs.CursorSet.{CursorSet}
-use Rattle.command_session.proofs.Moves.{held_new}
+use Rattle.command_session.proofs.Moves.{held_new, only_places}
 use Rattle.command_session.proofs.open_cursors.open.Goals as goal
 
 pub returns-clause-held : goal.returns-clause-held
@@ -10,3 +10,15 @@ returns-clause-held g c = λ places held closed.
 
 pub returns-in_default-clause-held : goal.returns-in_default-clause-held
 returns-in_default-clause-held g c = λ places held closed. tt
+
+pub returns-clause-answers : goal.returns-clause-answers
+returns-clause-answers g c = ap (λ (s : CursorSet). s.answers) c.in-Ok.ensures.opened.1
+
+pub returns-clause-only : goal.returns-clause-only
+returns-clause-only g c = only_places c.args.set.now c.open.new.self _ c.in-Ok.ensures.opened.1
+
+pub returns-in_default-clause-answers : goal.returns-in_default-clause-answers
+returns-in_default-clause-answers g c = ap (λ (s : CursorSet). s.answers) c.in_default.ensures.refused.2
+
+pub returns-in_default-clause-only : goal.returns-in_default-clause-only
+returns-in_default-clause-only g c = only_places c.args.set.now c.open.new.self c.args.set.now.places c.in_default.ensures.refused.2

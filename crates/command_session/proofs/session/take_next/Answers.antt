@@ -13,7 +13,7 @@ use Rattle.witness_key.specs.WitnessKey.{combinations_in}
 use Rattle.command_session.specs.Costs.{Paid}
 use Rattle.command_session.proofs.Follows.{all_ok}
 use Rattle.command_session.proofs.Reach.{next_paid}
-use Rattle.command_session.proofs.Moves.{found_named, held_moved, no_cursor, place_named, some_same, unknown_closed}
+use Rattle.command_session.proofs.Moves.{found_named, held_moved, no_cursor, number_below, place_named, some_same, unknown_closed}
 use Rattle.command_session.proofs.Steps.{next_after, next_told, same_place}
 use Rattle.command_session.proofs.session.take_next.Goals as goal
 
@@ -96,3 +96,15 @@ print_next-printed-requires-clause-rows g c = c.requires.rows
 
 pub returns-clause-kept : goal.returns-clause-kept
 returns-clause-kept g c = c.print_next-printed.ensures.kept
+
+pub bounds : goal.bounds
+bounds g c = number_below c.args.cursors.now c.in-Some.number c.args.name.now c.told-cursors c.in-Some.ensures
+
+pub bounds-cursors-number : goal.bounds-cursors-number
+bounds-cursors-number g c = number_below c.args.cursors.now c.in-Some.number c.args.name.now c.told-cursors c.in-Some.ensures
+
+pub bounds-cursors-number-2 : goal.bounds-cursors-number-2
+bounds-cursors-number-2 g c = number_below c.args.cursors.now c.in-Some.number c.args.name.now c.told-cursors c.in-Some.ensures
+
+pub invariant_of-id : goal.invariant_of-id
+invariant_of-id g c = record { in_range = number_below c.args.cursors.now c.in-Some.number c.args.name.now c.told-cursors c.in-Some.ensures }

@@ -1,36 +1,39 @@
-use Rattle.std.proofs.Common.{◌≡◌, ◌+◌, ◌∷◌, ◌∙◌, Vec, Global, ℕ, length, sym, ap, inr, None, true, arith, rules}
+use Rattle.std.proofs.Common.{◌≡◌, ◌∙◌, ◌∷◌, [], Global, Vec, arith, length, sym, ap, subst, Result, Ok, Err, OnOk, IfOk, IfErr, ℕ, None}
 use Rattle.std.proofs.lemmas.List.{length-map}
-use Rattle.std.proofs.lemmas.Result.{err_from_is_err_and}
-use Rattle.csv.specs.Records.{fields_of}
-use Rattle.anyk_model.specs.Table.{row_flaw}
+use Rattle.std.specs.Result.{result_and}
+use Rattle.anyk_model.specs.Table.{rows_flaw, table_of}
+use Rattle.csv_tables.specs.Faults.{Tells}
 use Rattle.table_store.specs.Values.{lists_of}
-use Rattle.csv_tables.specs.Faults.{refusal}
-use Rattle.csv_tables.proofs.Refusals.{refusal_none}
-use Rattle.csv_tables.proofs.Rows.{reads_more, turn_fault}
 use Rattle.csv_tables.proofs.reading.read_rows.Goals as goal
 
-pub returns-in_err-check_row-clause-fault : goal.returns-in_err-check_row-clause-fault
-returns-in_err-check_row-clause-fault c =
-    let names = lists_of c.args.names.items in
-    let fields = fields_of c.next.new.row in
-    let width : c.len-width.result ≡ length names =
-    omega (arith, c.len-width.ensures, c.args.names.ok.0, length-map c.args.names.items (λ (v : Vec ℕ Global). v.items)) in
-    let p = err_from_is_err_and c.from_residual-in_err-check_row.result c.from_residual-in_err-check_row.ensures.1 in
-    let found : c.in_ok-next.field-0 ≡ true = search rules in
-    let next : c.rows.records ≡ fields ∷ c.next.new.self = rw found at c.in_ok-next.ensures in
-    rw (p.1, p.2) (inr (turn_fault names c.args.records.now c.rows.records c.next.new.self c.rows.count c.rows.table fields c.rows.invariant next
-    c.in_err-check_row.field-0.0
-    (sym c.in_err-check_row.was ∙ c.check_row.ensures ∙ ap (λ (w : ℕ). refusal (row_flaw w (c.rows.count + 1) fields)) width)))
+-- what holds of a value after a call holds of what is handed on after it
+handed : {T U E : Type 0} (s : Result T E) (r : Result U E) (x : T) (P : T → Type 0) → s ≡ result_and r (Ok x) → OnOk r (P x) → IfOk s P
+handed s (Ok _) x P e h = subst (λ o. IfOk o P) (sym e) h
+handed s (Err _) x P e h = subst (λ o. IfOk o P) (sym e) tt
 
-pub rows-preserved : goal.rows-preserved
-rows-preserved c =
+-- and what holds of an error of the call
+handed_err : {T U E : Type 0} (s : Result T E) (r : Result U E) (x : T) (P : E → Type 0) → s ≡ result_and r (Ok x) → IfErr r P → IfErr s P
+handed_err s (Ok _) x P e h = subst (λ o. IfErr o P) (sym e) tt
+handed_err s (Err _) x P e h = subst (λ o. IfErr o P) (sym e) h
+
+pub add_rows-read-requires-clause-width : goal.add_rows-read-requires-clause-width
+add_rows-read-requires-clause-width c =
+    omega (arith, c.len-width.ensures, c.args.names.ok.0, length-map c.args.names.items (λ (v : Vec ℕ Global). v.items), ap (λ t. length t.names) c.new-table.ensures)
+
+pub add_rows-read-requires-clause-no_rows : goal.add_rows-read-requires-clause-no_rows
+add_rows-read-requires-clause-no_rows c = c.new-table.ensures ∙ sym (ap (λ t. record { names = t.names; rows = [] }) c.new-table.ensures)
+
+pub returns : goal.returns
+returns c =
     let names = lists_of c.args.names.items in
-    let fields = fields_of c.next.new.row in
-    let width : c.len-width.result ≡ length names =
-    omega (arith, c.len-width.ensures, c.args.names.ok.0, length-map c.args.names.items (λ (v : Vec ℕ Global). v.items)) in
-    let passed = refusal_none (row_flaw c.len-width.result (c.rows.count + 1) fields) (sym c.in_ok-check_row.was ∙ c.check_row.ensures) in
-    let none : row_flaw (length names) (c.rows.count + 1) fields ≡ None = ap (λ (w : ℕ). row_flaw w (c.rows.count + 1) fields) (sym width) ∙ passed in
-    let found : c.in_ok-next.field-0 ≡ true = search rules in
-    let next : c.rows.records ≡ fields ∷ c.next.new.self = rw found at c.in_ok-next.ensures in
-    reads_more names c.args.records.now c.rows.records c.next.new.self c.rows.count c.rows.table fields c.rows.invariant next none
-    c.push_row.new.self c.in_ok-push_row.ensures.added
+    let records = c.args.records.now in
+    let made = c.add_rows-read.ensures in
+    let width : c.len-width.result ≡ length names = omega (arith, c.len-width.ensures, c.args.names.ok.0, length-map c.args.names.items (λ (v : Vec ℕ Global). v.items)) in
+    let e = c.and.ensures in
+    let flaw = ap (λ w. rows_flaw w 1 records) width in
+    record {
+      sound = handed c.and.result c.add_rows-read.result c.add_rows-read.new.table (λ _. rows_flaw (length names) 1 records ≡ None) e (subst (λ f. OnOk c.add_rows-read.result (f ≡ None)) flaw made.sound);
+      table = handed c.and.result c.add_rows-read.result c.add_rows-read.new.table (λ t. t ≡ table_of (names ∷ records)) e
+          (subst (λ t. OnOk c.add_rows-read.result (c.add_rows-read.new.table ≡ table_of (t.names ∷ records))) c.new-table.ensures made.table);
+      fault = handed_err c.and.result c.add_rows-read.result c.add_rows-read.new.table (Tells (rows_flaw (length names) 1 records)) e (subst (λ f. IfErr c.add_rows-read.result (Tells f)) flaw made.fault);
+    }

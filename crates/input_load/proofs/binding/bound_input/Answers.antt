@@ -77,3 +77,39 @@ returns-in_err-best-clause-branches c = IfOk-from_err c.from_residual-in_err-bes
 
 pub returns-in_err-best-clause-unnamed : goal.returns-in_err-best-clause-unnamed
 returns-in_err-best-clause-unnamed c = λ _. IfOk-from_err c.from_residual-in_err-best.result _ c.from_residual-in_err-best.ensures.0
+
+pub bind_queries-requires-clause-limits : goal.bind_queries-requires-clause-limits
+bind_queries-requires-clause-limits c = c.requires.limits
+
+pub bind_queries-requires-clause-numbers : goal.bind_queries-requires-clause-numbers
+bind_queries-requires-clause-numbers c = c.requires.numbers
+
+pub bind_queries-requires-clause-known : goal.bind_queries-requires-clause-known
+bind_queries-requires-clause-known c = c.requires.known
+
+pub odd_branch-requires-clause-some : goal.odd_branch-requires-clause-some
+odd_branch-requires-clause-some c =
+    let as_many = c.in_ok-queries.ensures.count in
+    let some = c.requires.limits.some in rw c.deref.ensures.value (omega (arith, as_many, some))
+
+pub odd_branch-requires-clause-few : goal.odd_branch-requires-clause-few
+odd_branch-requires-clause-few c =
+    let as_many = c.in_ok-queries.ensures.count in
+    let few = c.requires.limits.few in rw c.deref.ensures.value (omega (arith, as_many, few))
+
+pub list_item-requires : goal.list_item-requires
+list_item-requires c =
+    let as_many = c.in_ok-queries.ensures.count in
+    let some = c.requires.limits.some in rw c.deref-2.ensures.value (omega (arith, as_many, some))
+
+pub returns-in-Some-clause-branches : goal.returns-in-Some-clause-branches
+returns-in-Some-clause-branches c = tt
+
+pub returns-in-Some-clause-unnamed : goal.returns-in-Some-clause-unnamed
+returns-in-Some-clause-unnamed c = λ _. tt
+
+pub returns-clause-branches : goal.returns-clause-branches
+returns-clause-branches c = c.in_ok-queries.ensures.count
+
+pub returns-clause-unnamed : goal.returns-clause-unnamed
+returns-clause-unnamed c = c.in_ok-best.ensures.unnamed

@@ -1,4 +1,5 @@
-use Rattle.std.proofs.Common.{◌≡◌, Err, rules}
+use Rattle.std.proofs.Common.{◌≡◌, ◌∙◌, Err, ap, length, rules}
+use Rattle.std.proofs.lemmas.Result.{IfOk-from_err, IfOk-weaker}
 use Rattle.verdict.specs.Loading.{IsReading, file_in}
 use Rattle.verdict.specs.StageResults.{NoTurn}
 use Rattle.verdict.specs.Stages.{Is}
@@ -34,3 +35,22 @@ returns-clause-staged g c =
     (found_then (λ files. IsReading sought.several bytes) NoTurn (λ selects files. IsAccompanied sought files selects) (λ selects files. IsAccompaniedTurn sought files selects)
     _ _ _ c.in_ok-selects.selects.items _ (pure_staged (IsReading sought.several bytes) _ _ (rw c.deref.ensures.value at c.in_ok-selects.ensures.parsed))
     (rw c.deref-2.ensures.value at c.select_input.ensures.staged))
+
+pub returns-in_err-bytes-clause-alone : goal.returns-in_err-bytes-clause-alone
+returns-in_err-bytes-clause-alone g c = λ _. IfOk-from_err c.from_residual.result _ c.from_residual.ensures.0
+
+pub returns-in_err-bytes-clause-unnamed : goal.returns-in_err-bytes-clause-unnamed
+returns-in_err-bytes-clause-unnamed g c = λ _. IfOk-from_err c.from_residual.result _ c.from_residual.ensures.0
+
+pub returns-in_err-selects-clause-alone : goal.returns-in_err-selects-clause-alone
+returns-in_err-selects-clause-alone g c = λ _. IfOk-from_err c.from_residual-in_err-selects.result _ c.from_residual-in_err-selects.ensures.0
+
+pub returns-in_err-selects-clause-unnamed : goal.returns-in_err-selects-clause-unnamed
+returns-in_err-selects-clause-unnamed g c = λ _. IfOk-from_err c.from_residual-in_err-selects.result _ c.from_residual-in_err-selects.ensures.0
+
+pub returns-clause-alone : goal.returns-clause-alone
+returns-clause-alone g c = λ one.
+    IfOk-weaker c.select_input.result _ _ (λ input same. same ∙ ap length c.deref-2.ensures.value ∙ c.in_ok-selects.ensures.alone one) c.select_input.ensures.branches
+
+pub returns-clause-unnamed : goal.returns-clause-unnamed
+returns-clause-unnamed g c = c.select_input.ensures.unnamed

@@ -1,4 +1,5 @@
 use Rattle.std.proofs.Common.{◌≡◌, ◌∙◌, length, map, ap, arith, inl, inr, refl, ◌⊎◌}
+use Rattle.std.proofs.lemmas.Result.{IfOk-from_err}
 use Rattle.cmd_words.specs.NamedPairs.{named_pair}
 use Rattle.input_load.proofs.MadeShelf.{files_all, files_first, files_more}
 use Rattle.input_load.proofs.made.made_shelf.Goals as goal
@@ -25,3 +26,30 @@ returns c =
     let ended : (length c.loop-named.named-iterator.a.rest.now ≡ 0) ⊎ (length tables.items ≡ 0) =
     elim c.in-None.ensures.steps [ inl end ↦ inl end.1.0 | inr end ↦ inr (omega (arith, end.1.0, tables.ok.0)) ] in
     files_all c.loop-named.files.items c.loop-named.named-iterator.a.rest.now tables.items _ c.loop-named.invariant ended
+
+pub tables_of-requires-clause-small : goal.tables_of-requires-clause-small
+tables_of-requires-clause-small c = c.args.made.now.small
+
+pub tables_of-requires-clause-some_rows : goal.tables_of-requires-clause-some_rows
+tables_of-requires-clause-some_rows c = c.args.made.now.some_rows
+
+pub tables_of-requires-clause-few_rows : goal.tables_of-requires-clause-few_rows
+tables_of-requires-clause-few_rows c = c.args.made.now.few_rows
+
+pub returns-in_err-name : goal.returns-in_err-name
+returns-in_err-name c = IfOk-from_err c.from_residual.result _ c.from_residual.ensures.0
+
+pub returns-in_err-bytes : goal.returns-in_err-bytes
+returns-in_err-bytes c = IfOk-from_err c.from_residual-in_err-bytes.result _ c.from_residual-in_err-bytes.ensures.0
+
+pub returns-in_err-push : goal.returns-in_err-push
+returns-in_err-push c = IfOk-from_err c.from_residual-in_err-push.result _ c.from_residual-in_err-push.ensures.0
+
+pub returns-in_err-tables : goal.returns-in_err-tables
+returns-in_err-tables c = IfOk-from_err c.from_residual-in_err-tables.result _ c.from_residual-in_err-tables.ensures.0
+
+pub returns-in_err-name-2 : goal.returns-in_err-name-2
+returns-in_err-name-2 c = IfOk-from_err c.from_residual-in_err-name-2.result _ c.from_residual-in_err-name-2.ensures.0
+
+pub returns-in_err-push-2 : goal.returns-in_err-push-2
+returns-in_err-push-2 c = IfOk-from_err c.from_residual-in_err-push-2.result _ c.from_residual-in_err-push-2.ensures.0

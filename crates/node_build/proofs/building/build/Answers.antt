@@ -1,4 +1,5 @@
 use Rattle.std.proofs.Common.{◌∙◌, List, ℕ, Vec, Global, length, map, sym, ap, subst, arith}
+use Rattle.std.proofs.lemmas.Result.{IfOk-from_err}
 use Rattle.node_build.specs.Rows.{HaveRows, lists_of}
 use Rattle.node_build.proofs.Costs.{cost_within, counts_sum, past_budget, rows_fewer, total_low}
 use Rattle.node_build.proofs.Read.{built, counts_are, row_total_is, tie_free_lem}
@@ -90,3 +91,90 @@ returns-clause-used g c =
     (c.as_slice.ensures.value ∙ sym c.as_slice-3.ensures.value) c.in_ok-rows_of.ensures c.as_slice-2.ensures.value in
     c.sum_of-used.ensures ∙ total ∙ row_total_is c.args.query.now tables c.requires.fits c.count-count.ensures.sound join c.requires.tree g.R.Rank.KEYS g.R.Rank.key
     (lists_of c.as_slice-3.result.now) c.in_ok-tree.tree of_nodes c.in_ok-tree.ensures.shapes c.in_ok-tree.ensures.filled
+
+pub filled_tree-requires-clause-fits : goal.filled_tree-requires-clause-fits
+filled_tree-requires-clause-fits g c = c.requires.fits
+
+pub filled_tree-requires-clause-keys : goal.filled_tree-requires-clause-keys
+filled_tree-requires-clause-keys g c = c.requires.keys
+
+pub filled_tree-requires-clause-slots : goal.filled_tree-requires-clause-slots
+filled_tree-requires-clause-slots g c = c.requires.slots
+
+pub filled_tree-requires-clause-limit : goal.filled_tree-requires-clause-limit
+filled_tree-requires-clause-limit g c = c.requires.limit
+
+pub filled_tree-requires-clause-tree : goal.filled_tree-requires-clause-tree
+filled_tree-requires-clause-tree g c = c.requires.tree
+
+pub returns-in_err-rows-clause-built : goal.returns-in_err-rows-clause-built
+returns-in_err-rows-clause-built g c = IfOk-from_err c.from_residual.result _ c.from_residual.ensures.0
+
+pub returns-in_err-rows-clause-tie_free : goal.returns-in_err-rows-clause-tie_free
+returns-in_err-rows-clause-tie_free g c = IfOk-from_err c.from_residual.result _ c.from_residual.ensures.0
+
+pub returns-in_err-rows-clause-rows_of : goal.returns-in_err-rows-clause-rows_of
+returns-in_err-rows-clause-rows_of g c = IfOk-from_err c.from_residual.result _ c.from_residual.ensures.0
+
+pub returns-in_err-rows-clause-used : goal.returns-in_err-rows-clause-used
+returns-in_err-rows-clause-used g c = IfOk-from_err c.from_residual.result _ c.from_residual.ensures.0
+
+pub returns-in_err-rows-clause-within : goal.returns-in_err-rows-clause-within
+returns-in_err-rows-clause-within g c = IfOk-from_err c.from_residual.result _ c.from_residual.ensures.0
+
+pub returns-in_err-rows-clause-fewer : goal.returns-in_err-rows-clause-fewer
+returns-in_err-rows-clause-fewer g c = IfOk-from_err c.from_residual.result _ c.from_residual.ensures.0
+
+pub returns-in_err-rows_of-clause-built : goal.returns-in_err-rows_of-clause-built
+returns-in_err-rows_of-clause-built g c = IfOk-from_err c.from_residual-in_err-rows_of.result _ c.from_residual-in_err-rows_of.ensures.0
+
+pub returns-in_err-rows_of-clause-tie_free : goal.returns-in_err-rows_of-clause-tie_free
+returns-in_err-rows_of-clause-tie_free g c = IfOk-from_err c.from_residual-in_err-rows_of.result _ c.from_residual-in_err-rows_of.ensures.0
+
+pub returns-in_err-rows_of-clause-rows_of : goal.returns-in_err-rows_of-clause-rows_of
+returns-in_err-rows_of-clause-rows_of g c = IfOk-from_err c.from_residual-in_err-rows_of.result _ c.from_residual-in_err-rows_of.ensures.0
+
+pub returns-in_err-rows_of-clause-used : goal.returns-in_err-rows_of-clause-used
+returns-in_err-rows_of-clause-used g c = IfOk-from_err c.from_residual-in_err-rows_of.result _ c.from_residual-in_err-rows_of.ensures.0
+
+pub returns-in_err-rows_of-clause-within : goal.returns-in_err-rows_of-clause-within
+returns-in_err-rows_of-clause-within g c = IfOk-from_err c.from_residual-in_err-rows_of.result _ c.from_residual-in_err-rows_of.ensures.0
+
+pub returns-in_err-rows_of-clause-fewer : goal.returns-in_err-rows_of-clause-fewer
+returns-in_err-rows_of-clause-fewer g c = IfOk-from_err c.from_residual-in_err-rows_of.result _ c.from_residual-in_err-rows_of.ensures.0
+
+pub returns-in_err-tree-clause-built : goal.returns-in_err-tree-clause-built
+returns-in_err-tree-clause-built g c = IfOk-from_err c.from_residual-in_err-tree.result _ c.from_residual-in_err-tree.ensures.0
+
+pub returns-in_err-tree-clause-tie_free : goal.returns-in_err-tree-clause-tie_free
+returns-in_err-tree-clause-tie_free g c = IfOk-from_err c.from_residual-in_err-tree.result _ c.from_residual-in_err-tree.ensures.0
+
+pub returns-in_err-tree-clause-rows_of : goal.returns-in_err-tree-clause-rows_of
+returns-in_err-tree-clause-rows_of g c = IfOk-from_err c.from_residual-in_err-tree.result _ c.from_residual-in_err-tree.ensures.0
+
+pub returns-in_err-tree-clause-used : goal.returns-in_err-tree-clause-used
+returns-in_err-tree-clause-used g c = IfOk-from_err c.from_residual-in_err-tree.result _ c.from_residual-in_err-tree.ensures.0
+
+pub returns-in_err-tree-clause-within : goal.returns-in_err-tree-clause-within
+returns-in_err-tree-clause-within g c = IfOk-from_err c.from_residual-in_err-tree.result _ c.from_residual-in_err-tree.ensures.0
+
+pub returns-in_err-tree-clause-fewer : goal.returns-in_err-tree-clause-fewer
+returns-in_err-tree-clause-fewer g c = IfOk-from_err c.from_residual-in_err-tree.result _ c.from_residual-in_err-tree.ensures.0
+
+pub returns-then-used-budget-clause-built : goal.returns-then-used-budget-clause-built
+returns-then-used-budget-clause-built g c = tt
+
+pub returns-then-used-budget-clause-tie_free : goal.returns-then-used-budget-clause-tie_free
+returns-then-used-budget-clause-tie_free g c = tt
+
+pub returns-then-used-budget-clause-rows_of : goal.returns-then-used-budget-clause-rows_of
+returns-then-used-budget-clause-rows_of g c = tt
+
+pub returns-then-used-budget-clause-used : goal.returns-then-used-budget-clause-used
+returns-then-used-budget-clause-used g c = tt
+
+pub returns-then-used-budget-clause-within : goal.returns-then-used-budget-clause-within
+returns-then-used-budget-clause-within g c = tt
+
+pub returns-then-used-budget-clause-fewer : goal.returns-then-used-budget-clause-fewer
+returns-then-used-budget-clause-fewer g c = tt

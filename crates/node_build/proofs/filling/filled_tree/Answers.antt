@@ -1,16 +1,11 @@
-use Rattle.std.proofs.Common.{◌≡◌, ◌<◌, ◌*◌, ◌∙◌, ℕ, List, [], length, get_or, refl, sym, ap, subst, arith}
-use Rattle.std.proofs.Math.Nat.{mul-le-mul_right}
-use Rattle.std.proofs.lemmas.List.Sums.{sum_by-take-le, sum_by_more, sum_by_more_le}
+use Rattle.std.proofs.Common.{◌≡◌, ◌∙◌, List, length, refl, sym, ap, subst, arith}
+use Rattle.std.proofs.lemmas.Result.{IfOk-from_err}
 use Rattle.tdp_core.specs.declared.parts.NodeShape.{NodeShape}
-use Rattle.tdp_core.specs.RawView.{AreShapes, AreShapesHeld, rows_at}
-use Rattle.rankings.specs.Order.{IsMember}
-use Rattle.node_build.specs.PartialTrees.{AreFilled, HasOnlyMore}
-use Rattle.node_build.specs.Links.{HasRowsOf}
+use Rattle.tdp_core.specs.RawView.{AreShapes, AreShapesHeld}
 use Rattle.node_build.specs.Rows.{lists_of}
 use Rattle.node_build.proofs.Begun.{names_count, no_numbers, no_rows_yet, shapes_kept}
-use Rattle.node_build.proofs.Growing.{filled_more}
+use Rattle.node_build.proofs.Handed.{handed}
 use Rattle.node_build.proofs.Held.{shapes_held}
-use Rattle.node_build.proofs.Naming.{list_at, lists_length}
 use Rattle.node_build.proofs.Shaped.{shapes_are}
 use Rattle.node_build.proofs.filling.filled_tree.Goals as goal
 
@@ -25,120 +20,81 @@ with_keys-requires-clause-held g c =
     (shapes_held c.args.query.now c.args.tables.now c.args.join.now c.requires.tree c.in_ok-shapes.shapes.items (c.in_ok-shapes.ensures c.args.tables.now c.requires.fits)
     g.R.Rank.KEYS g.R.Rank.key g.R.Rank.ITEMS g.R.Rank.LIMIT g.R.Rank.ROWS g.met.R.Rank.holds g.met.R.Rank.rows_held c.requires.slots c.requires.limit)
 
-pub loop-node-init : goal.loop-node-init
-loop-node-init g c =
+pub add_nodes-added-requires-clause-columns : goal.add_nodes-added-requires-clause-columns
+add_nodes-added-requires-clause-columns g c = c.in_ok-columns.ensures
+
+pub add_nodes-added-requires-clause-links : goal.add_nodes-added-requires-clause-links
+add_nodes-added-requires-clause-links g c = names_count c.in_ok-links.links c.args.join.now.count c.in_ok-links.ensures
+
+pub add_nodes-added-requires-clause-numbers : goal.add_nodes-added-requires-clause-numbers
+add_nodes-added-requires-clause-numbers g c = no_numbers c.in_ok-links.links c.args.join.now.count c.in_ok-links.ensures
+
+pub add_nodes-added-requires-clause-shapes : goal.add_nodes-added-requires-clause-shapes
+add_nodes-added-requires-clause-shapes g c =
+    shapes_kept c.args.query.now c.args.tables.now c.args.join.now c.in_ok-shapes.shapes.items c.as_slice.result.now c.in_ok-tree.tree c.in_ok-tree.tree
+    (c.in_ok-shapes.ensures c.args.tables.now c.requires.fits) c.as_slice.ensures.value c.in_ok-tree.ensures refl
+
+pub add_nodes-added-requires-clause-none : goal.add_nodes-added-requires-clause-none
+add_nodes-added-requires-clause-none g c =
     let join = c.args.join.now in
     let own = lists_of c.in_ok-columns.columns.own.items in
     let above = lists_of c.in_ok-columns.columns.above.items in
-    let names = c.in_ok-links.links in
     let of_join = c.in_ok-shapes.ensures c.args.tables.now c.requires.fits in
     let count : length c.as_slice.result.now ≡ join.count = ap (λ (xs : List NodeShape). length xs) c.as_slice.ensures.value ∙ of_join.count in
+    no_rows_yet c.args.query.now c.args.tables.now join own above g.R.Rank.KEYS g.R.Rank.key c.in_ok-links.links (lists_of c.args.rows.now) c.as_slice.result.now c.in_ok-tree.tree count c.in_ok-tree.ensures
+
+pub returns : goal.returns
+returns g c =
+    let r = c.add_nodes-added.result in
+    let tree = c.add_nodes-added.new.tree in
+    let made = c.add_nodes-added.ensures in
     record {
-      shapes = refl;
-      count = names_count names join.count c.in_ok-links.ensures;
-      numbers = no_numbers names join.count c.in_ok-links.ensures;
-      filled = no_rows_yet c.args.query.now c.args.tables.now join own above g.R.Rank.KEYS g.R.Rank.key names (lists_of c.args.rows.now) c.as_slice.result.now c.in_ok-tree.tree count c.in_ok-tree.ensures;
-      cost = omega arith;
+      shapes = handed c.and.result r tree _ c.and.ensures made.shapes;
+      filled = handed c.and.result r tree _ c.and.ensures made.filled;
+      cost = made.cost;
     }
 
-pub bounds-rows-node : goal.bounds-rows-node
-bounds-rows-node g c = omega (arith, c.requires.rows.count, lists_length c.args.rows.now, c.loop-node-test.true)
+pub returns-in_err-shapes : goal.returns-in_err-shapes
+returns-in_err-shapes g c =
+    let r = c.from_residual.result in
+    let e = c.from_residual.ensures.0 in
+    record { shapes = IfOk-from_err r _ e; filled = IfOk-from_err r _ e; cost = omega arith }
 
-pub add_rows-requires-clause-columns : goal.add_rows-requires-clause-columns
-add_rows-requires-clause-columns g c = c.in_ok-columns.ensures
+pub returns-in_err-tree : goal.returns-in_err-tree
+returns-in_err-tree g c =
+    let r = c.from_residual-in_err-tree.result in
+    let e = c.from_residual-in_err-tree.ensures.0 in
+    record { shapes = IfOk-from_err r _ e; filled = IfOk-from_err r _ e; cost = omega arith }
 
-pub add_rows-requires-clause-links : goal.add_rows-requires-clause-links
-add_rows-requires-clause-links g c = c.loop-node.invariant.count
+pub returns-in_err-columns : goal.returns-in_err-columns
+returns-in_err-columns g c =
+    let r = c.from_residual-in_err-columns.result in
+    let e = c.from_residual-in_err-columns.ensures.0 in
+    record { shapes = IfOk-from_err r _ e; filled = IfOk-from_err r _ e; cost = omega arith }
 
-pub add_rows-requires-clause-shapes : goal.add_rows-requires-clause-shapes
-add_rows-requires-clause-shapes g c =
-    shapes_kept c.args.query.now c.args.tables.now c.args.join.now c.in_ok-shapes.shapes.items c.as_slice.result.now c.in_ok-tree.tree c.loop-node.tree
-    (c.in_ok-shapes.ensures c.args.tables.now c.requires.fits) c.as_slice.ensures.value c.in_ok-tree.ensures c.loop-node.invariant.shapes
+pub returns-in_err-links : goal.returns-in_err-links
+returns-in_err-links g c =
+    let r = c.from_residual-in_err-links.result in
+    let e = c.from_residual-in_err-links.ensures.0 in
+    record { shapes = IfOk-from_err r _ e; filled = IfOk-from_err r _ e; cost = omega arith }
 
-pub add_rows-requires-clause-each_node : goal.add_rows-requires-clause-each_node
-add_rows-requires-clause-each_node g c = c.loop-node.invariant.filled.each_node
+pub add_nodes-added-requires-clause-fits : goal.add_nodes-added-requires-clause-fits
+add_nodes-added-requires-clause-fits g c = c.requires.fits
 
-pub add_rows-requires-clause-empty : goal.add_rows-requires-clause-empty
-add_rows-requires-clause-empty g c = c.loop-node.invariant.filled.empty c.loop-node.node (omega arith)
+pub add_nodes-added-requires-clause-keys : goal.add_nodes-added-requires-clause-keys
+add_nodes-added-requires-clause-keys g c = c.requires.keys
 
-pub add_rows-requires-clause-rows : goal.add_rows-requires-clause-rows
-add_rows-requires-clause-rows g c row m =
-    let vs = c.args.rows.now in
-    let node = c.loop-node.node in
-    let inside : node < length vs = omega (arith, c.requires.rows.count, lists_length vs, c.loop-node-test.true) in
-    let list : c.as_slice-list.result.now ≡ get_or (lists_of vs) node [] = c.as_slice-list.ensures.value ∙ sym (list_at vs node c.index-rows-node.result inside c.index-rows-node.is) in
-    let h = ((c.requires.rows.each node (omega arith)).members row).0 (subst (λ (xs : List ℕ). IsMember row xs) list m) in
-    (h.0, h.1)
+pub add_nodes-added-requires-clause-slots : goal.add_nodes-added-requires-clause-slots
+add_nodes-added-requires-clause-slots g c = c.requires.slots
 
-pub add_rows-requires-clause-room : goal.add_rows-requires-clause-room
-add_rows-requires-clause-room g c =
-    let vs = c.args.rows.now in
-    let node = c.loop-node.node in
-    let inside : node < length vs = omega (arith, c.requires.rows.count, lists_length vs, c.loop-node-test.true) in
-    let list : c.as_slice-list.result.now ≡ get_or (lists_of vs) node [] = c.as_slice-list.ensures.value ∙ sym (list_at vs node c.index-rows-node.result inside c.index-rows-node.is) in
-    let size = ap (λ (xs : List ℕ). length xs) list in
-    let more = sum_by_more_le (λ (xs : List ℕ). length xs) (lists_of vs) node [] (omega (arith, inside, lists_length vs)) in
-    omega (arith, size, more, c.loop-node.invariant.filled.total, c.requires.room)
+pub add_nodes-added-requires-clause-limit : goal.add_nodes-added-requires-clause-limit
+add_nodes-added-requires-clause-limit g c = c.requires.limit
 
-pub returns-in_err-add_rows-clause-cost : goal.returns-in_err-add_rows-clause-cost
-returns-in_err-add_rows-clause-cost g c =
-    let vs = c.args.rows.now in
-    let node = c.loop-node.node in
-    let inside : node < length vs = omega (arith, c.requires.rows.count, lists_length vs, c.loop-node-test.true) in
-    let list : c.as_slice-list.result.now ≡ get_or (lists_of vs) node [] = c.as_slice-list.ensures.value ∙ sym (list_at vs node c.index-rows-node.result inside c.index-rows-node.is) in
-    let size = ap (λ (xs : List ℕ). length xs * c.args.join.now.count) list in
-    let more = mul-le-mul_right c.args.join.now.count (sum_by_more_le (λ (xs : List ℕ). length xs) (lists_of vs) node [] (omega (arith, inside, lists_length vs))) in
-    omega (arith, size, more, c.loop-node.invariant.cost, c.in_err-add_rows.ensures.cost)
+pub add_nodes-added-requires-clause-tree : goal.add_nodes-added-requires-clause-tree
+add_nodes-added-requires-clause-tree g c = c.requires.tree
 
-pub loop-node-preserved : goal.loop-node-preserved
-loop-node-preserved g c =
-    let query = c.args.query.now in
-    let tables = c.args.tables.now in
-    let join = c.args.join.now in
-    let own = lists_of c.in_ok-columns.columns.own.items in
-    let above = lists_of c.in_ok-columns.columns.above.items in
-    let vs = c.args.rows.now in
-    let node = c.loop-node.node in
-    let old = c.loop-node.links in
-    let new = c.add_rows.new.links in
-    let before = c.loop-node.invariant in
-    let now = c.in_ok-add_rows.ensures in
-    let inside : node < length vs = omega (arith, c.requires.rows.count, lists_length vs, c.loop-node-test.true) in
-    let there : node < length (lists_of vs) = omega (arith, inside, lists_length vs) in
-    let list : c.as_slice-list.result.now ≡ get_or (lists_of vs) node [] = c.as_slice-list.ensures.value ∙ sym (list_at vs node c.index-rows-node.result inside c.index-rows-node.is) in
-    let size = ap (λ (xs : List ℕ). length xs * join.count) list in
-    let one = ap (λ (n : ℕ). n * join.count) (sum_by_more (λ (xs : List ℕ). length xs) (lists_of vs) node [] there) in
-    record {
-      shapes = now.others.shapes ∙ before.shapes;
-      count = now.more.count ∙ before.count;
-      numbers = now.more.numbers before.numbers;
-      filled = filled_more query tables join own above g.R.Rank.KEYS g.R.Rank.key old new node (lists_of vs) c.loop-node.tree c.add_rows.new.tree now.more there before.filled
-          (subst (λ (xs : List ℕ). HasOnlyMore node (length xs) c.loop-node.tree c.add_rows.new.tree) list now.others)
-          (subst (λ (xs : List ℕ). HasRowsOf query tables join own above g.R.Rank.KEYS g.R.Rank.key new node (length xs) xs (rows_at c.add_rows.new.tree node)) list now.rows);
-      cost = omega (arith, size, one, before.cost, now.cost);
-    }
+pub add_nodes-added-requires-clause-rows : goal.add_nodes-added-requires-clause-rows
+add_nodes-added-requires-clause-rows g c = c.requires.rows
 
-pub returns-clause-shapes : goal.returns-clause-shapes
-returns-clause-shapes g c =
-    shapes_kept c.args.query.now c.args.tables.now c.args.join.now c.in_ok-shapes.shapes.items c.as_slice.result.now c.in_ok-tree.tree c.loop-node.tree
-    (c.in_ok-shapes.ensures c.args.tables.now c.requires.fits) c.as_slice.ensures.value c.in_ok-tree.ensures c.loop-node.invariant.shapes
-
-pub returns-clause-filled : goal.returns-clause-filled
-returns-clause-filled g c =
-    let own = lists_of c.in_ok-columns.columns.own.items in
-    let above = lists_of c.in_ok-columns.columns.above.items in
-    let names = c.loop-node.links in
-    let all : c.loop-node.node ≡ c.args.join.now.count = omega arith in
-    record {
-      own = own;
-      above = above;
-      names = names;
-      columns = c.in_ok-columns.ensures;
-      numbers = c.loop-node.invariant.numbers;
-      filled = subst (λ (n : ℕ). AreFilled c.args.query.now c.args.tables.now c.args.join.now own above g.R.Rank.KEYS g.R.Rank.key names n (lists_of c.args.rows.now) c.loop-node.tree) all c.loop-node.invariant.filled;
-    }
-
-pub returns-clause-cost : goal.returns-clause-cost
-returns-clause-cost g c =
-    let most = mul-le-mul_right c.args.join.now.count (sum_by-take-le (λ (xs : List ℕ). length xs) (lists_of c.args.rows.now) c.loop-node.node) in
-    omega (arith, most, c.loop-node.invariant.cost)
+pub add_nodes-added-requires-clause-room : goal.add_nodes-added-requires-clause-room
+add_nodes-added-requires-clause-room g c = c.requires.room

@@ -8,7 +8,7 @@ use Rattle.node_build.proofs.Fitting.{children_are, row_fits}
 use Rattle.node_build.proofs.Items.{item_below_16, row_below, table_there}
 use Rattle.node_build.proofs.Naming.{kids_below_lem, list_at, lists_length, own_there}
 use Rattle.node_build.proofs.Numbering.{link_kept, more_trans}
-use Rattle.node_build.proofs.Results.{on_ok, on_ok_map}
+use Rattle.node_build.proofs.Results.{failed, on_ok, on_ok_map}
 use Rattle.node_build.proofs.Shaped.{item_known}
 use Rattle.node_build.proofs.node.add_row.Goals as goal
 
@@ -102,3 +102,63 @@ pub returns-clause-cost : goal.returns-clause-cost
 returns-clause-cost g c =
     let few = kids_below_lem (parent_of c.args.join.now) c.args.node c.args.join.now.count (omega (arith, c.requires.node)) in
     omega (arith, few, c.in_ok-child_links.ensures.cost, c.in_ok-own_link.ensures.cost)
+
+pub returns-in_err-own_link : goal.returns-in_err-own_link
+returns-in_err-own_link g c =
+    let r = c.from_residual.result in
+    let e = c.from_residual.ensures.0 in
+    record { more = failed r _ e; added = failed r _ e; cost = omega (arith, c.requires.node) }
+
+pub returns-in_err-child_links-clause-more : goal.returns-in_err-child_links-clause-more
+returns-in_err-child_links-clause-more g c = failed c.from_residual-in_err-child_links.result _ c.from_residual-in_err-child_links.ensures.0
+
+pub returns-in_err-child_links-clause-added : goal.returns-in_err-child_links-clause-added
+returns-in_err-child_links-clause-added g c = failed c.from_residual-in_err-child_links.result _ c.from_residual-in_err-child_links.ensures.0
+
+pub link-requires-clause-first : goal.link-requires-clause-first
+link-requires-clause-first g c = c.requires.first
+
+pub child_links-requires-clause-fits : goal.child_links-requires-clause-fits
+child_links-requires-clause-fits g c = c.requires.fits
+
+pub child_links-requires-clause-tree : goal.child_links-requires-clause-tree
+child_links-requires-clause-tree g c = c.requires.tree
+
+pub child_links-requires-clause-columns : goal.child_links-requires-clause-columns
+child_links-requires-clause-columns g c = c.requires.columns
+
+pub child_links-requires-clause-node : goal.child_links-requires-clause-node
+child_links-requires-clause-node g c = c.requires.node
+
+pub child_links-requires-clause-first : goal.child_links-requires-clause-first
+child_links-requires-clause-first g c = c.requires.first
+
+pub child_links-requires-clause-row : goal.child_links-requires-clause-row
+child_links-requires-clause-row g c = c.requires.row
+
+pub rank_of-rank-requires-clause-fits : goal.rank_of-rank-requires-clause-fits
+rank_of-rank-requires-clause-fits g c = c.requires.fits
+
+pub rank_of-rank-requires-clause-keys : goal.rank_of-rank-requires-clause-keys
+rank_of-rank-requires-clause-keys g c = c.requires.keys
+
+pub rank_of-rank-requires-clause-slots : goal.rank_of-rank-requires-clause-slots
+rank_of-rank-requires-clause-slots g c = c.requires.slots
+
+pub rank_of-rank-requires-clause-limit : goal.rank_of-rank-requires-clause-limit
+rank_of-rank-requires-clause-limit g c = c.requires.limit
+
+pub rank_of-rank-requires-clause-tree : goal.rank_of-rank-requires-clause-tree
+rank_of-rank-requires-clause-tree g c = c.requires.tree
+
+pub rank_of-rank-requires-clause-node : goal.rank_of-rank-requires-clause-node
+rank_of-rank-requires-clause-node g c = c.requires.node
+
+pub rank_of-rank-requires-clause-first : goal.rank_of-rank-requires-clause-first
+rank_of-rank-requires-clause-first g c = c.requires.first
+
+pub rank_of-rank-requires-clause-row : goal.rank_of-rank-requires-clause-row
+rank_of-rank-requires-clause-row g c = c.requires.row
+
+pub add_row-requires-clause-room : goal.add_row-requires-clause-room
+add_row-requires-clause-room g c = c.requires.room

@@ -8,6 +8,7 @@ use Rattle.node_build.specs.Rows.{lists_of}
 use Rattle.node_build.specs.Shapes.{AreShapesOf}
 use Rattle.node_build.proofs.Growing.{no_rows, only_more, only_none, rows_more, rows_now}
 use Rattle.node_build.proofs.Numbering.{more_same, more_trans}
+use Rattle.node_build.proofs.Results.{failed}
 use Rattle.node_build.proofs.node.add_rows.Goals as goal
 
 pub loop-row-init : goal.loop-row-init
@@ -84,3 +85,39 @@ returns-clause-cost g c =
     let all : c.loop-row.row-index ≡ length c.args.rows.now = omega arith in
     let same = ap (λ (n : ℕ). n * c.args.join.now.count) all in
     omega (arith, same, c.loop-row.invariant.cost)
+
+pub add_row-requires-clause-fits : goal.add_row-requires-clause-fits
+add_row-requires-clause-fits g c = c.requires.fits
+
+pub add_row-requires-clause-keys : goal.add_row-requires-clause-keys
+add_row-requires-clause-keys g c = c.requires.keys
+
+pub add_row-requires-clause-slots : goal.add_row-requires-clause-slots
+add_row-requires-clause-slots g c = c.requires.slots
+
+pub add_row-requires-clause-limit : goal.add_row-requires-clause-limit
+add_row-requires-clause-limit g c = c.requires.limit
+
+pub add_row-requires-clause-tree : goal.add_row-requires-clause-tree
+add_row-requires-clause-tree g c = c.requires.tree
+
+pub add_row-requires-clause-columns : goal.add_row-requires-clause-columns
+add_row-requires-clause-columns g c = c.requires.columns
+
+pub add_row-requires-clause-node : goal.add_row-requires-clause-node
+add_row-requires-clause-node g c = c.requires.node
+
+pub returns-in_err-add_row-clause-more : goal.returns-in_err-add_row-clause-more
+returns-in_err-add_row-clause-more g c = failed c.from_residual-in_err-add_row.result _ c.from_residual-in_err-add_row.ensures.0
+
+pub returns-in_err-add_row-clause-others : goal.returns-in_err-add_row-clause-others
+returns-in_err-add_row-clause-others g c = failed c.from_residual-in_err-add_row.result _ c.from_residual-in_err-add_row.ensures.0
+
+pub returns-in_err-add_row-clause-rows : goal.returns-in_err-add_row-clause-rows
+returns-in_err-add_row-clause-rows g c = failed c.from_residual-in_err-add_row.result _ c.from_residual-in_err-add_row.ensures.0
+
+pub returns-in_err-reserve : goal.returns-in_err-reserve
+returns-in_err-reserve g c =
+    let r = c.from_residual.result in
+    let e = c.from_residual.ensures.0 in
+    record { more = failed r _ e; others = failed r _ e; rows = failed r _ e; cost = omega arith }

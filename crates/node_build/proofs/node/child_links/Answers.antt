@@ -61,19 +61,19 @@ link-requires-clause-columns g c =
     above_there c.args.query.now c.args.tables.now c.requires.fits c.args.join.now (lists_of c.args.columns.now.own.items) (lists_of vs) c.requires.columns
     child c.args.node c.table_of-table.result c.as_slice-above.result.now (omega arith) (omega arith) c.if-join-child.false list c.table_of-table.ensures
 
-pub returns-in_err-link-clause-cost : goal.returns-in_err-link-clause-cost
-returns-in_err-link-clause-cost g c =
+pub returns-in_err-number-clause-cost : goal.returns-in_err-number-clause-cost
+returns-in_err-number-clause-cost g c =
     let below : parent_of c.args.join.now c.loop-child.child ≡ c.args.node = c.if-join-child.false in
     let one = kids_below_child (parent_of c.args.join.now) c.args.node c.loop-child.child (omega arith) below in
     let rise = kids_rise (parent_of c.args.join.now) c.args.node (c.loop-child.child + 1) c.args.join.now.count (omega arith) in
-    omega (arith, rise, one, c.loop-child.invariant.cost, c.in_err-link.ensures.cost)
+    omega (arith, rise, one, c.loop-child.invariant.cost, c.in_err-number.ensures.cost)
 
 pub returns-in_err-push-clause-cost : goal.returns-in_err-push-clause-cost
 returns-in_err-push-clause-cost g c =
     let below : parent_of c.args.join.now c.loop-child.child ≡ c.args.node = c.if-join-child.false in
     let one = kids_below_child (parent_of c.args.join.now) c.args.node c.loop-child.child (omega arith) below in
     let rise = kids_rise (parent_of c.args.join.now) c.args.node (c.loop-child.child + 1) c.args.join.now.count (omega arith) in
-    omega (arith, rise, one, c.loop-child.invariant.cost, c.in_ok-link.ensures.cost)
+    omega (arith, rise, one, c.loop-child.invariant.cost, c.in_ok-number.ensures.cost)
 
 pub loop-child-preserved : goal.loop-child-preserved
 loop-child-preserved g c =
@@ -92,14 +92,14 @@ loop-child-preserved g c =
     ≡ values_at query tables join own (lists_of vs) c.args.node c.args.row (get_or (lists_of vs) child []) =
     ap (λ (t : ℕ). values_in tables (table_at tables t) c.args.row c.as_slice-above.result.now) c.table_of-table.ensures
     ∙ ap (λ (l : List ℕ). values_in tables (table_in tables query.query.items (item_of join c.args.node)) c.args.row l) list in
-    let here = subst (λ (l : List ℕ). IsLink c.link.new.links child c.in_ok-link.field-0 l) values c.in_ok-link.ensures.link in
+    let here = subst (λ (l : List ℕ). IsLink c.link.new.links child c.in_ok-number.number l) values c.in_ok-number.ensures.link in
     let pushed = c.in_ok-push.ensures.items in
     record {
-      more = more_trans c.args.links.now c.loop-child.links c.link.new.links before.more c.in_ok-link.ensures.more;
-      count = ap length pushed ∙ length-append c.loop-child.named.items (c.in_ok-link.field-0 ∷ []) ∙ ap (λ (n : ℕ). n + 1) before.count ∙ sym one;
+      more = more_trans c.args.links.now c.loop-child.links c.link.new.links before.more c.in_ok-number.ensures.more;
+      count = ap length pushed ∙ length-append c.loop-child.named.items (c.in_ok-number.number ∷ []) ∙ ap (λ (n : ℕ). n + 1) before.count ∙ sym one;
       names = names_more query tables join own (lists_of vs) c.loop-child.links c.link.new.links c.args.node c.args.row child c.loop-child.named.items c.push.new.self.items
-          c.in_ok-link.field-0 c.in_ok-link.ensures.more (omega arith) below before.count pushed before.names here;
-      cost = omega (arith, one, before.cost, c.in_ok-link.ensures.cost);
+          c.in_ok-number.number c.in_ok-number.ensures.more (omega arith) below before.count pushed before.names here;
+      cost = omega (arith, one, before.cost, c.in_ok-number.ensures.cost);
     }
 
 pub returns-clause-count : goal.returns-clause-count

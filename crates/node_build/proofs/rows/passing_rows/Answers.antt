@@ -1,6 +1,7 @@
 use Rattle.std.proofs.Common.{◌≡◌, ◌+◌, ◌∙◌, ap, sym, subst, length, true, arith, ℕ, List}
 use Rattle.anyk_model.specs.Table.{table_at}
 use Rattle.anyk_model.specs.Query.{item_table}
+use Rattle.std.proofs.lemmas.Result.{IfOk-from_err}
 use Rattle.node_build.proofs.Passing.{ArePassingBelow, none_more, one_more, rows_all}
 use Rattle.node_build.proofs.rows.passing_rows.Goals as goal
 
@@ -28,3 +29,36 @@ returns-clause-rows c =
     c.len-count.ensures.rows ∙ ap (λ (t : ℕ). length (table_at tables t).rows) c.table_of.ensures in
     let all : c.loop-row.row ≡ length (item_table query tables c.args.item).rows + 1 = omega (arith, known) in
     rows_all query tables c.args.item c.loop-row.row c.loop-row.rows.items all c.loop-row.invariant.rows
+
+pub returns-in_err-rows : goal.returns-in_err-rows
+returns-in_err-rows c =
+    let r = c.from_residual.result in
+    let e = c.from_residual.ensures.0 in
+    record { rows = IfOk-from_err r _ e; few = IfOk-from_err r _ e; limit = IfOk-from_err r _ e }
+
+pub returns-in_err-push : goal.returns-in_err-push
+returns-in_err-push c =
+    let r = c.from_residual-in_err-push.result in
+    let e = c.from_residual-in_err-push.ensures.0 in
+    record { rows = IfOk-from_err r _ e; few = IfOk-from_err r _ e; limit = IfOk-from_err r _ e }
+
+pub returns-clause-few : goal.returns-clause-few
+returns-clause-few c =
+    let known : c.len-count.result ≡ length (item_table c.args.query.now.query c.args.tables.now c.args.item).rows =
+    c.len-count.ensures.rows ∙ ap (λ (t : ℕ). length (table_at c.args.tables.now t).rows) c.table_of.ensures in
+    omega (arith, known)
+
+pub passes-requires-clause-row : goal.passes-requires-clause-row
+passes-requires-clause-row c =
+    let known : c.len-count.result ≡ length (item_table c.args.query.now.query c.args.tables.now c.args.item).rows =
+    c.len-count.ensures.rows ∙ ap (λ (t : ℕ). length (table_at c.args.tables.now t).rows) c.table_of.ensures in
+    omega (arith, known)
+
+pub returns-clause-limit : goal.returns-clause-limit
+returns-clause-limit c = omega (arith, c.len-count.ensures.limit)
+
+pub passes-requires-clause-fits : goal.passes-requires-clause-fits
+passes-requires-clause-fits c = c.requires.fits
+
+pub passes-requires-clause-item : goal.passes-requires-clause-item
+passes-requires-clause-item c = c.requires.item

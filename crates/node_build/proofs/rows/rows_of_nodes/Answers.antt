@@ -12,8 +12,8 @@ passing_rows-requires-clause-item c = item_known c.args.query.now.query c.args.j
 
 pub loop-node-preserved : goal.loop-node-preserved
 loop-node-preserved c =
-    rows_push c.args.query.now.query c.args.tables.now c.args.join.now c.loop-node.node c.loop-node.rows.items c.push.new.self.items c.in_ok-passing_rows.field-0 c.in_ok-push.ensures.items
-    c.loop-node.invariant c.in_ok-passing_rows.ensures.rows c.in_ok-passing_rows.ensures.few c.in_ok-passing_rows.ensures.limit
+    rows_push c.args.query.now.query c.args.tables.now c.args.join.now c.loop-node.node c.loop-node.rows.items c.push.new.self.items c.in_ok-list.list c.in_ok-push.ensures.items
+    c.loop-node.invariant c.in_ok-list.ensures.rows c.in_ok-list.ensures.few c.in_ok-list.ensures.limit
 
 pub returns : goal.returns
 returns c =

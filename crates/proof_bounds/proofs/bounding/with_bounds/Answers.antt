@@ -101,3 +101,17 @@ returns-in_err-name_all-clause-bounded g c = IfOk-from_err c.from_residual-in_er
 
 pub returns-clause-fault : goal.returns-clause-fault
 returns-clause-fault g c = tt
+
+pub placed_lines-requires : goal.placed_lines-requires
+placed_lines-requires g c = record {
+  query = c.args.query.now.query;
+  tables = c.args.tables.now;
+  join = c.args.join.now;
+  tree = c.requires.rows;
+}
+
+pub name_all-requires-clause-each_group : goal.name_all-requires-clause-each_group
+name_all-requires-clause-each_group g c = ap length c.as_slice-2.ensures.value ∙ c.in_ok-groups.ensures.groups.each_node
+
+pub name_all-requires-clause-each_node : goal.name_all-requires-clause-each_node
+name_all-requires-clause-each_node g c = ap length c.as_mut_slice.ensures.value ∙ c.in_ok-tops.ensures.each_node

@@ -1,14 +1,17 @@
 use Rattle.std.proofs.Common.{◌≡◌, ◌<◌, false, true, length, get_or, refl, sym, ap, subst, ◌∙◌, arith}
+use Rattle.std.proofs.Math.ListN.{length-set}
 use Rattle.std.specs.Option.{MatchOption}
 use Rattle.tdp_core.specs.RawView.{raw_len, shape_parent}
 use Rattle.proof_model.specs.Problem.{IsSolutionAt}
 use Rattle.proof_model.specs.QueryProblem.{problem_in}
 use Rattle.proof_bounds.specs.Places.{ArePlacesOf}
 use Rattle.proof_bounds.specs.Subtrees.{ArePlacedBefore, HasLinkOf, raw_below}
-use Rattle.proof_bounds.proofs.Placing.{placed_none}
+use Rattle.proof_bounds.proofs.Placing.{placed_more, placed_none, placed_skip}
 use Rattle.proof_bounds.proofs.Solutions.{found, in_nodes, must_link, size_of, whole}
-use Rattle.proof_bounds.proofs.Subtrees.{below_up, parents_first_lem}
+use Rattle.proof_bounds.proofs.Subtrees.{below_up, parent_low, parents_first_lem}
 use Rattle.proof_bounds.proofs.places.solution_places.Goals as goal
+use Rattle.proof_bounds.proofs.places.solution_places.Goals.{else-at-node-via-then-at-node+else-not-is_linked}
+use Rattle.proof_bounds.proofs.places.solution_places.Goals.{else-at-node-via-else-at-node}
 
 pub returns-then-rows-size : goal.returns-then-rows-size
 returns-then-rows-size g c = λ query tables join has s.
@@ -79,3 +82,71 @@ returns g c = λ query tables join has.
     c.args.rows.now c.loop-at.places c.requires
     (c.if-rows-size.false ∙ c.size.ensures c.args.node c.requires c.subtree-below.ensures)
     (subst (ArePlacedBefore c.args.raw.now c.args.node c.args.rows.now c.loop-at.places) end c.loop-at.invariant.placed)
+
+pub size-requires : goal.size-requires
+size-requires g c = (c.args.node, c.requires, c.subtree-below.ensures)
+
+pub item_place-requires-clause-node : goal.item_place-requires-clause-node
+item_place-requires-clause-node g c = omega (arith, c.nodes-nodes.ensures.count)
+
+pub item_place-requires-clause-below : goal.item_place-requires-clause-below
+item_place-requires-clause-below g c = (c.args.node, c.requires, c.subtree-below.ensures)
+
+pub bounds-rows-item_place : goal.bounds-rows-item_place
+bounds-rows-item_place g c =
+    let inside : c.loop-at.at < length c.args.raw.now.shapes = omega (arith, c.nodes-nodes.ensures.count) in
+    let below = c.subtree-below.ensures c.loop-at.at inside in
+    let some : 0 < raw_below c.args.raw.now c.args.node c.loop-at.at = omega (arith, below, c.if-below-at-eq0.false) in
+    let within = c.item_place.ensures.within c.args.node c.requires c.subtree-below.ensures some in
+    let size = c.size.ensures c.args.node c.requires c.subtree-below.ensures in
+    let long = c.if-rows-size.false in omega (arith, within, size, long)
+
+pub row_place-requires : goal.row_place-requires
+row_place-requires g c = omega (arith, c.nodes-nodes.ensures.count)
+
+pub shape-requires : goal.shape-requires
+shape-requires g c = omega (arith, c.nodes-nodes.ensures.count)
+
+pub bounds-places-shape : goal.bounds-places-shape
+bounds-places-shape g c =
+    let shaped = c.nodes-nodes.ensures.formed.shaped in
+    let inside : c.loop-at.at < length c.args.raw.now.shapes = omega (arith, c.nodes-nodes.ensures.count) in
+    let up = ap (λ s. s.parent) c.shape.ensures in
+    let low = parent_low c.args.raw.now shaped c.loop-at.at inside in
+    let few = shaped.few_nodes in omega (arith, up, low, few, inside)
+
+pub is_linked-requires-clause-place : goal.is_linked-requires-clause-place
+is_linked-requires-clause-place g c = c.in_ok-place.ensures.within
+
+pub loop-at-preserved-then-below-at-eq0 : goal.loop-at-preserved-then-below-at-eq0
+loop-at-preserved-then-below-at-eq0 g c =
+    let inside : c.loop-at.at < length c.args.raw.now.shapes = omega (arith, c.nodes-nodes.ensures.count) in
+    let none = sym (c.subtree-below.ensures c.loop-at.at inside) ∙ c.if-below-at-eq0.true in
+    record {
+      long = c.loop-at.invariant.long;
+      placed = placed_skip c.args.raw.now c.nodes-nodes.ensures.formed.shaped c.args.node c.args.rows.now c.loop-at.places c.loop-at.at
+          none c.loop-at.invariant.placed;
+    }
+
+pub loop-at-preserved : goal.loop-at-preserved
+loop-at-preserved g c =
+    let raw = c.args.raw.now in
+    let at = c.loop-at.at in
+    let places = c.loop-at.places in
+    let place = c.in_ok-place.place in
+    let inside : at < length raw.shapes = omega (arith, c.nodes-nodes.ensures.count) in
+    let up = ap (λ s. s.parent) c.shape.ensures in
+    let below = c.subtree-below.ensures at inside in
+    let some : 0 < raw_below raw c.args.node at = omega (arith, below, c.if-below-at-eq0.false) in
+    let row = c.in_ok-place.ensures.number
+    ∙ ap (λ i. get_or c.args.rows.now i 0) (c.item_place.ensures.place c.args.node c.requires c.subtree-below.ensures) in
+    record {
+      long = length-set places at place ∙ c.loop-at.invariant.long;
+      placed = placed_more raw c.nodes-nodes.ensures.formed.shaped c.args.node c.args.rows.now places at place
+          c.loop-at.invariant.long c.loop-at.auto.at inside c.loop-at.invariant.placed some c.in_ok-place.ensures.within row
+          (λ far. elim c.else-at-node.branch [
+            | else-at-node-via-then-at-node+else-not-is_linked w ↦
+                subst (λ p. HasLinkOf raw at (get_or places p 0) place) up (w.if-not-is_linked.ensures.0 refl)
+            | else-at-node-via-else-at-node w ↦ let near = w.if-at-node.false in absurd (omega (arith, near, far))
+          ]);
+    }

@@ -116,3 +116,27 @@ returns-in_err-part g c =
     ) in
     subst (λ r. IsBase join c.args.tree.now d g.R.Rank.key c.args.node c.args.start.now (option_map g.R.Rank.key r))
     (sym c.from_residual.ensures) (c.loop-at.at, l, sym c.in_err-part.ensures)
+
+pub base_part-requires-clause-ordered : goal.base_part-requires-clause-ordered
+base_part-requires-clause-ordered g c = c.requires.ordered
+
+pub base_part-requires-clause-bounded : goal.base_part-requires-clause-bounded
+base_part-requires-clause-bounded g c = c.requires.bounded
+
+pub base_part-requires-clause-node : goal.base_part-requires-clause-node
+base_part-requires-clause-node g c = c.requires.node
+
+pub base_part-requires-clause-at : goal.base_part-requires-clause-at
+base_part-requires-clause-at g c =
+    let b = c.requires.bounded in
+    omega (
+      arith,
+      all_nodes b.query b.tables c.args.join.now c.requires.ordered c.requires.long,
+      c.loop-at-test.true,
+      c.nodes-at-end.ensures.count,
+      ap (λ z. length z.raw.shapes) c.tree.view_is,
+      b.bounded.rows.nodes,
+    )
+
+pub base_part-requires-clause-rows : goal.base_part-requires-clause-rows
+base_part-requires-clause-rows g c = c.requires.rows

@@ -1,3 +1,4 @@
+use Rattle.std.proofs.Common.{inl, inr}
 use Rattle.proof_choices.proofs.branches.branch_of.Goals as goal
 
 pub returns : goal.returns
@@ -33,3 +34,9 @@ base_of-requires-clause-long g c = c.requires.long
 
 pub base_of-requires-clause-rows : goal.base_of-requires-clause-rows
 base_of-requires-clause-rows g c = c.requires.rows
+
+pub returns-in_err-group : goal.returns-in_err-group
+returns-in_err-group g c = rw c.from_residual.ensures (inl c.in_err-group.ensures)
+
+pub returns-in_err-base : goal.returns-in_err-base
+returns-in_err-base g c = rw c.from_residual-in_err-base.ensures (inr c.in_err-base.ensures)

@@ -66,3 +66,22 @@ returns g c =
         ]
     found q above tree join d key start some at inside (Some n) e =
         (inside n e, inr (some, ap (named_bound tree q) (sym at) ∙ e))
+
+pub bound_count-requires : goal.bound_count-requires
+bound_count-requires g c =
+    let b = c.requires.bounded in
+    let join = c.args.join.now in
+    let long : length join.atom ≡ 16 = omega arith in
+    let nodes = all_nodes b.query b.tables join c.requires.ordered long in
+    let inside = c.requires.node in
+    let e = b.bounded.each_node in
+    omega (arith, e, nodes, inside)
+
+pub returns-then-bound_count-eq0 : goal.returns-then-bound_count-eq0
+returns-then-bound_count-eq0 g c h l group =
+    let none = c.if-bound_count-eq0.true in let e = c.bound_count.ensures in absurd (omega (arith, l, none, e))
+
+pub returns-else-bound_count-eq0 : goal.returns-else-bound_count-eq0
+returns-else-bound_count-eq0 g c =
+    let some = c.if-bound_count-eq0.false in
+    let e = c.bound_count.ensures in (omega (arith, some, e), inl (c.if-node-eq0.true, refl))

@@ -3,7 +3,7 @@ use Rattle.std.proofs.Common.{inl, inr}
 use Rattle.std.proofs.lemmas.Bool.{false≢true}
 use Rattle.proof_text.specs.ProofView.{proof_view}
 use Rattle.proof_choices.specs.Levels.{IsMissedAt, IsPassedAt}
-use Rattle.proof_choices.proofs.Passing.{IsLimit, all_passed, is_missed, limit_from}
+use Rattle.proof_choices.proofs.Passing.{IsLimit, all_passed, is_missed, limit_from, none_passed}
 use Rattle.proof_choices.proofs.choices.check_choices.Goals as goal
 use Rattle.proof_choices.proofs.choices.check_choices.Goals.{then-proof, else-proof}
 use Rattle.proof_choices.proofs.choices.check_choices.Goals.{else-not-proof-via-then-not-proof+else-is_none}
@@ -83,3 +83,17 @@ returns-in-Err-clause-passed g c = tt
 
 pub returns-in-Err-clause-fault : goal.returns-in-Err-clause-fault
 returns-in-Err-clause-fault g c = inl refl
+
+pub returns-then-is_none-clause-passed : goal.returns-then-is_none-clause-passed
+returns-then-is_none-clause-passed g c =
+    none_passed c.args.query.now.query c.args.tables.now c.args.join.now g.R.Rank.KEYS g.R.Rank.key (proof_view c.args.proof.now)
+    c.args.answers.now.last c.requires.last (c.is_none.ensures ∙ ap not c.if-is_none.true) c.if-not-proof.true
+
+pub all_leave_after-requires-clause-bounded : goal.all_leave_after-requires-clause-bounded
+all_leave_after-requires-clause-bounded g c = record {
+  query = c.args.query.now.query;
+  tables = c.args.tables.now;
+  c = proof_view c.args.proof.now;
+  few = c.requires.keys;
+  bounded = c.requires.bounded;
+}

@@ -1,4 +1,4 @@
-use Rattle.std.proofs.Common.{◌≡◌, ◌++◌, ◌∷◌, [], subst, arith, Result, OnOk}
+use Rattle.std.proofs.Common.{arith, Result, OnOk}
 use Rattle.std.specs.Result.{IsErr}
 use Rattle.std.proofs.lemmas.Result.{IfOk-from_err}
 use Rattle.semi_join.proofs.node.keep_row.Goals as goal
@@ -7,16 +7,16 @@ use Rattle.semi_join.proofs.node.keep_row.Goals as goal
 failed : {T E : Type 0} (r : Result T E) (X : Type 0) → IsErr r → OnOk r X
 failed r X e = IfOk-from_err r (λ _. X) e
 
-pub returns-in_err-number : goal.returns-in_err-number
-returns-in_err-number g c =
-    let r = c.from_residual.result in
-    let e = c.from_residual.ensures.0 in
-    record { rows = failed r _ e; to_child = failed r _ e; links = failed r _ e; number = failed r _ e; cost = omega (arith, c.insert.ensures.cost) }
-
 pub returns-in_err-push : goal.returns-in_err-push
 returns-in_err-push g c =
-    let r = c.from_residual-in_err-push.result in
-    let e = c.from_residual-in_err-push.ensures.0 in
+    let r = c.from_residual.result in
+    let e = c.from_residual.ensures.0 in
+    record { rows = failed r _ e; to_child = failed r _ e; links = failed r _ e; number = failed r _ e; cost = omega arith }
+
+pub returns-in_err-number : goal.returns-in_err-number
+returns-in_err-number g c =
+    let r = c.from_residual-in_err-number.result in
+    let e = c.from_residual-in_err-number.ensures.0 in
     record { rows = failed r _ e; to_child = failed r _ e; links = failed r _ e; number = failed r _ e; cost = omega (arith, c.insert.ensures.cost) }
 
 pub returns-in_err-push-2 : goal.returns-in_err-push-2
@@ -35,11 +35,9 @@ pub returns : goal.returns
 returns g c =
     let made = c.in_ok-number.ensures in
     record {
-      rows = c.in_ok-push-2.ensures.items;
-      to_child =
-          subst (λ n. c.push-3.new.self ≡ record { width = c.args.kept.now.to_child.width; rows = c.args.kept.now.to_child.rows ++ (n ∷ []) }) c.as_slice.ensures
-          c.in_ok-push-3.ensures.ok;
+      rows = c.in_ok-push.ensures.items;
+      to_child = c.in_ok-push-3.ensures.ok;
       links = made.links;
-      number = (c.in_ok-number.number, made.within, made.stands, c.in_ok-push.ensures.items);
+      number = (c.in_ok-number.number, made.within, made.stands, c.in_ok-push-2.ensures.items);
       cost = omega (arith, made.cost);
     }

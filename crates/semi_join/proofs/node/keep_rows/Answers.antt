@@ -1,15 +1,7 @@
-use Rattle.std.proofs.Common.{◌≡◌, ◌<◌, ◌+◌, ◌≤◌, ◌++◌, ◌∷◌, [], map, length, sym, ap, subst, ◌∙◌, arith, true, nat_eq, IfSome}
+use Rattle.std.proofs.Common.{arith}
 use Rattle.std.proofs.lemmas.Result.{IfOk-from_err}
-use Rattle.tdp_core.specs.RawView.{raw_len, raw_row_at}
-use Rattle.tdp_core.proofs.RawReads.{length_within}
-use Rattle.semi_join.specs.Reduction.{links_of, child_nodes, has_partners, group_link, groups_named, EndsInPlaceOf, IsNumbering}
-use Rattle.indexmap.specs.IndexSet.{insert_all, insert_key}
-use Rattle.semi_join.proofs.FirstOnes.{kept_first}
-use Rattle.semi_join.proofs.Rows.{length-map}
-use Rattle.semi_join.proofs.NamedGroups.{named_count}
-use Rattle.semi_join.proofs.SoFar.{IsSoFar, room, room_all, kids_below_lem, none_so_far, few_links, few_numbers, missing_row, drop_row, keep_row_lem}
+use Rattle.semi_join.proofs.Handed.{handed}
 use Rattle.semi_join.proofs.node.keep_rows.Goals as goal
-use Rattle.semi_join.proofs.node.keep_rows.Goals.{in-Some+in_ok-keep_row, in_default}
 
 pub returns-in_err-children : goal.returns-in_err-children
 returns-in_err-children g c =
@@ -37,144 +29,17 @@ returns-in_err-kept g c =
       cost = omega arith;
     }
 
-pub returns-in_err-named : goal.returns-in_err-named
-returns-in_err-named g c =
-    let r = c.from_residual-in_err-named.result in
-    let e = c.from_residual-in_err-named.ensures.0 in
-    let all = ap length (c.deref.ensures.value ∙ c.in_ok-children.ensures) in
-    let within : c.loop-i.i < raw_len c.args.raw.now c.args.node = omega (arith, c.len-i-end.ensures) in
-    let steps = room c.loop-i.i (length (child_nodes c.args.raw.now c.args.node)) (raw_len c.args.raw.now c.args.node) (length c.args.raw.now.shapes) within (kids_below_lem c.args.raw.now c.args.node [] c.requires.node) in
+pub returns : goal.returns
+returns g c =
+    let r = c.add_rows-added.result in
+    let kept = c.add_rows-added.new.kept in
+    let made = c.add_rows-added.ensures in
+    let e = c.and.ensures in
     record {
-      rows = IfOk-from_err r _ e;
-      to_child = IfOk-from_err r _ e;
-      links = IfOk-from_err r _ e;
-      numbers = IfOk-from_err r _ e;
-      few = IfOk-from_err r _ e;
-      cost = omega (arith, all, steps, c.child_groups.ensures.cost, c.loop-i.invariant.counted);
+      rows = handed c.and.result r kept _ e made.rows;
+      to_child = handed c.and.result r kept _ e made.to_child;
+      links = handed c.and.result r kept _ e made.links;
+      numbers = handed c.and.result r kept _ e made.numbers;
+      few = handed c.and.result r kept _ e made.few;
+      cost = made.cost;
     }
-
-pub keep_row-requires-clause-width : goal.keep_row-requires-clause-width
-keep_row-requires-clause-width g c =
-    let raw = c.args.raw.now in
-    let node = c.args.node in
-    let later = map links_of c.args.later.now in
-    let i = c.loop-i.i in
-    let named = subst (λ o. IfSome o (λ n. n.items ≡ groups_named raw node later i)) c.in-Some.is c.in_ok-named.ensures.named in
-    ap length named ∙ named_count raw node later (length (child_nodes raw node)) i ∙ sym c.loop-i.invariant.width
-
-pub keep_row-requires-clause-few_rows : goal.keep_row-requires-clause-few_rows
-keep_row-requires-clause-few_rows g c =
-    let so_far = c.loop-i.invariant.so_far in
-    let most = length_within c.args.raw.now.rows c.args.node in
-    let long = ap length so_far.to_child ∙ length-map (groups_named c.args.raw.now c.args.node (map links_of c.args.later.now)) (kept_first c.args.raw.now c.args.node (map links_of c.args.later.now) c.loop-i.i) in
-    omega (arith, long, so_far.few, most, c.requires.few_rows, c.len-i-end.ensures)
-
-pub keep_row-requires-clause-few : goal.keep_row-requires-clause-few
-keep_row-requires-clause-few g c =
-    let now = c.loop-i.kept in
-    let few = few_links c.args.raw.now c.args.node (map links_of c.args.later.now) c.loop-i.i now.rows.items now.to_child.rows (links_of now.links) now.numbers.items c.loop-i.invariant.so_far in
-    let most = length_within c.args.raw.now.rows c.args.node in
-    omega (arith, few, most, c.requires.few_rows, c.len-i-end.ensures)
-
-pub returns-in_err-keep_row : goal.returns-in_err-keep_row
-returns-in_err-keep_row g c =
-    let r = c.from_residual-in_err-keep_row.result in
-    let e = c.from_residual-in_err-keep_row.ensures.0 in
-    let all = ap length (c.deref.ensures.value ∙ c.in_ok-children.ensures) in
-    let within : c.loop-i.i < raw_len c.args.raw.now c.args.node = omega (arith, c.len-i-end.ensures) in
-    let steps = room c.loop-i.i (length (child_nodes c.args.raw.now c.args.node)) (raw_len c.args.raw.now c.args.node) (length c.args.raw.now.shapes) within (kids_below_lem c.args.raw.now c.args.node [] c.requires.node) in
-    record {
-      rows = IfOk-from_err r _ e;
-      to_child = IfOk-from_err r _ e;
-      links = IfOk-from_err r _ e;
-      numbers = IfOk-from_err r _ e;
-      few = IfOk-from_err r _ e;
-      cost = omega (arith, all, steps, c.child_groups.ensures.cost, c.keep_row.ensures.cost, c.loop-i.invariant.counted);
-    }
-
-pub loop-i-preserved : goal.loop-i-preserved
-loop-i-preserved g c =
-    let all = ap length (c.deref.ensures.value ∙ c.in_ok-children.ensures) in
-    let raw = c.args.raw.now in
-    let node = c.args.node in
-    let later = map links_of c.args.later.now in
-    let i = c.loop-i.i in
-    let old = c.loop-i.kept in
-    let children = old.to_child.rows in
-    elim c.match-branch-4.branch [
-      | in-Some+in_ok-keep_row w ↦
-          let new = w.keep_row.new.kept in
-          let found = subst (λ o. IfSome o (λ n. has_partners raw node later i ≡ true)) w.in-Some.is c.in_ok-named.ensures.found in
-          let named = subst (λ o. IfSome o (λ n. n.items ≡ groups_named raw node later i)) w.in-Some.is c.in_ok-named.ensures.named in
-          let own = w.group_link_of-own.ensures in
-          let kept = keep_row_lem raw node later i old.rows.items new.rows.items children new.to_child.rows (links_of old.links) (links_of new.links) old.numbers.items new.numbers.items w.row.result
-          c.loop-i.invariant.so_far found w.row.ensures.row w.in_ok-keep_row.ensures.rows (ap (λ v. v.rows) w.in_ok-keep_row.ensures.to_child ∙ ap (λ n. children ++ (n ∷ [])) named)
-          (w.in_ok-keep_row.ensures.links ∙ ap (insert_key nat_eq (links_of old.links)) own) (subst (λ o. EndsInPlaceOf o (links_of new.links) old.numbers.items new.numbers.items) own w.in_ok-keep_row.ensures.number) in
-          record {
-            so_far = subst (λ k. IsSoFar raw node later (i + 1) k.rows.items k.to_child.rows (links_of k.links) k.numbers.items) (sym w.kept-is) kept;
-            width = ap (λ k. k.to_child.width) w.kept-is ∙ ap (λ v. v.width) w.in_ok-keep_row.ensures.to_child ∙ c.loop-i.invariant.width;
-            counted = omega (arith, all, c.child_groups.ensures.cost, w.keep_row.ensures.cost, c.loop-i.invariant.counted, w.steps-is);
-          }
-      | in_default w ↦
-          let gone = drop_row raw node later i old.rows.items children (links_of old.links) old.numbers.items c.loop-i.invariant.so_far (missing_row raw node later c.in_ok-named.field-0 i w.in_default.is c.in_ok-named.ensures.missing) in
-          record {
-            so_far = subst (λ k. IsSoFar raw node later (i + 1) k.rows.items k.to_child.rows (links_of k.links) k.numbers.items) (sym w.kept-is) gone;
-            width = ap (λ k. k.to_child.width) w.kept-is ∙ c.loop-i.invariant.width;
-            counted = omega (arith, all, c.child_groups.ensures.cost, c.loop-i.invariant.counted, w.steps-is);
-          }
-    ]
-
-pub returns-clause-few : goal.returns-clause-few
-returns-clause-few g c =
-    let now = c.loop-i.kept in
-    let few = few_numbers c.args.raw.now c.args.node (map links_of c.args.later.now) c.loop-i.i now.rows.items now.to_child.rows (links_of now.links) now.numbers.items c.loop-i.invariant.so_far in
-    let most = length_within c.args.raw.now.rows c.args.node in
-    omega (arith, few, most, c.requires.few_rows, c.len-i-end.ensures)
-
-pub returns-clause-cost : goal.returns-clause-cost
-returns-clause-cost g c =
-    let within : c.loop-i.i ≤ raw_len c.args.raw.now c.args.node = omega (arith, c.len-i-end.ensures) in
-    let steps = room_all c.loop-i.i (length (child_nodes c.args.raw.now c.args.node)) (raw_len c.args.raw.now c.args.node) (length c.args.raw.now.shapes) within (kids_below_lem c.args.raw.now c.args.node [] c.requires.node) in
-    omega (arith, steps, c.loop-i.invariant.counted)
-
-pub returns-clause-numbers : goal.returns-clause-numbers
-returns-clause-numbers g c =
-    let now = c.loop-i.kept in
-    let all : c.loop-i.i ≡ raw_len c.args.raw.now c.args.node = omega (arith, c.len-i-end.ensures) in
-    subst (λ n. IsNumbering (map (group_link c.args.raw.now c.args.node) (kept_first c.args.raw.now c.args.node (map links_of c.args.later.now) n)) (links_of now.links) now.numbers.items) all c.loop-i.invariant.so_far.numbering
-
-pub loop-i-init : goal.loop-i-init
-loop-i-init g c =
-    let now = c.in_ok-kept.kept in
-    record {
-      so_far = none_so_far c.args.raw.now c.args.node (map links_of c.args.later.now) now.rows.items now.to_child.rows (links_of now.links) now.numbers.items
-          c.in_ok-kept.ensures.rows (ap (λ v. v.rows) c.in_ok-kept.ensures.to_child) c.in_ok-kept.ensures.links c.in_ok-kept.ensures.numbers;
-      width = omega (arith, ap (λ v. v.width) c.in_ok-kept.ensures.to_child, c.len.ensures, ap length c.in_ok-children.ensures);
-      counted = omega arith;
-    }
-
-pub child_groups-requires-clause-row : goal.child_groups-requires-clause-row
-child_groups-requires-clause-row g c = omega (arith, c.len-i-end.ensures)
-
-pub child_groups-requires-clause-children : goal.child_groups-requires-clause-children
-child_groups-requires-clause-children g c = c.deref.ensures.value ∙ c.in_ok-children.ensures
-
-pub group_link_of-own-requires-clause-row : goal.group_link_of-own-requires-clause-row
-group_link_of-own-requires-clause-row g c = omega (arith, c.len-i-end.ensures)
-
-pub returns-clause-rows : goal.returns-clause-rows
-returns-clause-rows g c =
-    let all : c.loop-i.i ≡ raw_len c.args.raw.now c.args.node = omega (arith, c.len-i-end.ensures) in
-    c.loop-i.invariant.so_far.rows ∙ ap (λ n. map (raw_row_at c.args.raw.now c.args.node) (kept_first c.args.raw.now c.args.node (map links_of c.args.later.now) n)) all
-
-pub returns-clause-to_child : goal.returns-clause-to_child
-returns-clause-to_child g c =
-    let all : c.loop-i.i ≡ raw_len c.args.raw.now c.args.node = omega (arith, c.len-i-end.ensures) in
-    c.loop-i.invariant.so_far.to_child
-    ∙ ap (λ n. map (groups_named c.args.raw.now c.args.node (map links_of c.args.later.now)) (kept_first c.args.raw.now c.args.node (map links_of c.args.later.now) n)) all
-
-pub returns-clause-links : goal.returns-clause-links
-returns-clause-links g c =
-    let all : c.loop-i.i ≡ raw_len c.args.raw.now c.args.node = omega (arith, c.len-i-end.ensures) in
-    c.loop-i.invariant.so_far.names
-    ∙ ap (λ n. insert_all nat_eq [] (map (group_link c.args.raw.now c.args.node) (kept_first c.args.raw.now c.args.node (map links_of c.args.later.now) n))) all

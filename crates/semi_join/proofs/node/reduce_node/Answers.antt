@@ -1,26 +1,27 @@
-use Rattle.std.proofs.Common.{◌≡◌, ◌<◌, map, length, sym, ap, subst, ◌∙◌, arith}
+use Rattle.std.proofs.Common.{◌≡◌, ◌<◌, Some, map, length, sym, ap, subst, ◌∙◌, arith}
 use Rattle.std.specs.List.{All}
 use Rattle.tdp_core.specs.RowGroups.{places_by_number}
 use Rattle.semi_join.specs.Reduction.{links_of, kept_rows, group_link, group_links, IsGrouping}
 use Rattle.semi_join.proofs.PlacesByNumber.{numbered_grouping}
 use Rattle.semi_join.proofs.node.reduce_node.Goals as goal
 
-pub returns-clause-reduced : goal.returns-clause-reduced
-returns-clause-reduced g c =
+pub returns-in-Ok-clause-reduced : goal.returns-in-Ok-clause-reduced
+returns-in-Ok-clause-reduced g c =
     let raw = c.args.raw.now in
     let node = c.args.node in
     let later = map links_of c.args.later.now in
     let owns = map (group_link raw node) (kept_rows raw node later) in
     let links = links_of c.in_ok-kept.kept.links in
     let numbers = c.in_ok-kept.kept.numbers.items in
-    let groups : c.in_ok-groups.groups ≡ places_by_number numbers (length links) = c.in_ok-groups.ensures ∙ ap (λ ns. places_by_number ns c.len.result) c.deref.ensures.value ∙ ap (places_by_number numbers) c.len.ensures in
+    let groups : c.in-Ok.groups ≡ places_by_number numbers (length links) = c.in-Ok.ensures ∙ ap (λ ns. places_by_number ns c.len.result) c.deref.ensures.value ∙ ap (places_by_number numbers) c.len.ensures in
     let grouping = subst (λ ks. IsGrouping owns ks (places_by_number numbers (length links))) c.in_ok-kept.ensures.links (numbered_grouping owns links numbers c.in_ok-kept.ensures.numbers) in
+    let made = c.grouped.ensures in
     record {
-      shape = c.shape.ensures;
-      rows = c.in_ok-kept.ensures.rows;
-      to_child = c.in_ok-kept.ensures.to_child;
-      grouping = subst (IsGrouping owns (group_links raw node later)) (sym groups) grouping;
-      best = c.new.ensures.items;
+      shape = made.shape ∙ c.shape.ensures;
+      rows = ap (λ rs. map Some rs.items) made.rows ∙ c.in_ok-kept.ensures.rows;
+      to_child = ap (λ n. n.rows) made.to_child ∙ c.in_ok-kept.ensures.to_child;
+      grouping = subst (IsGrouping owns (group_links raw node later)) (sym (made.groups ∙ groups)) grouping;
+      best = made.best;
     }
 
 pub of_numbers-requires-clause-numbers : goal.of_numbers-requires-clause-numbers
@@ -31,10 +32,10 @@ of_numbers-requires-clause-numbers g c =
 pub of_numbers-requires-clause-few : goal.of_numbers-requires-clause-few
 of_numbers-requires-clause-few g c = omega (arith, ap length c.deref.ensures.value, c.in_ok-kept.ensures.few)
 
-pub returns-clause-links : goal.returns-clause-links
-returns-clause-links g c = c.in_ok-kept.ensures.links
+pub returns-in-Ok-clause-links : goal.returns-in-Ok-clause-links
+returns-in-Ok-clause-links g c = ap links_of c.grouped.ensures.links ∙ c.in_ok-kept.ensures.links
 
-pub returns-clause-few : goal.returns-clause-few
-returns-clause-few g c =
+pub returns-in-Ok-clause-few : goal.returns-in-Ok-clause-few
+returns-in-Ok-clause-few g c =
     let numbering = c.in_ok-kept.ensures.numbers in
-    omega (arith, numbering.size, numbering.few, c.in_ok-kept.ensures.few)
+    omega (arith, ap (λ ls. length (links_of ls)) c.grouped.ensures.links, numbering.size, numbering.few, c.in_ok-kept.ensures.few)

@@ -3,7 +3,7 @@ use Rattle.std.specs.List.{sum_by}
 use Rattle.node_build.specs.PartialTrees.{AreFilled}
 use Rattle.counted_index.specs.Pairs.{AreNumbers}
 use Rattle.node_build.specs.Rows.{lists_of}
-use Rattle.node_build.proofs.filling.filled_tree.Given as goal
+use Rattle.node_build.proofs.filling.add_nodes.Given as goal
 
 abbrev pub invariant-loop-node : goal.invariant-loop-node
 invariant-loop-node g l = record {

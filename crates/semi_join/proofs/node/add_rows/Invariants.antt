@@ -1,7 +1,7 @@
 use Rattle.std.proofs.Common.{◌≡◌, ◌≤◌, ◌+◌, ◌*◌, map, length}
 use Rattle.semi_join.specs.Reduction.{links_of, child_nodes}
 use Rattle.semi_join.proofs.SoFar.{IsSoFar}
-use Rattle.semi_join.proofs.node.keep_rows.Given as goal
+use Rattle.semi_join.proofs.node.add_rows.Given as goal
 
 abbrev pub invariant-loop-i : goal.invariant-loop-i
 invariant-loop-i g l = record {
