@@ -39,6 +39,7 @@ CRATES = "# A small house.\nlow:\nmiddle: low\nanyk_cli: low middle std\nother_t
 RT = """#!/bin/sh
 # Stands in for rt: proves nothing, and builds a script.
 echo "$*" >> "$RT_ROOM/calls"
+echo "${MIMALLOC_PURGE_DELAY-nothing}" > "$RT_ROOM/delay"
 broken() { grep -q BROKEN ../"$1"/src/*.rt; }
 link() {
     [ ! -f "$RT_ROOM/linkless" ] || { echo 'error: linking failed'; exit 1; }
@@ -581,6 +582,13 @@ def test_tunables(house):
     house.built()
     for value in ("", "glibc.malloc.hugetlb=0", "glibc.malloc.check=1:glibc.malloc.hugetlb=2"):
         same(house.call("x", more={"GLIBC_TUNABLES": value})[1], ran(1, house.top, ["x"], value))
+
+
+def test_allocator(house):
+    for number, (value, wanted) in enumerate(((None, "-1"), ("0", "0"), ("", "")), 1):
+        house.version(number)
+        same(house.call("x", more={"MIMALLOC_PURGE_DELAY": value})[:2], (0, ran(number, house.top, ["x"])))
+        same(read(f"{house.room}/delay"), f"{wanted}\n")
 
 
 def few_commands(house, *names):

@@ -53,6 +53,9 @@ DONE = re.compile(r"(?:== (\w+)|rt: (\w+) (?:proved|is kept:.*))$")
 KILLED = re.compile(r"^\S+: failed \(-9\)$", re.M)
 # The memory that the proof of one crate may take, in bytes.
 MEMORY = 2_200_000_000
+# The prover's allocator gives memory that it does not need back to the system, and soon takes it again. Where it keeps all, a proof
+# takes up to a tenth less time, and a twentieth more memory.
+ALLOCATOR = {"MIMALLOC_PURGE_DELAY": "-1"}
 # How long the progress on a terminal is shown before it is written anew, in seconds.
 PAUSE = 1
 # The memory that a control group may take and takes, by the two versions of their files.
@@ -249,7 +252,7 @@ class Progress:
 def run(words, where, progress, lock):
     """Runs `rt` in a folder, its output in the log, and returns its status. It holds the lock as long as it runs."""
     with open(LOG, "ab") as log:
-        how = {"cwd": where, "stdin": subprocess.DEVNULL, "stdout": log, "stderr": log}
+        how = {"cwd": where, "env": {**ALLOCATOR, **os.environ}, "stdin": subprocess.DEVNULL, "stdout": log, "stderr": log}
         ran = subprocess.Popen(["rt", *words], pass_fds=[lock] if lock is not None else [], **how)
         try:
             while progress.is_shown:
