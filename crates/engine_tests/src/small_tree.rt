@@ -8,7 +8,7 @@ use rank_key::Rank;
 use std::alloc::Global;
 use std::sync::ledger::Ledger;
 use step_counter::{NoMemory, Steps};
-use tdp_core::{Groups, NamedGroups, NodeParts, NodeRow, NodeShape, Tree};
+use tdp_core::{Groups, NamedGroups, NodeParts, NodeRow, NodeRows, NodeShape, Tree};
 
 /// The rows of the small tree's answers, in their order.
 pub(crate) const ANSWERS: &[[u32; 4]; 2] = &[[1, 4, 0, 0], [3, 4, 0, 0]];
@@ -27,6 +27,28 @@ fn two<T: Drop>(alloc: Global, first: T, second: T) -> Result<Vec<T>, NoMemory>
     let mut items = one(alloc, first)?;
     items.push(second)?;
     Ok(items)
+}
+
+/// One row, with room for another.
+fn one_row<R: Rank>(alloc: Global, first: NodeRow<R>) -> Result<NodeRows<R>, NoMemory>
+    ensures { IfOk result (λ rows. rows ≡ first ∷ []) }
+{
+    let mut rows = NodeRows::with_capacity(alloc, 2)?;
+    rows.push(first)?;
+    Ok(rows)
+}
+
+/// Two rows, in this order.
+fn two_rows<R: Rank>(
+    alloc: Global,
+    first: NodeRow<R>,
+    second: NodeRow<R>,
+) -> Result<NodeRows<R>, NoMemory>
+    ensures { IfOk result (λ rows. rows ≡ first ∷ second ∷ []) }
+{
+    let mut rows = one_row(alloc, first)?;
+    rows.push(second)?;
+    Ok(rows)
 }
 
 fn one_group(alloc: Global, members: &[u32]) -> Result<Groups, NoMemory>
@@ -72,7 +94,7 @@ fn root_parts<R: Rank>(alloc: Global, top: R, whole: R) -> Result<NodeParts<R>, 
 {
     Ok(NodeParts {
         shape: shape_of(1),
-        rows: one(alloc, NodeRow { rank: top, row: 4 })?,
+        rows: one_row(alloc, NodeRow { rank: top, row: 4 })?,
         to_child: first_group_named(alloc)?,
         groups: one_group(alloc, &[0])?,
         best: one(alloc, whole)?,
@@ -84,7 +106,7 @@ fn leaf_parts<R: Rank>(alloc: Global, later: R, sooner: R) -> Result<NodeParts<R
 {
     Ok(NodeParts {
         shape: shape_of(0),
-        rows: two(
+        rows: two_rows(
             alloc,
             NodeRow {
                 rank: later,

@@ -83,7 +83,7 @@ fn has_numbers<R: Rank>(parts: &NodeParts<R>, numbers: &[u32]) -> bool {
         return false;
     }
     for place in 0..numbers.len() {
-        if parts.rows[place].row != numbers[place] {
+        if parts.rows.get(place).row != numbers[place] {
             return false;
         }
     }

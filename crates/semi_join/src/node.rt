@@ -12,7 +12,7 @@ use smallvec::SmallVec;
 use std::alloc::{AllocError, Global};
 use std::sync::ledger::Ledger;
 use step_counter::{NoMemory, Steps};
-use tdp_core::{Groups, NamedGroups, NodeParts, NodeRow, NodeShape, RawTree};
+use tdp_core::{Groups, NamedGroups, NodeParts, NodeRow, NodeRows, NodeShape, RawTree};
 
 /// A node with its rows in groups.
 #[derive(Drop)]
@@ -25,7 +25,7 @@ pub(crate) struct GroupedNode<R> {
 /// The rows of a node that are kept, before they are put into groups.
 #[derive(Drop)]
 struct KeptRows<R> {
-    rows: Vec<NodeRow<R>>,
+    rows: NodeRows<R>,
     /// For each row the group of each child of the node.
     to_child: NamedGroups,
     /// For each row the number of its own group.
@@ -110,7 +110,7 @@ fn keep_rows<R: Rank, L: Ledger>(
     requires later { node + 1 + length later.now ≡ length raw.now.shapes }
     requires few { AreFew (map links_of later.now) }
     ensures rows { IfOk result
-        (λ kept. map Some kept.rows.items
+        (λ kept. map Some kept.rows
         ≡ map (raw_row_at raw.now node) (kept_rows raw.now node (map links_of later.now))) }
     ensures to_child { IfOk result
         (λ kept. kept.to_child.rows
@@ -148,13 +148,13 @@ fn add_rows<R: Rank, L: Ledger>(
     requires later { node + 1 + length later.now ≡ length raw.now.shapes }
     requires few { AreFew (map links_of later.now) }
     requires children { children.now ≡ child_nodes raw.now node }
-    requires no_rows { kept.old.rows.items ≡ [] }
+    requires no_rows { kept.old.rows ≡ [] }
     requires no_children { kept.old.to_child
         ≡ record { width = length children.now; rows = [] } }
     requires no_links { links_of kept.old.links ≡ [] }
     requires no_numbers { kept.old.numbers.items ≡ [] }
     ensures rows { OnOk result
-        (map Some kept.new.rows.items
+        (map Some kept.new.rows
         ≡ map (raw_row_at raw.now node) (kept_rows raw.now node (map links_of later.now))) }
     ensures to_child { OnOk result
         (kept.new.to_child.rows
@@ -186,7 +186,7 @@ fn no_rows<R: Rank>(
     children: usize,
 ) -> Result<KeptRows<R>, NoMemory>
     requires { node < length raw.now.shapes }
-    ensures rows { IfOk result (λ kept. kept.rows.items ≡ []) }
+    ensures rows { IfOk result (λ kept. kept.rows ≡ []) }
     ensures to_child { IfOk result
         (λ kept. kept.to_child ≡ record { width = children; rows = [] }) }
     ensures numbers { IfOk result (λ kept. kept.numbers.items ≡ []) }
@@ -194,7 +194,7 @@ fn no_rows<R: Rank>(
 {
     let count = raw.len(node);
     let greatest = greatest_link(raw, node);
-    let rows = Vec::with_capacity(alloc, count as usize)?;
+    let rows = NodeRows::with_capacity(alloc, count as usize)?;
     let numbers = Vec::with_capacity(alloc, count as usize)?;
     let to_child = NamedGroups::new(alloc, children, count as usize)?;
     let links = GroupLinks::new(alloc, raw.keys(), count, greatest)?;
@@ -228,7 +228,7 @@ fn keep_row<R: Rank, L: Ledger>(
     requires few { length (links_of kept.old.links) ≤ most_node_rows }
     requires width { length named.now ≡ kept.old.to_child.width }
     requires few_rows { length kept.old.to_child.rows ≤ most_node_rows }
-    ensures rows { OnOk result (kept.new.rows.items ≡ kept.old.rows.items ++ row ∷ []) }
+    ensures rows { OnOk result (kept.new.rows ≡ kept.old.rows ++ row ∷ []) }
     ensures to_child { OnOk result
         (kept.new.to_child ≡ record {
           width = kept.old.to_child.width;

@@ -5,6 +5,7 @@ pub mod KeyRanges
 pub mod NamedPieces
 pub mod NodeViews
 pub mod PlacesPut
+pub mod RankedRowLists
 pub mod RawFacts
 pub mod RawReads
 pub mod RawRowLists

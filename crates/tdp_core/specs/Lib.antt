@@ -1,4 +1,5 @@
 pub mod NamedRows
+pub mod RankedRows
 pub mod RawView
 pub mod RawRows
 pub mod RisingShares

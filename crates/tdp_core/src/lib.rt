@@ -7,6 +7,7 @@
 
 mod groups;
 mod named_groups;
+mod node_rows;
 mod parts;
 mod ranked;
 mod raw_rows;
@@ -15,6 +16,7 @@ mod tree;
 
 pub use groups::Groups;
 pub use named_groups::NamedGroups;
+pub use node_rows::NodeRows;
 pub use parts::{NodeParts, NodeRow, NodeShape};
 pub use ranked::{Answer, Ranked};
 pub use raw_tree::RawTree;

@@ -114,7 +114,7 @@ impl<R: Rank> Tree<R> {
         ensures counted { steps.new ≡ steps.old + 1 }
     {
         steps.tick();
-        self.nodes[node as usize].rows[row as usize]
+        self.nodes[node as usize].rows.get(row as usize)
     }
 
     /// The group that a row names for a child of its node. It takes one step.

@@ -17,8 +17,8 @@ pub read_node : {R : Type 0} (parts : List (NodeParts R)) (v : ℕ) (none : Node
 read_node {R} parts v none l = get_or-map node_view parts v none (no_node R) l
 
 -- the rows of a node that is read
-pub rows_read : {R : Type 0} (parts : List (NodeParts R)) (v : ℕ) (node : NodeParts R) → v < length parts → node ≡ get_or parts v node → length node.rows.items ≡ rows (tree_view parts) v
-rows_read parts v node l e = ap (λ p. length p.rows.items) e ∙ sym (ap (λ n. length n.rows) (read_node parts v node l))
+pub rows_read : {R : Type 0} (parts : List (NodeParts R)) (v : ℕ) (node : NodeParts R) → v < length parts → node ≡ get_or parts v node → length node.rows ≡ rows (tree_view parts) v
+rows_read parts v node l e = ap (λ p. length p.rows) e ∙ sym (ap (λ n. length n.rows) (read_node parts v node l))
 
 -- one node in place of another
 module _ {R : Type 0} (parts : List (NodeParts R)) (v : ℕ) (new : NodeParts R) where

@@ -1,5 +1,5 @@
 -- The keys of a node's rows, and groups of rows in heap order by them.
-use Rattle.std.specs.Prelude.{ℕ, ◌-◌, List, map, length, slice_index, slice_index_or}
+use Rattle.std.specs.Prelude.{ℕ, List, map, length, slice_index, slice_index_or}
 use Rattle.tdp_model.specs.KeyTuple.{KeyOf, key_below, key_none}
 use Rattle.tdp_model.specs.Heap.{FollowsParent}
 

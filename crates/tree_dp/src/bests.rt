@@ -59,7 +59,7 @@ fn row_best<R: Rank, L: Ledger>(
     ensures best { R.key result ≡ by_children R.KEYS R.key (tree_view nodes.now) node row }
     ensures cost { steps.new ≤ steps.old + length nodes.now }
 {
-    let mut best = nodes[node].rows[row].rank;
+    let mut best = nodes[node].rows.get(row).rank;
     let mut place = 0;
     for child in node + 1..nodes.len() {
         if nodes[child].shape.parent as usize == node {

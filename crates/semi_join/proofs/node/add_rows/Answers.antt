@@ -51,7 +51,7 @@ keep_row-requires-clause-few_rows g c =
 pub keep_row-requires-clause-few : goal.keep_row-requires-clause-few
 keep_row-requires-clause-few g c =
     let now = c.loop-i.kept in
-    let few = few_links c.args.raw.now c.args.node (map links_of c.args.later.now) c.loop-i.i now.rows.items now.to_child.rows (links_of now.links) now.numbers.items c.loop-i.invariant.so_far in
+    let few = few_links c.args.raw.now c.args.node (map links_of c.args.later.now) c.loop-i.i now.rows now.to_child.rows (links_of now.links) now.numbers.items c.loop-i.invariant.so_far in
     let most = length_within c.args.raw.now.rows c.args.node in
     omega (arith, few, most, c.requires.few_rows, c.len-i-end.ensures)
 
@@ -86,11 +86,11 @@ loop-i-preserved g c =
           let found = subst (λ o. IfSome o (λ n. has_partners raw node later i ≡ true)) w.in-Some.is c.in_ok-named.ensures.found in
           let named = subst (λ o. IfSome o (λ n. n.items ≡ groups_named raw node later i)) w.in-Some.is c.in_ok-named.ensures.named in
           let own = w.group_link_of-own.ensures in
-          let kept = keep_row_lem raw node later i old.rows.items new.rows.items children new.to_child.rows (links_of old.links) (links_of new.links) old.numbers.items new.numbers.items w.row.result
+          let kept = keep_row_lem raw node later i old.rows new.rows children new.to_child.rows (links_of old.links) (links_of new.links) old.numbers.items new.numbers.items w.row.result
           c.loop-i.invariant.so_far found w.row.ensures.row w.in_ok-keep_row.ensures.rows (ap (λ v. v.rows) w.in_ok-keep_row.ensures.to_child ∙ ap (λ n. children ++ (n ∷ [])) (w.deref.ensures ∙ named))
           (w.in_ok-keep_row.ensures.links ∙ ap (insert_key nat_eq (links_of old.links)) own) (subst (λ o. EndsInPlaceOf o (links_of new.links) old.numbers.items new.numbers.items) own w.in_ok-keep_row.ensures.number) in
           record {
-            so_far = subst (λ k. IsSoFar raw node later (i + 1) k.rows.items k.to_child.rows (links_of k.links) k.numbers.items) (sym w.kept-is) kept;
+            so_far = subst (λ k. IsSoFar raw node later (i + 1) k.rows k.to_child.rows (links_of k.links) k.numbers.items) (sym w.kept-is) kept;
             width = ap (λ k. k.to_child.width) w.kept-is ∙ ap (λ v. v.width) w.in_ok-keep_row.ensures.to_child ∙ c.loop-i.invariant.width;
             counted = omega (arith, all, c.child_groups.ensures.cost, w.keep_row.ensures.cost, c.loop-i.invariant.counted, w.steps-is);
           }
@@ -99,18 +99,18 @@ loop-i-preserved g c =
           let found = subst (λ o. IfSome o (λ n. has_partners raw node later i ≡ true)) w.in-Some.is c.in_ok-named.ensures.found in
           let named = subst (λ o. IfSome o (λ n. n.items ≡ groups_named raw node later i)) w.in-Some.is c.in_ok-named.ensures.named in
           let own = w.group_link_of-own.ensures in
-          let kept = keep_row_lem raw node later i old.rows.items new.rows.items children new.to_child.rows (links_of old.links) (links_of new.links) old.numbers.items new.numbers.items w.row.result
+          let kept = keep_row_lem raw node later i old.rows new.rows children new.to_child.rows (links_of old.links) (links_of new.links) old.numbers.items new.numbers.items w.row.result
           c.loop-i.invariant.so_far found w.row.ensures.row w.in_ok-keep_row.ensures.rows (ap (λ v. v.rows) w.in_ok-keep_row.ensures.to_child ∙ ap (λ n. children ++ (n ∷ [])) (w.deref.ensures ∙ named))
           (w.in_ok-keep_row.ensures.links ∙ ap (insert_key nat_eq (links_of old.links)) own) (subst (λ o. EndsInPlaceOf o (links_of new.links) old.numbers.items new.numbers.items) own w.in_ok-keep_row.ensures.number) in
           record {
-            so_far = subst (λ k. IsSoFar raw node later (i + 1) k.rows.items k.to_child.rows (links_of k.links) k.numbers.items) (sym w.kept-is) kept;
+            so_far = subst (λ k. IsSoFar raw node later (i + 1) k.rows k.to_child.rows (links_of k.links) k.numbers.items) (sym w.kept-is) kept;
             width = ap (λ k. k.to_child.width) w.kept-is ∙ ap (λ v. v.width) w.in_ok-keep_row.ensures.to_child ∙ c.loop-i.invariant.width;
             counted = omega (arith, all, c.child_groups.ensures.cost, w.keep_row.ensures.cost, c.loop-i.invariant.counted, w.steps-is);
           }
       | in_default w ↦
-          let gone = drop_row raw node later i old.rows.items children (links_of old.links) old.numbers.items c.loop-i.invariant.so_far (missing_row raw node later c.in_ok-named.field-0 i w.in_default.is c.in_ok-named.ensures.missing) in
+          let gone = drop_row raw node later i old.rows children (links_of old.links) old.numbers.items c.loop-i.invariant.so_far (missing_row raw node later c.in_ok-named.field-0 i w.in_default.is c.in_ok-named.ensures.missing) in
           record {
-            so_far = subst (λ k. IsSoFar raw node later (i + 1) k.rows.items k.to_child.rows (links_of k.links) k.numbers.items) (sym w.kept-is) gone;
+            so_far = subst (λ k. IsSoFar raw node later (i + 1) k.rows k.to_child.rows (links_of k.links) k.numbers.items) (sym w.kept-is) gone;
             width = ap (λ k. k.to_child.width) w.kept-is ∙ c.loop-i.invariant.width;
             counted = omega (arith, all, c.child_groups.ensures.cost, c.loop-i.invariant.counted, w.steps-is);
           }
@@ -119,7 +119,7 @@ loop-i-preserved g c =
 pub returns-clause-few : goal.returns-clause-few
 returns-clause-few g c =
     let now = c.loop-i.kept in
-    let few = few_numbers c.args.raw.now c.args.node (map links_of c.args.later.now) c.loop-i.i now.rows.items now.to_child.rows (links_of now.links) now.numbers.items c.loop-i.invariant.so_far in
+    let few = few_numbers c.args.raw.now c.args.node (map links_of c.args.later.now) c.loop-i.i now.rows now.to_child.rows (links_of now.links) now.numbers.items c.loop-i.invariant.so_far in
     let most = length_within c.args.raw.now.rows c.args.node in
     omega (arith, few, most, c.requires.few_rows, c.len-i-end.ensures)
 
@@ -140,7 +140,7 @@ loop-i-init g c =
     let now = c.args.kept.now in
     let none = c.requires in
     record {
-      so_far = none_so_far c.args.raw.now c.args.node (map links_of c.args.later.now) now.rows.items now.to_child.rows (links_of now.links) now.numbers.items
+      so_far = none_so_far c.args.raw.now c.args.node (map links_of c.args.later.now) now.rows now.to_child.rows (links_of now.links) now.numbers.items
           none.no_rows (ap (λ v. v.rows) none.no_children) none.no_links none.no_numbers;
       width = ap (λ v. v.width) none.no_children ∙ ap length none.children;
       counted = omega arith;

@@ -35,7 +35,7 @@ pub returns : goal.returns
 returns g c =
     let made = c.in_ok-number.ensures in
     record {
-      rows = c.in_ok-push.ensures.items;
+      rows = c.in_ok-push.ensures.ok;
       to_child = c.in_ok-push-3.ensures.ok;
       links = made.links;
       number = (c.in_ok-number.number, made.within, made.stands, c.in_ok-push-2.ensures.items);

@@ -26,4 +26,4 @@ returns-in_err-links g c =
     record { rows = IfOk-from_err r _ e; to_child = IfOk-from_err r _ e; numbers = IfOk-from_err r _ e; links = IfOk-from_err r _ e }
 
 pub returns : goal.returns
-returns g c = record { rows = c.in_ok-rows.ensures.items; to_child = c.in_ok-to_child.ensures; numbers = c.in_ok-numbers.ensures.items; links = c.in_ok-links.ensures }
+returns g c = record { rows = c.in_ok-rows.ensures; to_child = c.in_ok-to_child.ensures; numbers = c.in_ok-numbers.ensures.items; links = c.in_ok-links.ensures }

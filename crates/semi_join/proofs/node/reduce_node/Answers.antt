@@ -18,7 +18,7 @@ returns-in-Ok-clause-reduced g c =
     let made = c.grouped.ensures in
     record {
       shape = made.shape ∙ c.shape.ensures;
-      rows = ap (λ rs. map Some rs.items) made.rows ∙ c.in_ok-kept.ensures.rows;
+      rows = ap (map Some) made.rows ∙ c.in_ok-kept.ensures.rows;
       to_child = ap (λ n. n.rows) made.to_child ∙ c.in_ok-kept.ensures.to_child;
       grouping = subst (IsGrouping owns (group_links raw node later)) (sym (made.groups ∙ groups)) grouping;
       best = made.best;

@@ -25,7 +25,7 @@ row_within start before after row count nodes h k l = omega (arith, mul-le-mul_r
 row_count : (g : Over) (c : After-len-row-end g) → c.len-row-end.result ≡ rows (tree_view c.args.nodes.now) c.args.node
 row_count g c =
     let node = c.index-nodes-node-2.result in
-    c.len-row-end.ensures ∙ ap (λ (p : NodeParts g.row.R.Denot). p.rows.len) (sym c.index-nodes-node-2.is) ∙ node.rows.ok.0 ∙ rows_read c.args.nodes.now c.args.node node c.requires.node c.index-nodes-node-2.is
+    c.len-row-end.ensures ∙ ap (λ (p : NodeParts g.row.R.Denot). length p.rows) (sym c.index-nodes-node-2.is) ∙ rows_read c.args.nodes.now c.args.node node c.requires.node c.index-nodes-node-2.is
 
 pub loop-row-preserved : goal.loop-row-preserved
 loop-row-preserved g c =

@@ -1,10 +1,11 @@
-use Rattle.std.proofs.Common.{◌≡◌, ◌≢◌, suc, ◌+◌, ◌-◌, ◌<◌, [], length, map, get_or, sym, ap, subst, ◌∙◌, arith}
-use Rattle.std.proofs.lemmas.List.{length-map, get_or-map}
+use Rattle.std.proofs.Common.{◌≡◌, ◌≢◌, suc, ◌+◌, ◌-◌, ◌<◌, [], length, get_or, sym, ap, subst, ◌∙◌, arith}
+use Rattle.std.proofs.lemmas.List.{length-map}
 use Rattle.tdp_model.specs.KeyTuple.{key_below, key_add, key_none}
 use Rattle.tdp_model.proofs.KeyTuples.{tuple_keys}
 use Rattle.rank_key.specs.Keys.{KeyFits}
 use Rattle.tdp_core.specs.TreeView.{node_view, tree_view, node_at, parent, members, group_count, group_named, group, rank, best}
 use Rattle.tdp_core.proofs.Children.{kids_below_child, kids_below_other, kids_below_most}
+use Rattle.tdp_core.proofs.NodeViews.{rank_read}
 use Rattle.tree_dp.specs.Progress.{IsSolvedFrom}
 use Rattle.tree_dp.proofs.FirstParts.{first_part, first_part_none, first_part_child, first_part_other}
 use Rattle.tree_dp.proofs.LaterNodes.{no_kids_yet, child_within, group_is, group_within, first_part_fits}
@@ -24,10 +25,7 @@ loop-child-init g c =
     let inside : v < length t = omega (arith, c.requires.node, length-map parts node_view) in
     let node = get_or parts v c.index-nodes-node.result in
     let at : node_at t v ≡ node_view node = read_node parts v c.index-nodes-node.result c.requires.node in
-    let is_row : r < length node.rows.items = omega (arith, c.requires.row, ap (λ n. length n.rows) at) in
-    let own : rank t d key v r ≡ key c.index.result.now.rank =
-    ap (λ n. get_or (map (λ x. key x.rank) n.rows) r (key_none d 16)) at ∙ get_or-map (λ x. key x.rank) node.rows.items r c.index.result.now (key_none d 16) is_row ∙ ap (λ x. key x.rank) (sym c.index.ensures)
-    in
+    let own : rank t d key v r ≡ key c.get-best.result.rank = sym (rank_read t v node at r c.get-best.result c.get-best.ensures d key) in
     let zero : c.args.node + 1 - suc c.args.node ≡ 0 = omega arith in
     record {
       placed = sym (no_kids_yet (parent t) (length t) v v c.requires.laid_out.shaped.parents_first inside (omega arith));
@@ -63,8 +61,8 @@ named_group-group-requires-clause-few g c =
       c.requires.laid_out.shaped.few_nodes,
     )
 
-pub index-requires-then-nodes-child : goal.index-requires-then-nodes-child
-index-requires-then-nodes-child g c =
+pub index-requires : goal.index-requires
+index-requires g c =
     let d = g.R.Rank.KEYS in
     let key = g.R.Rank.key in
     let parts = c.args.nodes.now in
@@ -101,9 +99,9 @@ join-best-requires g c =
     let after : v < q = omega arith in
     let named = c.named_group-group.ensures ∙ ap (group_named t v r) c.loop-child.invariant.placed in
     let within = subst (λ x. x < group_count t q) (sym named) (group_within d key t c.requires.laid_out v r q some inside is c.requires.row) in
-    let least : key c.index-then-nodes-child.result.now ≡ best t d key q (get_or (group t q r) 0 0) =
-    least_read d key t v c.args.leasts.now c.requires.leasts q after inside c.index-leasts-child.result c.index-leasts-child.is c.named_group-group.result c.index-then-nodes-child.result.now within
-    c.index-then-nodes-child.ensures
+    let least : key c.index.result.now ≡ best t d key q (get_or (group t q r) 0 0) =
+    least_read d key t v c.args.leasts.now c.requires.leasts q after inside c.index-leasts-child.result c.index-leasts-child.is c.named_group-group.result c.index.result.now within
+    c.index.ensures
     ∙ ap (λ x. best t d key q (get_or (members t q x) 0 0)) named
     ∙ ap (λ l. best t d key q (get_or l 0 0)) (sym (group_is d key t c.requires.laid_out v r q some is))
     in
@@ -112,7 +110,7 @@ join-best-requires g c =
     first_part_child (key_below d 16) (key_add d 16) (key_none d 16) (tuple_keys d 16) (length t) (parent t) (rank t d key) (group t) (best t d key) v r n q (omega arith) is
     in
     let solved = subst (IsSolvedFrom d key t) (let e : v + 1 ≡ suc v = omega arith in e) c.requires.solved in
-    subst (λ k. KeyFits d key (key_add d 16 k (key c.index-then-nodes-child.result.now))) (sym c.loop-child.invariant.added)
+    subst (λ k. KeyFits d key (key_add d 16 k (key c.index.result.now))) (sym c.loop-child.invariant.added)
     (subst (λ k. KeyFits d key (key_add d 16 (so_far n) k)) (sym least)
     (subst (KeyFits d key) next (first_part_fits d key t c.requires.laid_out v solved r (suc n) up (omega arith) c.requires.row)))
 
@@ -150,15 +148,15 @@ loop-child-preserved g c =
           let is : parent t q ≡ v = at ∙ w.if-nodes-child.true in
           let named = w.named_group-group.ensures ∙ ap (group_named t v r) c.loop-child.invariant.placed in
           let within = subst (λ x. x < group_count t q) (sym named) (group_within d key t c.requires.laid_out v r q some inside is c.requires.row) in
-          let least : key w.index-then-nodes-child.result.now ≡ best t d key q (get_or (group t q r) 0 0) =
-          least_read d key t v c.args.leasts.now c.requires.leasts q later inside w.index-leasts-child.result w.index-leasts-child.is w.named_group-group.result w.index-then-nodes-child.result.now within
-          w.index-then-nodes-child.ensures
+          let least : key w.index.result.now ≡ best t d key q (get_or (group t q r) 0 0) =
+          least_read d key t v c.args.leasts.now c.requires.leasts q later inside w.index-leasts-child.result w.index-leasts-child.is w.named_group-group.result w.index.result.now within
+          w.index.ensures
           ∙ ap (λ x. best t d key q (get_or (members t q x) 0 0)) named
           ∙ ap (λ l. best t d key q (get_or l 0 0)) (sym (group_is d key t c.requires.laid_out v r q some is))
           in
           record {
             placed = w.place-is ∙ ap (λ z. z + 1) c.loop-child.invariant.placed ∙ sym (kids_below_child (parent t) v q some is);
-            added = ap key w.best-is ∙ w.join-best.ensures.sum ∙ ap (λ k. key_add d 16 k (key w.index-then-nodes-child.result.now)) c.loop-child.invariant.added ∙ ap (key_add d 16 (so_far n)) least
+            added = ap key w.best-is ∙ w.join-best.ensures.sum ∙ ap (λ k. key_add d 16 k (key w.index.result.now)) c.loop-child.invariant.added ∙ ap (key_add d 16 (so_far n)) least
                 ∙ sym (first_part_child (key_below d 16) (key_add d 16) (key_none d 16) (tuple_keys d 16) (length t) (parent t) (rank t d key) (group t) (best t d key) v r n q after is)
                 ∙ ap so_far (sym more);
             counted = omega (arith, w.steps-is, w.join-best.ensures.counted, c.loop-child.invariant.counted);

@@ -4,8 +4,8 @@ use Rattle.tdp_core.specs.TreeView.{node_view, tree_view, node_at, rows}
 use Rattle.tdp_core.proofs.NodeViews.{node_is, row_read, rank_read, number_read}
 use Rattle.tdp_core.proofs.tree.Tree.row_at.Goals as goal
 
-pub index-requires-2 : goal.index-requires-2
-index-requires-2 g c =
+pub get-requires : goal.get-requires
+get-requires g c =
     let parts = c.self.inside.nodes.items in
     let t = tree_view parts in
     let v = c.args.node in
@@ -13,7 +13,7 @@ index-requires-2 g c =
     let in_tree : v < length t = rw c.self.view_is c.requires.node in
     let at : node_at t v ≡ node_view node = node_is parts v node (omega (arith, length-map parts node_view)) c.index.ensures in
     let is_row : c.args.row < rows t v = rw c.self.view_is c.requires.row in
-    omega (arith, is_row, ap (λ n. length n.rows) at, node.rows.ok.0)
+    omega (arith, is_row, ap (λ n. length n.rows) at)
 
 pub returns-clause-row : goal.returns-clause-row
 returns-clause-row g c =
@@ -23,9 +23,7 @@ returns-clause-row g c =
     let node = c.index.result.now in
     let in_tree : v < length t = rw c.self.view_is c.requires.node in
     let at : node_at t v ≡ node_view node = node_is parts v node (omega (arith, length-map parts node_view)) c.index.ensures in
-    let is_row : c.args.row < rows t v = rw c.self.view_is c.requires.row in
-    let inside : c.args.row < length node.rows.items = omega (arith, is_row, ap (λ n. length n.rows) at) in
-    rw (← c.self.view_is) (row_read t v node at c.args.row c.index-2.result.now inside c.index-2.ensures)
+    rw (← c.self.view_is) (row_read t v node at c.args.row c.get.result c.get.ensures)
 
 pub returns-clause-rank : goal.returns-clause-rank
 returns-clause-rank g c =
@@ -35,9 +33,7 @@ returns-clause-rank g c =
     let node = c.index.result.now in
     let in_tree : v < length t = rw c.self.view_is c.requires.node in
     let at : node_at t v ≡ node_view node = node_is parts v node (omega (arith, length-map parts node_view)) c.index.ensures in
-    let is_row : c.args.row < rows t v = rw c.self.view_is c.requires.row in
-    let inside : c.args.row < length node.rows.items = omega (arith, is_row, ap (λ n. length n.rows) at) in
-    rw (← c.self.view_is) (rank_read t v node at c.args.row c.index-2.result.now inside c.index-2.ensures g.R.Rank.KEYS g.R.Rank.key)
+    rw (← c.self.view_is) (rank_read t v node at c.args.row c.get.result c.get.ensures g.R.Rank.KEYS g.R.Rank.key)
 
 pub returns-clause-number : goal.returns-clause-number
 returns-clause-number g c =
@@ -47,6 +43,4 @@ returns-clause-number g c =
     let node = c.index.result.now in
     let in_tree : v < length t = rw c.self.view_is c.requires.node in
     let at : node_at t v ≡ node_view node = node_is parts v node (omega (arith, length-map parts node_view)) c.index.ensures in
-    let is_row : c.args.row < rows t v = rw c.self.view_is c.requires.row in
-    let inside : c.args.row < length node.rows.items = omega (arith, is_row, ap (λ n. length n.rows) at) in
-    rw (← c.self.view_is) (number_read t v node at c.args.row c.index-2.result.now inside c.index-2.ensures)
+    rw (← c.self.view_is) (number_read t v node at c.args.row c.get.result c.get.ensures)

@@ -1,0 +1,21 @@
+use Rattle.std.proofs.Common.{◌≡◌, ◌++◌, ◌∷◌, [], length, length-append, ap, ◌∙◌, arith}
+use Rattle.tdp_core.specs.RankedRows.{ranked_rows}
+use Rattle.tdp_core.proofs.RankedRowLists.{row_more}
+use Rattle.tdp_core.proofs.node_rows.NodeRows.push.Goals as goal
+
+pub invariant_of-self-2 : goal.invariant_of-self-2
+invariant_of-self-2 g c =
+    let t = c.self.inside in
+    let r : c.push_reserved.new.self.items ≡ t.ranks.items ++ c.args.row.rank ∷ [] = c.push_reserved.ensures.items ∙ ap (λ l. l ++ c.args.row.rank ∷ []) c.reserve.ensures.items in
+    let n : c.push_reserved-2.new.self.items ≡ t.numbers.items ++ c.args.row.row ∷ [] = c.push_reserved-2.ensures.items ∙ ap (λ l. l ++ c.args.row.row ∷ []) c.reserve-2.ensures.items in
+    omega (arith, ap length r, ap length n, length-append t.ranks.items (c.args.row.rank ∷ []), length-append t.numbers.items (c.args.row.row ∷ []), c.self.invariant)
+
+pub returns-clause-ok : goal.returns-clause-ok
+returns-clause-ok g c =
+    let t = c.self.inside in
+    let r : c.push_reserved.new.self.items ≡ t.ranks.items ++ c.args.row.rank ∷ [] = c.push_reserved.ensures.items ∙ ap (λ l. l ++ c.args.row.rank ∷ []) c.reserve.ensures.items in
+    let n : c.push_reserved-2.new.self.items ≡ t.numbers.items ++ c.args.row.row ∷ [] = c.push_reserved-2.ensures.items ∙ ap (λ l. l ++ c.args.row.row ∷ []) c.reserve-2.ensures.items in
+    ap (λ l. ranked_rows l c.push_reserved-2.new.self.items) r
+    ∙ ap (ranked_rows (t.ranks.items ++ c.args.row.rank ∷ [])) n
+    ∙ row_more c.args.row t.ranks.items t.numbers.items c.self.invariant
+    ∙ ap (λ l. l ++ c.args.row ∷ []) c.self.view_is
