@@ -1,5 +1,5 @@
 -- The candidates that deviate at one node.
-use Rattle.std.proofs.Common.{◌≡◌, ℕ, suc, ◌+◌, ◌-◌, ◌<◌, ◌≤◌, Bool, true, false, cond, List, [], ◌∷◌, ◌++◌, length, take, get_or, refl, sym, ap, ◌∙◌, subst, arith}
+use Rattle.std.proofs.Common.{◌≡◌, ℕ, suc, ◌+◌, ◌-◌, ◌^◌, ◌<◌, ◌≤◌, Bool, true, false, cond, List, [], ◌∷◌, ◌++◌, length, take, get_or, refl, sym, ap, ◌∙◌, subst, arith}
 use Rattle.std.specs.List.{sum_by, All}
 use Rattle.std.specs.List.Sorted.{IsPermutation}
 use Rattle.std.proofs.lemmas.List.Sums.{sum_by-cons}
@@ -62,14 +62,30 @@ module _ {R : Type 0} (d : ℕ) (key : R → KeyOf d 16) (t : List (NodeView R))
       (subst (λ z. CanSwap d key (least d key t (prefix ++ (s.row ∷ []))) (best t d key (length prefix) s.row) z) (ap (λ p. best t d key p x) long ∙ sym e)
       (facts.can_swap d key t h.formed h.live (length t - suc s.node) prefix s.row x reach (subst (λ p. s.row < rows t p) (sym long) h.row) (subst (λ p. x < rows t p) (sym long) l))))
 
-  abbrev pub entry_at : R → ℕ → Entry R Candidate
-  entry_at r place = record { rank = r; tag = record { position = s.node; place = place; before = s.before } }
+  pub node_small : s.node < 16
+  node_small = omega (arith, h.node, h.formed.shaped.few_nodes)
+
+  pub place_small : (place : ℕ) → place < length (members t s.node s.group) → place < 2 ^ 28
+  place_small place l =
+      omega (
+        arith,
+        l,
+        facts.group_rows_within d key t h.formed s.node s.group h.node,
+        facts.rows_within d key t h.formed s.node h.node,
+      )
+
+  -- the candidate at a place of the site
+  abbrev pub candidate_at : ℕ → Candidate
+  candidate_at place = record { position = s.node; place = place; before = s.before }
 
   pub new_entry : (r : R) (place x : ℕ) (new : KeyOf d 16) → place < length (members t s.node s.group) → x ≡ get_or (members t s.node s.group) place 0 → new ≡ best t d key s.node x
-      → ((rest : KeyOf d 16) → key s.total ≡ key_add d 16 rest (key s.best) → key r ≡ key_add d 16 rest new) → IsEntry d key t links (entry_at r place)
+      → ((rest : KeyOf d 16) → key s.total ≡ key_add d 16 rest (key s.best) → key r ≡ key_add d 16 rest new)
+      → (c : Candidate) → c ≡ candidate_at place → IsEntry d key t links (record { rank = r; tag = c })
   unfolding opening
-  new_entry r place x new l ex e swapped =
-      let row : x < rows t s.node = subst (λ z. z < rows t s.node) (sym ex) (member_row place l) in record {
+  new_entry r place x new l ex e swapped c is =
+      let row : x < rows t s.node = subst (λ z. z < rows t s.node) (sym ex) (member_row place l) in
+      subst (λ k. IsEntry d key t links (record { rank = r; tag = k })) (sym is)
+      (record {
         position = h.node;
         chained = h.chained;
         reached = h.reached;
@@ -80,30 +96,32 @@ module _ {R : Type 0} (d : ℕ) (key : R → KeyOf d 16) (t : List (NodeView R))
             ∙ sym (least_at x row)
             ∙ ap (λ z. least d key t (prefix ++ (z ∷ []))) ex
             ∙ ap (λ ms. least d key t (prefix ++ (get_or ms place 0 ∷ []))) (sym members_are);
-      }
+      })
 
-  same_region : (r : R) (place : ℕ) (u : List ℕ) → in_region (followers t) (region_of links (length t) (entry_at r place).tag) u ≡ in_region (followers t) (region_at t prefix place) u
-  same_region r place u = ap (λ n. in_region (followers t) (record { chosen = prefix; place = place; left = length t - suc n }) u) (sym long)
+  same_region : (c : Candidate) (place : ℕ) → c ≡ candidate_at place → (u : List ℕ) → in_region (followers t) (region_of links (length t) c) u ≡ in_region (followers t) (region_at t prefix place) u
+  same_region c place is u =
+      ap (λ k. in_region (followers t) (region_of links (length t) k) u) is
+      ∙ ap (λ n. in_region (followers t) (record { chosen = prefix; place = place; left = length t - suc n }) u) (sym long)
 
-  pub held_replaced : (r : R) (place : ℕ) (old new : List (Entry R Candidate)) → 0 < length old
-      → IsPermutation (entry_at r place ∷ old) (get_or old 0 (entry_at r place) ∷ new) → (u : List ℕ)
+  pub held_replaced : (e : Entry R Candidate) (place : ℕ) → e.tag ≡ candidate_at place → (old new : List (Entry R Candidate)) → 0 < length old
+      → IsPermutation (e ∷ old) (get_or old 0 e ∷ new) → (u : List ℕ)
       → in_region (followers t) (region_at t prefix place) u + held_by t links old u ≡ held_by t links (take 1 old) u + held_by t links new u
-  held_replaced r place old new some p u =
-      let f : Entry R Candidate → ℕ = λ e. in_region (followers t) (region_of links (length t) e.tag) u in
+  held_replaced e place is old new some p u =
+      let f : Entry R Candidate → ℕ = λ x. in_region (followers t) (region_of links (length t) x.tag) u in
       omega (
         arith,
-        sum_by-IsPermutation f (entry_at r place ∷ old) (get_or old 0 (entry_at r place) ∷ new) p,
-        sum_by-cons f (entry_at r place) old,
-        sum_by-cons f (get_or old 0 (entry_at r place)) new,
-        sum_by_first f old (entry_at r place) some,
-        same_region r place u,
+        sum_by-IsPermutation f (e ∷ old) (get_or old 0 e ∷ new) p,
+        sum_by-cons f e old,
+        sum_by-cons f (get_or old 0 e) new,
+        sum_by_first f old e some,
+        same_region e.tag place is u,
       )
 
-  pub held_pushed : (r : R) (place : ℕ) (old new : List (Entry R Candidate)) → IsPermutation (entry_at r place ∷ old) new → (u : List ℕ)
+  pub held_pushed : (e : Entry R Candidate) (place : ℕ) → e.tag ≡ candidate_at place → (old new : List (Entry R Candidate)) → IsPermutation (e ∷ old) new → (u : List ℕ)
       → in_region (followers t) (region_at t prefix place) u + held_by t links old u ≡ 0 + held_by t links new u
-  held_pushed r place old new p u =
-      let f : Entry R Candidate → ℕ = λ e. in_region (followers t) (region_of links (length t) e.tag) u in
-      omega (arith, sum_by-IsPermutation f (entry_at r place ∷ old) new p, sum_by-cons f (entry_at r place) old, same_region r place u)
+  held_pushed e place is old new p u =
+      let f : Entry R Candidate → ℕ = λ x. in_region (followers t) (region_of links (length t) x.tag) u in
+      omega (arith, sum_by-IsPermutation f (e ∷ old) new p, sum_by-cons f e old, same_region e.tag place is u)
 
 pub entries_put : {X : Type 0} (P : X → Type 0) (stands : Bool) (e : X) (old new : List X) → (stands ≡ true → IsPermutation (e ∷ old) (get_or old 0 e ∷ new)) → (stands ≡ false → IsPermutation (e ∷ old) new)
     → P e → All P old → All P new
@@ -116,8 +134,8 @@ length_put true e old new a b = omega (arith, length_permutation (e ∷ old) (ge
 length_put false e old new a b = omega (arith, length_permutation (e ∷ old) new (b refl))
 
 module _ {R : Type 0} (d : ℕ) (key : R → KeyOf d 16) (t : List (NodeView R)) (links : List (Linked Link)) (s : Site R) (h : IsSite d key t links s) where
-  pub held_put : (stands : Bool) (r : R) (place : ℕ) (old new : List (Entry R Candidate)) → (stands ≡ true → 0 < length old)
-      → (stands ≡ true → IsPermutation (entry_at d key t links s h r place ∷ old) (get_or old 0 (entry_at d key t links s h r place) ∷ new)) → (stands ≡ false → IsPermutation (entry_at d key t links s h r place ∷ old) new)
+  pub held_put : (stands : Bool) (e : Entry R Candidate) (place : ℕ) → e.tag ≡ candidate_at d key t links s h place → (old new : List (Entry R Candidate)) → (stands ≡ true → 0 < length old)
+      → (stands ≡ true → IsPermutation (e ∷ old) (get_or old 0 e ∷ new)) → (stands ≡ false → IsPermutation (e ∷ old) new)
       → (u : List ℕ) → in_region (followers t) (region_at t (prefix d key t links s h) place) u + held_by t links old u ≡ cond stands (held_by t links (take 1 old) u) 0 + held_by t links new u
-  held_put true r place old new some a b u = held_replaced d key t links s h r place old new (some refl) (a refl) u
-  held_put false r place old new some a b u = held_pushed d key t links s h r place old new (b refl) u
+  held_put true e place is old new some a b u = held_replaced d key t links s h e place is old new (some refl) (a refl) u
+  held_put false e place is old new some a b u = held_pushed d key t links s h e place is old new (b refl) u

@@ -1,3 +1,4 @@
+pub mod CandidateParts
 pub mod Candidates
 pub mod Chains
 pub mod Places

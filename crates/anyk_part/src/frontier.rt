@@ -48,13 +48,7 @@ impl<R: Rank, A: Allocator + Clone> Frontier<R, A> {
             self.now.queue.entries) }
     {
         let entry = self.queue.peek()?;
-        let walk = Walk {
-            node: entry.tag.position,
-            place: entry.tag.place,
-            before: entry.tag.before,
-            top_stands: true,
-        };
-        Some((entry.rank, walk))
+        Some((entry.rank, entry.tag.start()))
     }
 
     /// Makes room for all that one answer over this many nodes can add. Returns `NoMemory` if
@@ -71,12 +65,7 @@ impl<R: Rank, A: Allocator + Clone> Frontier<R, A> {
     }
 
     /// The first rows of a solution, by node; `last` names the last of them.
-    pub fn prefix<L: Ledger>(
-        &self,
-        count: u32,
-        last: Option<EntryId>,
-        steps: &mut Steps<L>,
-    ) -> [u32; 16]
+    pub fn prefix<L: Ledger>(&self, count: u32, last: EntryId, steps: &mut Steps<L>) -> [u32; 16]
         requires count { count ≤ 16 }
         requires chained { IsChain self.now.links.entries count last }
         ensures rows { take count result ≡ chain self.now.links.entries count last }
@@ -87,11 +76,9 @@ impl<R: Rank, A: Allocator + Clone> Frontier<R, A> {
         let mut before = last;
         while node > 0 {
             node -= 1;
-            if let Some(id) = before {
-                let link = *self.links.get(id, steps);
-                chosen[node] = link.row;
-                before = link.before;
-            }
+            let link = *self.links.get(before, steps);
+            chosen[node] = link.row;
+            before = link.before;
         }
         chosen
     }
@@ -161,11 +148,7 @@ impl<R: Rank, A: Allocator + Clone> Frontier<R, A> {
         let row = tree.member(site.node, site.group, place, steps);
         let best = tree.best(site.node, row, steps);
         let rank = R::swap(site.total, site.best, best, steps);
-        let candidate = Candidate {
-            position: site.node,
-            place,
-            before: site.before,
-        };
+        let candidate = Candidate::new(site.node, place, site.before);
         self.put(rank, candidate, top_stands, steps);
     }
 
@@ -281,7 +264,7 @@ impl<R: Rank, A: Allocator + Clone> Frontier<R, A> {
         Walk {
             node: walk.node + 1,
             place: 0,
-            before: Some(last),
+            before: last,
             top_stands: choice.top_stands,
         }
     }

@@ -33,7 +33,11 @@ returns-clause-part g c =
     let e : Entry g.row.R.Denot Candidate = first_entry c.best-best.result in
     let live : 0 < group_count t 0 = search rules in
     let empty : c.reserve.new.self.entries ≡ [] = c.reserve.ensures.entries ∙ c.new-queue.ensures.entries in
-    let is : c.push_reserved.new.self.entries ≡ e ∷ [] = one_alone e c.push_reserved.new.self.entries (subst (λ (es : List (Entry g.row.R.Denot Candidate)). IsPermutation (e ∷ es) c.push_reserved.new.self.entries) empty c.push_reserved.ensures.permutation) in
+    let whole : c.new-whole.result ≡ e.tag = c.new-whole.ensures.parts ∙ ap (λ id. record { position = 0; place = 0; before = id }) c.first.ensures in
+    let put : IsPermutation (e ∷ []) c.push_reserved.new.self.entries =
+    subst (λ (k : Candidate). IsPermutation (record { rank = c.best-best.result; tag = k } ∷ []) c.push_reserved.new.self.entries) whole
+    (subst (λ (es : List (Entry g.row.R.Denot Candidate)). IsPermutation (record { rank = c.best-best.result; tag = c.new-whole.result } ∷ es) c.push_reserved.new.self.entries) empty c.push_reserved.ensures.permutation) in
+    let is : c.push_reserved.new.self.entries ≡ e ∷ [] = one_alone e c.push_reserved.new.self.entries put in
     λ links. subst (λ (es : List (Entry g.row.R.Denot Candidate)). IsPart g.R.Rank.KEYS g.R.Rank.key t links es 0 × IsTreeRanking t g.R.Rank.KEYS g.R.Rank.key (rest_keys g.R.Rank.KEYS g.R.Rank.key t (regions_of links (length t) es)))
     (sym is) (part_first g.R.Rank.KEYS g.R.Rank.key t c.live.ensures.formed live c.requires.tie_free links c.best-best.result c.member-row.result c.member-row.ensures.member c.best-best.ensures.best)
 

@@ -3,7 +3,7 @@ use Rattle.take2_heap.specs.declared.entry.Entry.{Entry}
 use Rattle.tdp_core.specs.TreeView.{members, rows}
 use Rattle.anyk_part.specs.declared.candidate.Candidate.{Candidate}
 use Rattle.anyk_part.specs.Regions.{IsEntry}
-use Rattle.anyk_part.proofs.Sites.{member_row, can_swap, new_entry, entry_at, held_put, entries_put, length_put}
+use Rattle.anyk_part.proofs.Sites.{member_row, can_swap, node_small, place_small, new_entry, held_put, entries_put, length_put}
 use Rattle.anyk_part.proofs.frontier.Frontier.offer.Goals as goal
 
 pub best-best-requires-clause-row : goal.best-best-requires-clause-row
@@ -22,15 +22,22 @@ swap-rank-requires g c =
     subst (λ z. z < rows t s.node) (sym c.member-row.ensures.member) (member_row g.R.Rank.KEYS g.R.Rank.key t c.args.self.now.links.entries s c.requires.site c.args.place near) in
     can_swap g.R.Rank.KEYS g.R.Rank.key t c.args.self.now.links.entries s c.requires.site c.member-row.result (g.R.Rank.key c.best-best.result) row c.best-best.ensures.best
 
+pub new-candidate-requires-clause-position : goal.new-candidate-requires-clause-position
+new-candidate-requires-clause-position g c = node_small g.R.Rank.KEYS g.R.Rank.key c.args.tree.now c.args.self.now.links.entries c.args.site.now c.requires.site
+
+pub new-candidate-requires-clause-place : goal.new-candidate-requires-clause-place
+new-candidate-requires-clause-place g c = place_small g.R.Rank.KEYS g.R.Rank.key c.args.tree.now c.args.self.now.links.entries c.args.site.now c.requires.site c.args.place c.requires.place
+
 pub returns-clause-entries : goal.returns-clause-entries
 returns-clause-entries g c =
     let t = c.args.tree.now in
     let s = c.args.site.now in
     let links = c.args.self.now.links.entries in
     let near : c.args.place < length (members t s.node s.group) = c.requires.place in
-    let e : Entry g.row.R.Denot Candidate = entry_at g.R.Rank.KEYS g.R.Rank.key t links s c.requires.site c.swap-rank.result c.args.place in
+    let e : Entry g.row.R.Denot Candidate = record { rank = c.swap-rank.result; tag = c.new-candidate.result } in
     entries_put (IsEntry g.R.Rank.KEYS g.R.Rank.key t links) c.args.top_stands e c.args.self.now.queue.entries c.put.new.self.queue.entries (c.put.ensures.replaced e) c.put.ensures.pushed
-    (new_entry g.R.Rank.KEYS g.R.Rank.key t links s c.requires.site c.swap-rank.result c.args.place c.member-row.result (g.R.Rank.key c.best-best.result) near c.member-row.ensures.member c.best-best.ensures.best c.swap-rank.ensures.swapped)
+    (new_entry g.R.Rank.KEYS g.R.Rank.key t links s c.requires.site c.swap-rank.result c.args.place c.member-row.result (g.R.Rank.key c.best-best.result) near c.member-row.ensures.member c.best-best.ensures.best c.swap-rank.ensures.swapped
+    c.new-candidate.result c.new-candidate.ensures.parts)
     c.requires.entries
 
 pub returns-clause-held : goal.returns-clause-held
@@ -38,13 +45,10 @@ returns-clause-held g c =
     let t = c.args.tree.now in
     let s = c.args.site.now in
     let links = c.args.self.now.links.entries in
-    let e : Entry g.row.R.Denot Candidate = entry_at g.R.Rank.KEYS g.R.Rank.key t links s c.requires.site c.swap-rank.result c.args.place in
-    held_put g.R.Rank.KEYS g.R.Rank.key t links s c.requires.site c.args.top_stands c.swap-rank.result c.args.place c.args.self.now.queue.entries c.put.new.self.queue.entries c.requires.top (c.put.ensures.replaced e) c.put.ensures.pushed
+    let e : Entry g.row.R.Denot Candidate = record { rank = c.swap-rank.result; tag = c.new-candidate.result } in
+    held_put g.R.Rank.KEYS g.R.Rank.key t links s c.requires.site c.args.top_stands e c.args.place c.new-candidate.ensures.parts c.args.self.now.queue.entries c.put.new.self.queue.entries c.requires.top (c.put.ensures.replaced e) c.put.ensures.pushed
 
 pub returns-clause-length : goal.returns-clause-length
 returns-clause-length g c =
-    let t = c.args.tree.now in
-    let s = c.args.site.now in
-    let links = c.args.self.now.links.entries in
-    let e : Entry g.row.R.Denot Candidate = entry_at g.R.Rank.KEYS g.R.Rank.key t links s c.requires.site c.swap-rank.result c.args.place in
+    let e : Entry g.row.R.Denot Candidate = record { rank = c.swap-rank.result; tag = c.new-candidate.result } in
     length_put c.args.top_stands e c.args.self.now.queue.entries c.put.new.self.queue.entries (c.put.ensures.replaced e) c.put.ensures.pushed
