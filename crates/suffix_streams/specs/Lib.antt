@@ -6,6 +6,7 @@ pub mod NodeStreamsView
 pub mod Rankings
 pub mod Frontiers
 pub mod TreeStreams
+pub mod Exchanges
 pub mod Growing
 pub mod StreamsView
 pub mod Firsts
