@@ -1,4 +1,5 @@
 pub mod ProductView
+pub mod Sums
 pub mod StreamView
 pub mod OpenedRows
 pub mod RowsView
