@@ -14,6 +14,7 @@ pub mod Heads
 pub mod Kept
 pub mod Changes
 pub mod Entries
+pub mod Exchanges
 pub mod Errors
 pub mod FirstSums
 pub mod Stepping

@@ -181,6 +181,12 @@ module _ {R : Type 0} (d : ℕ) (key : R → KeyOf d 16) (t : List (NodeView R))
         ((left_ranking v r c l h).sound _ (get_member (part_list d key t v r c) i (key_none d 16) a))
         ((right_ranking v r c h).sound _ (get_member (group_list d key t (child t v c) (group_named t v r c)) j (key_none d 16) b)))
 
+    -- a solution of a row with its first children
+    pub part_fits : (v r c i : ℕ) → v < length t → c ≤ child_count t v → i < length (part_list d key t v r c) → KeyFits d key (get_or (part_list d key t v r c) i (key_none d 16))
+    part_fits v r c i l few h =
+        let within = part_within v c l few in
+        part_key_fits d key t formed (length t) v r (part_end t v c) _ l (omega (arith, within)) ((part_is_ranking v r c within).sound _ (get_member (part_list d key t v r c) i (key_none d 16) h))
+
     -- a subtree solution of a group
     pub solution_fits : (q g i : ℕ) → q < length t → i < length (group_list d key t q g) → KeyFits d key (get_or (group_list d key t q g) i (key_none d 16))
     solution_fits q g i l h =

@@ -27,8 +27,8 @@ use Rattle.suffix_streams.proofs.SearchSteps.{product_kept, row_kept, search_ext
 
 -- # Room was made in the product of the last of the children
 
--- the nodes are n before and m after, and the first cell of the product's frontier is `cell`
-pub record IsRoomMade {R : Type 0} (d : ℕ) (key : R → KeyOf d 16) (t : List (NodeView R)) (es : List (Linked (Found R))) (n m : List (NodeStreamsView R)) (v r count : ℕ) (cell : Cell) : Type 0 where
+-- the nodes are n before and m after, and the first of the product's frontier is `top`
+pub record IsRoomMade {R : Type 0} (d : ℕ) (key : R → KeyOf d 16) (t : List (NodeView R)) (es : List (Linked (Found R))) (n m : List (NodeStreamsView R)) (v r count : ℕ) (top : Entry R Cell) : Type 0 where
   pub before : IsStreams d key t es n
   pub node : v < length t
   pub row : r < rows t v
@@ -41,8 +41,8 @@ pub record IsRoomMade {R : Type 0} (d : ℕ) (key : R → KeyOf d 16) (t : List 
   pub formed : IsStreams d key t es m
   pub still_in_row : count - 1 < length (products_of m v r)
   pub some : 0 < length (product_of m v r (count - 1)).frontier
-  pub first : (x : Entry R Cell) → (get_or (product_of m v r (count - 1)).frontier 0 x).tag ≡ cell
-  pub known : IsCell d key t es m v r (count - 1) cell
+  pub first : (x : Entry R Cell) → get_or (product_of m v r (count - 1)).frontier 0 x ≡ top
+  pub known : IsCell d key t es m v r (count - 1) top.tag
   pub in_kids : count - 1 < child_count t v
   pub below : v < child t v (count - 1)
   pub child_within : child t v (count - 1) < length t
@@ -51,7 +51,7 @@ pub record IsRoomMade {R : Type 0} (d : ℕ) (key : R → KeyOf d 16) (t : List 
 pub room_made : {R : Type 0} (d : ℕ) (key : R → KeyOf d 16) (t : List (NodeView R)) (es : List (Linked (Found R))) (n m : List (NodeStreamsView R)) (v r count : ℕ) (x : NodeStreamsView R) (top : Entry R Cell) → IsStreams d key t es n → v < length t → r < rows t v
     → 0 < count → count ≤ length (products_of n v r) → HasOtherProduct n v r (count - 1) m → (product_of m v r (count - 1)).found ≡ (product_of n v r (count - 1)).found
     → (product_of m v r (count - 1)).frontier ≡ (product_of n v r (count - 1)).frontier → (product_of m v r (count - 1)).ranks ≡ (product_of n v r (count - 1)).ranks → x ≡ get_or n v x → 0 < length (product_at x r (count - 1)).frontier → top ≡ get_or (product_at x r (count - 1)).frontier 0 top
-    → IsRoomMade d key t es n m v r count top.tag
+    → IsRoomMade d key t es n m v r count top
 room_made {R} d key t es n m v r count x top h node row some within other found frontier ranks read there is =
     let c : ℕ = count - 1 in
     let in_row : c < length (products_of n v r) = omega (arith, some, within) in
@@ -59,8 +59,7 @@ room_made {R} d key t es n m v r count x top h node row some within other found 
     let there0 : 0 < length (product_of n v r c).frontier = subst (λ z. 0 < length (product_at z r c).frontier) (sym lists) there in
     let is0 : top ≡ get_or (product_of n v r c).frontier 0 top = is ∙ ap (λ z. get_or (product_at z r c).frontier 0 top) (sym lists) in
     let there1 : 0 < length (product_of m v r c).frontier = omega (arith, there0, ap length frontier) in
-    let first1 : (e : Entry R Cell) → (get_or (product_of m v r c).frontier 0 e).tag ≡ top.tag =
-    λ e. ap (λ f. (get_or f 0 e).tag) frontier ∙ ap (λ z. z.tag) (any_default (product_of n v r c).frontier 0 e top there0 ∙ sym is0) in
+    let first1 : (e : Entry R Cell) → get_or (product_of m v r c).frontier 0 e ≡ top = λ e. ap (λ f. get_or f 0 e) frontier ∙ any_default (product_of n v r c).frontier 0 e top there0 ∙ sym is0 in
     let formed1 : IsStreams d key t es m = room_formed d key t es n h v r c node row in_row m other found frontier ranks in
     let in_row1 : c < length (products_of m v r) = omega (arith, in_row, room_count d key t es n h v r c node row in_row m other found frontier ranks) in
     let kids : c < child_count t v = child_in d key t es m formed1 v r c node row in_row1 in
@@ -78,13 +77,13 @@ room_made {R} d key t es n m v r count x top h node row some within other found 
       still_in_row = in_row1;
       some = there1;
       first = first1;
-      known = cell_known d key t es m formed1 v r c node row in_row1 top.tag there1 first1;
+      known = cell_known d key t es m formed1 v r c node row in_row1 top.tag there1 (λ e. ap (λ (z : Entry R Cell). z.tag) (first1 e));
       in_kids = kids;
       below = kid_below d key t h.tree v c kids;
       child_within = (kid d key t h.tree v c kids).within;
     }
 
-module _ {R : Type 0} {d : ℕ} {key : R → KeyOf d 16} {t : List (NodeView R)} {es : List (Linked (Found R))} {n m : List (NodeStreamsView R)} {v r count : ℕ} {cell : Cell} (a : IsRoomMade d key t es n m v r count cell) where
+module _ {R : Type 0} {d : ℕ} {key : R → KeyOf d 16} {t : List (NodeView R)} {es : List (Linked (Found R))} {n m : List (NodeStreamsView R)} {v r count : ℕ} {top : Entry R Cell} (a : IsRoomMade d key t es n m v r count top) where
   pub made_extended : (e : List (Linked (Found R))) (o : List (NodeStreamsView R)) → IsExtended t v r (suc (count - 1)) es m e o → IsExtended t v r count es n e o
   made_extended e o x = subst (λ z. IsExtended t v r z es n e o) a.last (room_extended d key t es n a.before v r (count - 1) a.node a.row a.in_row m a.changed a.found a.frontier a.ranks e o x)
 
@@ -117,10 +116,10 @@ pub record IsChildAsked {R : Type 0} (d : ℕ) (key : R → KeyOf d 16) (t : Lis
   pub left : cell.left < part_known o v r (count - 1)
   pub in_row : count - 1 < length (products_of o v r)
 
-pub child_asked : {R : Type 0} {d : ℕ} {key : R → KeyOf d 16} {t : List (NodeView R)} {es : List (Linked (Found R))} {n m : List (NodeStreamsView R)} {v r count : ℕ} {cell : Cell} (a : IsRoomMade d key t es n m v r count cell)
-    (u : List (NodeView R)) (b : List (Linked (Found R))) (o : List (NodeStreamsView R)) (s0 s1 : ℕ) → u ≡ t → IsStreams d key u b o → IsGrown (parent t) (node_of es cell.right) es m b o → AreQueuesGrown (is_below (parent t) (node_of es cell.right)) m o
-    → IsWithinSteps t m (is_below (parent t) (node_of es cell.right)) (λ k. 14 + 4 * k + 20 * kids_size t (node_of es cell.right) (child_count t (node_of es cell.right)) * (1 + k)) s0 s1 → IsChildAsked d key t es b m o v r count cell s0 s1
-child_asked {R} {d} {key} {t} {es} {n} {m} {v} {r} {count} {cell} a u b o s0 s1 same h grown queues steps =
+pub child_asked : {R : Type 0} {d : ℕ} {key : R → KeyOf d 16} {t : List (NodeView R)} {es : List (Linked (Found R))} {n m : List (NodeStreamsView R)} {v r count : ℕ} {top : Entry R Cell} (a : IsRoomMade d key t es n m v r count top)
+    (u : List (NodeView R)) (b : List (Linked (Found R))) (o : List (NodeStreamsView R)) (s0 s1 : ℕ) → u ≡ t → IsStreams d key u b o → IsGrown (parent t) (node_of es top.tag.right) es m b o → AreQueuesGrown (is_below (parent t) (node_of es top.tag.right)) m o
+    → IsWithinSteps t m (is_below (parent t) (node_of es top.tag.right)) (λ k. 14 + 4 * k + 20 * kids_size t (node_of es top.tag.right) (child_count t (node_of es top.tag.right)) * (1 + k)) s0 s1 → IsChildAsked d key t es b m o v r count top.tag s0 s1
+child_asked {R} {d} {key} {t} {es} {n} {m} {v} {r} {count} {top} a u b o s0 s1 same h grown queues steps =
     let g : IsGrown (parent t) (child t v (count - 1)) es m b o = subst (λ q. IsGrown (parent t) q es m b o) a.known.node grown in
     let own : lists_of o v ≡ lists_of m v = g.above v a.below in
     record {
@@ -133,8 +132,8 @@ child_asked {R} {d} {key} {t} {es} {n} {m} {v} {r} {count} {cell} a u b o s0 s1 
       in_row = omega (arith, a.still_in_row, ap (λ z. length (get_or z.products r [])) own);
     }
 
-module _ {R : Type 0} {d : ℕ} {key : R → KeyOf d 16} {t : List (NodeView R)} {es b : List (Linked (Found R))} {n m o : List (NodeStreamsView R)} {v r count : ℕ} {cell : Cell} {s0 s1 : ℕ} (a : IsRoomMade d key t es n m v r count cell)
-    (k : IsChildAsked d key t es b m o v r count cell s0 s1) where
+module _ {R : Type 0} {d : ℕ} {key : R → KeyOf d 16} {t : List (NodeView R)} {es b : List (Linked (Found R))} {n m o : List (NodeStreamsView R)} {v r count : ℕ} {top : Entry R Cell} {s0 s1 : ℕ} (a : IsRoomMade d key t es n m v r count top)
+    (k : IsChildAsked d key t es b m o v r count top.tag s0 s1) where
   pub asked_extended : IsExtended t v r count es n b o
   asked_extended = made_extended a b o (extended_child d key t a.before.tree v r (count - 1) a.node a.in_kids es b m o k.grown)
 
@@ -171,8 +170,8 @@ pub record IsLeftSearched {R : Type 0} (d : ℕ) (key : R → KeyOf d 16) (t u :
   pub in_row : count - 1 < length (products_of z v r)
   pub head : (stream_of z (child t v (count - 1)) (group_named t v r (count - 1))).head ≡ (stream_of o (child t v (count - 1)) (group_named t v r (count - 1))).head
 
-pub left_searched : {R : Type 0} {d : ℕ} {key : R → KeyOf d 16} {t u : List (NodeView R)} {es b e : List (Linked (Found R))} {n m o z : List (NodeStreamsView R)} {v r count : ℕ} {cell : Cell} {s0 s1 s2 s3 : ℕ} (a : IsRoomMade d key t es n m v r count cell)
-    (k : IsChildAsked d key t es b m o v r count cell s0 s1) → IsSearched d key t v r (count - 1) b o u e z s2 s3 → IsLeftSearched d key t u b e m o z v r count s2 s3
+pub left_searched : {R : Type 0} {d : ℕ} {key : R → KeyOf d 16} {t u : List (NodeView R)} {es b e : List (Linked (Found R))} {n m o z : List (NodeStreamsView R)} {v r count : ℕ} {top : Entry R Cell} {s0 s1 s2 s3 : ℕ} (a : IsRoomMade d key t es n m v r count top)
+    (k : IsChildAsked d key t es b m o v r count top.tag s0 s1) → IsSearched d key t v r (count - 1) b o u e z s2 s3 → IsLeftSearched d key t u b e m o z v r count s2 s3
 left_searched {R} {d} {key} {t} {u} {es} {b} {e} {n} {m} {o} {z} {v} {r} {count} a k s = record {
   searched = s;
   product = product_kept d key t v r (count - 1) a.node a.row es b e m o z a.formed k.formed s.formed a.still_in_row k.grown s.extended;
@@ -180,8 +179,8 @@ left_searched {R} {d} {key} {t} {u} {es} {b} {e} {n} {m} {o} {z} {v} {r} {count}
   head = search_head d key t v r (count - 1) a.node a.row es b e m o z a.formed k.formed s.formed a.still_in_row k.grown s.extended;
 }
 
-module _ {R : Type 0} {d : ℕ} {key : R → KeyOf d 16} {t u : List (NodeView R)} {es b e : List (Linked (Found R))} {n m o z : List (NodeStreamsView R)} {v r count : ℕ} {cell : Cell} {s0 s1 s2 s3 : ℕ} (a : IsRoomMade d key t es n m v r count cell)
-    (k : IsChildAsked d key t es b m o v r count cell s0 s1) (l : IsLeftSearched d key t u b e m o z v r count s2 s3) where
+module _ {R : Type 0} {d : ℕ} {key : R → KeyOf d 16} {t u : List (NodeView R)} {es b e : List (Linked (Found R))} {n m o z : List (NodeStreamsView R)} {v r count : ℕ} {top : Entry R Cell} {s0 s1 s2 s3 : ℕ} (a : IsRoomMade d key t es n m v r count top)
+    (k : IsChildAsked d key t es b m o v r count top.tag s0 s1) (l : IsLeftSearched d key t u b e m o z v r count s2 s3) where
   pub left_extended : IsExtended t v r count es n e z
   left_extended = made_extended a e z (search_extended d key t v r (count - 1) a.node a.row es b e m o z a.formed k.formed l.searched.formed a.still_in_row k.grown l.searched.extended)
 

@@ -1,4 +1,5 @@
 pub mod ProductView
+pub mod Sums
 pub mod StreamView
 pub mod OpenedRows
 pub mod RowsView
@@ -6,6 +7,7 @@ pub mod NodeStreamsView
 pub mod Rankings
 pub mod Frontiers
 pub mod TreeStreams
+pub mod Exchanges
 pub mod Growing
 pub mod StreamsView
 pub mod Firsts

@@ -22,37 +22,45 @@ use take2_heap::Entry;
 /// for, and a list that grows in steps leaves its earlier places unused in an arena.
 const FIRST_ROOM: usize = 4;
 
+/// The solutions that a product found, in their order.
+#[derive(Drop)]
+enum Sums<R: Rank, A: Allocator> {
+    /// Of a row's last product: their cells alone.
+    Cells(Vec<Cell, A>),
+    /// Of a product that is the left part of another one: each cell beside its rank, since a step
+    /// writes both.
+    Ranked(Vec<Entry<R, Cell>, A>),
+}
+
 /// The solutions of a row with its first children, as sums of those with one child less and of the
 /// solutions of the last child's group. It has the cell of each solution that was found, and a
 /// frontier. The top of the frontier is the last solution found, until the one after it is asked
-/// for. A product that is the left part of another one keeps the ranks of its solutions too.
+/// for, so that at least one was found. A product that is the left part of another one keeps the
+/// ranks of its solutions too.
 #[derive(Drop)]
 pub(crate) struct Product<R: Rank, A: Allocator> {
-    found: Vec<Cell, A>,
+    found: Sums<R, A>,
     /// It is beside `found`, since each step reads both.
     frontier: Queue<R, Cell, A>,
-    /// The ranks of these solutions, or none if the product keeps no ranks.
-    ranks: Vec<R, A>,
 }
 
 impl<R: Rank, A: Allocator> Model for Product<R, A> {
-    ghost use Rattle.std.specs.Prelude.{◌-◌, ◌<◌, ◌^◌, min};
-    ghost use Rattle.std.specs.Vec.{vec_len, vec_capacity};
-    ghost use Rattle.suffix_streams.specs.ProductView.{ProductView, room_for};
+    ghost use Rattle.std.specs.Prelude.{◌-◌, ◌<◌, ◌^◌, length, min};
+    ghost use Rattle.suffix_streams.specs.ProductView.{ProductView};
+    ghost use Rattle.suffix_streams.specs.Sums.{cells_of, ranks_of, spare_of};
 
     ghost Value = { ProductView R };
 
     ghost view = { λ p. record {
-      found = p.found.items;
-      ranks = p.ranks.items;
+      found = cells_of p.found;
+      ranks = ranks_of p.found;
       frontier = p.frontier.entries;
-      room = room_for p.ranks.items
-          (min (vec_capacity p.found - vec_len p.found) (2 ^ 32 - 1 - vec_len p.found))
-          (vec_capacity p.ranks - vec_len p.ranks);
+      room = min (spare_of p.found) (2 ^ 32 - 1 - length (cells_of p.found));
       frontier_room = p.frontier.spare;
     } };
 
-    ghost invariant = { λ p. vec_len p.found < 2 ^ 32 };
+    ghost invariant = { λ p. (0 < length (cells_of p.found))
+        × (length (cells_of p.found) < 2 ^ 32) };
 }
 
 impl<R: Rank, A: Allocator + Clone> Product<R, A> {
@@ -70,14 +78,14 @@ impl<R: Rank, A: Allocator + Clone> Product<R, A> {
             (λ p. p.frontier ≡ record { rank = rank; tag = record { left = 0; right = right } }
             ∷ []) }
     {
-        let cell = Cell { left: 0, right };
-        let mut found = Vec::with_capacity(alloc.clone()?, FIRST_ROOM)?;
-        found.push(cell)?;
-        let ranks = first_rank(alloc, rank, keeps_ranks)?;
+        let first = Entry {
+            rank,
+            tag: Cell { left: 0, right },
+        };
+        let found = Sums::of(alloc, first, keeps_ranks)?;
         Ok(Product {
             found,
-            frontier: Queue::of(Entry { rank, tag: cell }),
-            ranks,
+            frontier: Queue::of(first),
         })
     }
 
@@ -94,10 +102,7 @@ impl<R: Rank, A: Allocator + Clone> Product<R, A> {
         if self.found.len() >= u32::MAX as usize {
             return Err(NoMemory);
         }
-        self.found.reserve(1)?;
-        if !self.ranks.is_empty() {
-            self.ranks.reserve(1)?;
-        }
+        self.found.reserve()?;
         if beside {
             self.frontier.reserve(alloc, 1)?;
         }
@@ -118,7 +123,7 @@ impl<R: Rank, A: Allocator> Product<R, A> {
         requires { place < length self.now.found }
         ensures { (d : Cell) → result ≡ slice_index_or self.now.found place d }
     {
-        self.found[place as usize]
+        self.found.cell(place as usize)
     }
 
     /// The rank of the solution at a place, from 0. The product must keep ranks.
@@ -126,7 +131,7 @@ impl<R: Rank, A: Allocator> Product<R, A> {
         requires { place < length self.now.ranks }
         ensures { (d : R) → result ≡ slice_index_or self.now.ranks place d }
     {
-        self.ranks[place as usize]
+        self.found.rank(place as usize)
     }
 
     /// The last solution found, as a sum, or `None` if no further one follows.
@@ -208,25 +213,95 @@ impl<R: Rank, A: Allocator> Product<R, A> {
         ensures ranks { self.new.ranks ≡ with_rank self.old.ranks sum.rank }
         ensures frontier { self.new.frontier ≡ self.old.frontier }
     {
-        self.found.push_reserved(sum.tag);
-        if !self.ranks.is_empty() {
-            self.ranks.push_reserved(sum.rank);
+        self.found.push_reserved(sum);
+    }
+}
+
+impl<R: Rank, A: Allocator + Clone> Sums<R, A> {
+    ghost use Rattle.suffix_streams.specs.Sums.{cells_of, ranks_of};
+
+    /// This solution alone, with its rank if `keeps_ranks`. `NoMemory` if memory is refused.
+    fn of(alloc: &A, sum: Entry<R, Cell>, keeps_ranks: bool) -> Result<Sums<R, A>, NoMemory>
+        ensures cells { IfOk result (λ s. cells_of s ≡ sum.tag ∷ []) }
+        ensures ranks { IfOk result (λ s. ranks_of s ≡ cond keeps_ranks (sum.rank ∷ []) []) }
+    {
+        if keeps_ranks {
+            let sums = list_of(alloc, sum)?;
+            Ok(Sums::Ranked(sums))
+        } else {
+            let cells = list_of(alloc, sum.tag)?;
+            Ok(Sums::Cells(cells))
         }
     }
 }
 
-/// The rank of a product's first solution, or none if the product keeps no ranks.
-fn first_rank<R: Rank, A: Allocator + Clone>(
-    alloc: &A,
-    rank: R,
-    keeps_ranks: bool,
-) -> Result<Vec<R, A>, NoMemory>
-    ensures { IfOk result (λ ranks. ranks.items ≡ cond keeps_ranks (rank ∷ []) []) }
-{
-    if !keeps_ranks {
-        return Ok(Vec::new(alloc.clone()?));
+impl<R: Rank, A: Allocator> Sums<R, A> {
+    ghost use Rattle.suffix_streams.specs.Sums.{cells_of, ranks_of, spare_of};
+
+    /// The number of solutions.
+    fn len(&self) -> usize
+        ensures { result ≡ length (cells_of self.now) }
+    {
+        match self {
+            Sums::Cells(cells) => cells.len(),
+            Sums::Ranked(sums) => sums.len(),
+        }
     }
-    let mut ranks = Vec::with_capacity(alloc.clone()?, FIRST_ROOM)?;
-    ranks.push(rank)?;
-    Ok(ranks)
+
+    /// The cell of the solution at a place, from 0.
+    fn cell(&self, place: usize) -> Cell
+        requires { place < length (cells_of self.now) }
+        ensures { (d : Cell) → result ≡ slice_index_or (cells_of self.now) place d }
+    {
+        match self {
+            Sums::Cells(cells) => cells[place],
+            Sums::Ranked(sums) => sums[place].tag,
+        }
+    }
+
+    /// The rank of the solution at a place, from 0. Ranks must be kept.
+    fn rank(&self, place: usize) -> R
+        requires { place < length (ranks_of self.now) }
+        ensures { (d : R) → result ≡ slice_index_or (ranks_of self.now) place d }
+    {
+        match self {
+            Sums::Cells(_) => unreachable!(),
+            Sums::Ranked(sums) => sums[place].rank,
+        }
+    }
+
+    /// Makes room for one more solution. `NoMemory` if memory is refused.
+    fn reserve(&mut self) -> Result<(), NoMemory>
+        ensures cells { cells_of self.new ≡ cells_of self.old }
+        ensures ranks { ranks_of self.new ≡ ranks_of self.old }
+        ensures spare { OnOk result (0 < spare_of self.new) }
+    {
+        match self {
+            Sums::Cells(cells) => cells.reserve(1)?,
+            Sums::Ranked(sums) => sums.reserve(1)?,
+        }
+        Ok(())
+    }
+
+    /// Adds one more solution to those that there are, in room that was made for it.
+    fn push_reserved(&mut self, sum: Entry<R, Cell>)
+        requires some { 0 < length (cells_of self.old) }
+        requires spare { 0 < spare_of self.old }
+        ensures cells { cells_of self.new ≡ cells_of self.old ++ sum.tag ∷ [] }
+        ensures ranks { ranks_of self.new ≡ with_rank (ranks_of self.old) sum.rank }
+    {
+        match self {
+            Sums::Cells(cells) => cells.push_reserved(sum.tag),
+            Sums::Ranked(sums) => sums.push_reserved(sum),
+        }
+    }
+}
+
+/// A list of this item alone, with a new product's room. `NoMemory` if memory is refused.
+fn list_of<T: Copy, A: Allocator + Clone>(alloc: &A, item: T) -> Result<Vec<T, A>, NoMemory>
+    ensures { IfOk result (λ list. list.items ≡ item ∷ []) }
+{
+    let mut list = Vec::with_capacity(alloc.clone()?, FIRST_ROOM)?;
+    list.push_reserved(item);
+    Ok(list)
 }

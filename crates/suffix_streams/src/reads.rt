@@ -6,6 +6,7 @@ ghost use Rattle.tdp_model.specs.KeyTuple.{key_add, key_none};
 ghost use Rattle.tdp_model.specs.Product.{pair_key};
 ghost use Rattle.suffix_streams.specs.Rankings.{child as child_node, part_list, group_list};
 ghost use Rattle.stream_cells.specs.declared.source.Source.{Source};
+ghost use Rattle.suffix_streams.specs.Exchanges.{CanExchange, IsExchanged};
 ghost use Rattle.suffix_streams.specs.Firsts.{HasFirstParts};
 ghost use Rattle.suffix_streams.specs.TreeStreams.{lists_of, products_of, stream_of, part_known, row_known, pair_of, IsSumOf, IsStreams, IsHeaded, HasParts, IsCell, IsOffer, AreFreshTo, AreLefts};
 
@@ -16,7 +17,7 @@ use rank_key::Rank;
 use std::alloc::Allocator;
 use std::sync::ledger::Ledger;
 use step_counter::{NoMemory, Steps};
-use stream_cells::{Cell, Source};
+use stream_cells::{Cell, Source, down_cell};
 use stream_store::{EntryId, Store};
 use take2_heap::Entry;
 use tdp_core::Tree;
@@ -191,6 +192,64 @@ pub(crate) fn offered<R: Rank, A: Allocator + Clone, L: Ledger>(
     Some(Entry { rank, tag: cell })
 }
 
+/// The sum below a sum, if there is one: the one with the entry `below` as its right part. Its rank
+/// is that of `top` with one part exchanged, so the left part is not read.
+pub(crate) fn offer_below<R: Rank, A: Allocator + Clone, L: Ledger>(
+    entries: &Store<Found<R>, A>,
+    top: &Entry<R, Cell>,
+    below: Option<EntryId>,
+    steps: &mut Steps<L>,
+) -> Option<Entry<R, Cell>>
+    requires right { top.now.tag.right < length entries.now.entries }
+    requires below { IfSome below (λ b. b < length entries.now.entries) }
+    requires exchange { IfSome below
+        (CanExchange R.KEYS R.key entries.now.entries top.now) }
+    ensures offer { IsExchanged R.KEYS R.key entries.now.entries top.now below result }
+    ensures cost { steps.new ≤ steps.old + 3 }
+{
+    let cell = down_cell(&top.tag, below)?;
+    let old = entries.get(top.tag.right, steps).solution.rank;
+    let new = entries.get(cell.right, steps).solution.rank;
+    let rank = R::swap(top.rank, old, new, steps);
+    Some(Entry { rank, tag: cell })
+}
+
+/// A known solution of a row with its first children up to number `child`, as a sum. The last one
+/// found is the top of the product's frontier, unless no further one follows: its rank is there, so
+/// its parts are not read.
+fn known_sum<R: Rank, A: Allocator + Clone, L: Ledger>(
+    tree: &Tree<R>,
+    nodes: &[NodeStreams<R, A>],
+    entries: &Store<Found<R>, A>,
+    node: u32,
+    row: u32,
+    child: usize,
+    place: u32,
+    steps: &mut Steps<L>,
+) -> Entry<R, Cell>
+    requires formed { IsStreams R.KEYS R.key tree.now entries.now.entries nodes.now }
+    requires node { node < length tree.now }
+    requires row { row < rows tree.now node }
+    requires child { child < length (products_of nodes.now node row) }
+    requires place { place < part_known nodes.now node row (child + 1) }
+    ensures sum { IsSumOf R.KEYS R.key tree.now entries.now.entries nodes.now node row child place
+        result.tag }
+    ensures key { R.key result.rank
+        ≡ slice_index_or (part_list R.KEYS R.key tree.now node row (child + 1)) place
+        (key_none R.KEYS 16) }
+    ensures cost { steps.new ≤ steps.old + 3 }
+{
+    let lists = &nodes[node as usize];
+    if lists.known(row, child + 1) == place + 1 {
+        if let Some(top) = lists.product_top(row, child) {
+            return top;
+        }
+    }
+    let cell = lists.cell(row, child, place);
+    let rank = cell_rank(tree, nodes, entries, node, row, child, &cell, steps);
+    Entry { rank, tag: cell }
+}
+
 /// The solution of an opened row at a place, as the next one of the member of a group that the row
 /// is. `number` is the row's number, from 1. `None` if the solution is not known.
 pub(crate) fn row_offer<R: Rank, A: Allocator + Clone, L: Ledger>(
@@ -229,17 +288,15 @@ pub(crate) fn row_offer<R: Rank, A: Allocator + Clone, L: Ledger>(
     if count == 0 || lists.known(row, count) <= place {
         return None;
     }
-    let child = count - 1;
-    let cell = lists.cell(row, child, place);
-    let rank = cell_rank(tree, nodes, entries, node, row, child, &cell, steps);
+    let sum = known_sum(tree, nodes, entries, node, row, count - 1, place, steps);
     Some(Entry {
-        rank,
+        rank: sum.rank,
         tag: Source {
             member,
             place,
             row,
             number,
-            cell,
+            cell: sum.tag,
         },
     })
 }

@@ -17,14 +17,15 @@ ghost use Rattle.suffix_streams.specs.Growing.{IsStoreGrown, IsGrown, IsExtended
 use crate::members::pass_last;
 use crate::node::NodeStreams;
 use crate::product::Product;
-use crate::reads::{make_products, offered, row_offer};
+use crate::reads::{make_products, offer_below, offered, row_offer};
 use crate::stream::Found;
 use rank_key::Rank;
 use std::alloc::Allocator;
 use std::sync::ledger::Ledger;
 use step_counter::{NoMemory, Steps};
-use stream_cells::{Cell, across_cell, down_cell};
+use stream_cells::{Cell, across_cell};
 use stream_store::{EntryId, Store};
+use take2_heap::Entry;
 use tdp_core::Tree;
 
 /// The subtree solutions that were found so far.
@@ -191,7 +192,7 @@ impl<'t, R: Rank, A: Allocator + Clone> Solutions<'t, R, A> {
         let known = lists.known(row, child);
         let (earlier, next) = left_search(&cell, head, child, known);
         self.extend(node, row, earlier, next, steps)?;
-        self.step(node, row, child, &cell, below, head, steps);
+        self.step(node, row, child, &top, below, head, steps);
         Ok(())
     }
 }
@@ -257,7 +258,7 @@ impl<'t, R: Rank, A: Allocator + Clone> Solutions<'t, R, A> {
         Ok(())
     }
 
-    /// Finds one more solution of a product, if there is one. `cell` is the last one found, and
+    /// Finds one more solution of a product, if there is one. `top` is the last one found, and
     /// `below` is the entry after its right part. `head` is the first entry of the child's stream,
     /// or any entry if the product is the row's first.
     fn step<L: Ledger>(
@@ -265,7 +266,7 @@ impl<'t, R: Rank, A: Allocator + Clone> Solutions<'t, R, A> {
         node: u32,
         row: u32,
         child: usize,
-        cell: &Cell,
+        top: &Entry<R, Cell>,
         below: Option<EntryId>,
         head: EntryId,
         steps: &mut Steps<L>,
@@ -277,17 +278,17 @@ impl<'t, R: Rank, A: Allocator + Clone> Solutions<'t, R, A> {
         requires row { row < rows self.old.tree.now node }
         requires child { child < length (products_of self.old.nodes.items node row) }
         requires top { 0 < length (product_of self.old.nodes.items node row child).frontier }
-        requires cell { (d : Entry R Cell)
-            → (slice_index_or (product_of self.old.nodes.items node row child).frontier 0 d).tag
-            ≡ cell.now }
+        requires first { (d : Entry R Cell)
+            → slice_index_or (product_of self.old.nodes.items node row child).frontier 0 d
+            ≡ top.now }
         requires head { 0 < child → head
             ≡ (stream_of self.old.nodes.items (child_node self.old.tree.now node child)
             (group_named self.old.tree.now node row child)).head }
         requires below { IsAnswered R.KEYS R.key self.old.tree.now self.old.entries.entries
-            cell.now.right below }
-        requires across { 0 < child → cell.now.right ≡ head
+            top.now.tag.right below }
+        requires across { 0 < child → top.now.tag.right ≡ head
             → IsReached R.KEYS R.key self.old.tree.now self.old.nodes.items node row child
-            (cell.now.left + 1) }
+            (top.now.tag.left + 1) }
         requires room { 0 < (product_of self.old.nodes.items node row child).room }
         requires frontier_room { 0 < child
             → 0 < (product_of self.old.nodes.items node row child).frontier_room }
@@ -305,18 +306,8 @@ impl<'t, R: Rank, A: Allocator + Clone> Solutions<'t, R, A> {
             * bit_length (length (product_of self.old.nodes.items node row child).frontier + 1) }
     {
         let known = self.nodes[node as usize].known(row, child);
-        let down = down_cell(cell, below);
-        let down = offered(
-            self.tree,
-            self.nodes.as_slice(),
-            &self.entries,
-            node,
-            row,
-            child,
-            down,
-            steps,
-        );
-        let across = across_cell(cell, head, known);
+        let down = offer_below(&self.entries, top, below, steps);
+        let across = across_cell(&top.tag, head, known);
         let across = offered(
             self.tree,
             self.nodes.as_slice(),

@@ -50,14 +50,14 @@ module _ (g : Over) (t : ℕ) where
 
   -- # What they share about a search in a row
 
-  room_of : (c : search-After-make_room g t) → IsRoomMade g.R.Rank.KEYS g.R.Rank.key c.args.self.now.tree.now c.args.self.now.entries.entries c.args.self.now.nodes.items c.make_room.new.nodes.items c.args.node c.args.row c.args.count c.in-Some.top.tag
+  room_of : (c : search-After-make_room g t) → IsRoomMade g.R.Rank.KEYS g.R.Rank.key c.args.self.now.tree.now c.args.self.now.entries.entries c.args.self.now.nodes.items c.make_room.new.nodes.items c.args.node c.args.row c.args.count c.in-Some.top
   room_of c =
       room_made g.R.Rank.KEYS g.R.Rank.key c.args.self.now.tree.now c.args.self.now.entries.entries c.args.self.now.nodes.items c.make_room.new.nodes.items c.args.node c.args.row c.args.count c.index.result.now c.in-Some.top c.requires.formed c.requires.node c.requires.row c.requires.some c.requires.count c.make_room.ensures.changed c.make_room.ensures.found c.make_room.ensures.frontier c.make_room.ensures.ranks c.index.ensures (c.product_top.ensures.variant.0 (ap is_some c.in-Some.is)) (c.in-Some.ensures.top c.in-Some.top)
 
-  child_of : (c : search-After-after g t) → IsRoomMade g.R.Rank.KEYS g.R.Rank.key c.args.self.now.tree.now c.args.self.now.entries.entries c.args.self.now.nodes.items c.make_room.new.nodes.items c.args.node c.args.row c.args.count c.in-Some.top.tag → IsChildAsked g.R.Rank.KEYS g.R.Rank.key c.args.self.now.tree.now c.args.self.now.entries.entries c.after.new.self.entries.entries c.make_room.new.nodes.items c.after.new.self.nodes.items c.args.node c.args.row c.args.count c.in-Some.top.tag c.args.steps.now c.after.new.steps
+  child_of : (c : search-After-after g t) → IsRoomMade g.R.Rank.KEYS g.R.Rank.key c.args.self.now.tree.now c.args.self.now.entries.entries c.args.self.now.nodes.items c.make_room.new.nodes.items c.args.node c.args.row c.args.count c.in-Some.top → IsChildAsked g.R.Rank.KEYS g.R.Rank.key c.args.self.now.tree.now c.args.self.now.entries.entries c.after.new.self.entries.entries c.make_room.new.nodes.items c.after.new.self.nodes.items c.args.node c.args.row c.args.count c.in-Some.top.tag c.args.steps.now c.after.new.steps
   child_of c a = child_asked a c.after.new.self.tree.now c.after.new.self.entries.entries c.after.new.self.nodes.items c.args.steps.now c.after.new.steps c.after.ensures.tree c.after.ensures.formed c.after.ensures.grown c.after.ensures.queues c.after.ensures.cost
 
-  left_of : (c : search-After-extend g t) → IsRoomMade g.R.Rank.KEYS g.R.Rank.key c.args.self.now.tree.now c.args.self.now.entries.entries c.args.self.now.nodes.items c.make_room.new.nodes.items c.args.node c.args.row c.args.count c.in-Some.top.tag → IsChildAsked g.R.Rank.KEYS g.R.Rank.key c.args.self.now.tree.now c.args.self.now.entries.entries c.after.new.self.entries.entries c.make_room.new.nodes.items c.after.new.self.nodes.items c.args.node c.args.row c.args.count c.in-Some.top.tag c.args.steps.now c.after.new.steps → IsLeftSearched g.R.Rank.KEYS g.R.Rank.key c.args.self.now.tree.now c.extend.new.self.tree.now c.after.new.self.entries.entries c.extend.new.self.entries.entries c.make_room.new.nodes.items c.after.new.self.nodes.items c.extend.new.self.nodes.items c.args.node c.args.row c.args.count c.after.new.steps c.extend.new.steps
+  left_of : (c : search-After-extend g t) → IsRoomMade g.R.Rank.KEYS g.R.Rank.key c.args.self.now.tree.now c.args.self.now.entries.entries c.args.self.now.nodes.items c.make_room.new.nodes.items c.args.node c.args.row c.args.count c.in-Some.top → IsChildAsked g.R.Rank.KEYS g.R.Rank.key c.args.self.now.tree.now c.args.self.now.entries.entries c.after.new.self.entries.entries c.make_room.new.nodes.items c.after.new.self.nodes.items c.args.node c.args.row c.args.count c.in-Some.top.tag c.args.steps.now c.after.new.steps → IsLeftSearched g.R.Rank.KEYS g.R.Rank.key c.args.self.now.tree.now c.extend.new.self.tree.now c.after.new.self.entries.entries c.extend.new.self.entries.entries c.make_room.new.nodes.items c.after.new.self.nodes.items c.extend.new.self.nodes.items c.args.node c.args.row c.args.count c.after.new.steps c.extend.new.steps
   left_of c a b =
       let kids : c.args.count ≤ child_count c.args.self.now.tree.now c.args.node = count_few g.R.Rank.KEYS g.R.Rank.key c.args.self.now.tree.now c.args.self.now.entries.entries c.args.self.now.nodes.items c.requires.formed c.args.node c.args.row c.args.count c.requires.node c.requires.row c.requires.count in
       left_searched a b (searched g.R.Rank.KEYS g.R.Rank.key c.args.self.now.tree.now c.after.new.self.tree.now c.args.node c.args.row (c.args.count - 1) c.after.new.self.entries.entries c.after.new.self.nodes.items c.extend.new.self.tree.now c.extend.new.self.entries.entries c.extend.new.self.nodes.items c.left_search-earlier.result.0 c.after.new.steps c.extend.new.steps c.after.ensures.tree c.extend.ensures.tree (omega (arith, kids)) (all_or_none c.in-Some.top.tag.right c.head_beside-head.result c.left_search-earlier.result.0 (c.args.count - 1) c.left_search-earlier.result.1 (c.in-Some.top.tag.left + 1) c.left_search-earlier.ensures.beside c.left_search-earlier.ensures.apart) c.extend.ensures.formed c.extend.ensures.extended c.extend.ensures.queues c.extend.ensures.cost)
@@ -564,13 +564,13 @@ search-step-requires-clause-top g t c =
     let l = left_of g t at.After-extend a b in
     subst (λ (z : ProductView g.row.R.Denot). 0 < length z.frontier) (sym l.product) a.some
 
-pub search-step-requires-clause-cell : goal.search-step-requires-clause-cell
-search-step-requires-clause-cell g t c =
-    let at = goal.at.search-step-requires-clause-cell g t c in
+pub search-step-requires-clause-first : goal.search-step-requires-clause-first
+search-step-requires-clause-first g t c =
+    let at = goal.at.search-step-requires-clause-first g t c in
     let a = room_of g t at.After-make_room in
     let b = child_of g t at.After-after a in
     let l = left_of g t at.After-extend a b in
-    λ x. ap (λ (z : ProductView g.row.R.Denot). (get_or z.frontier 0 x).tag) l.product ∙ a.first x
+    λ x. ap (λ (z : ProductView g.row.R.Denot). get_or z.frontier 0 x) l.product ∙ a.first x
 
 pub search-step-requires-clause-head : goal.search-step-requires-clause-head
 search-step-requires-clause-head g t c later =

@@ -1,7 +1,7 @@
-use Rattle.std.proofs.Common.{◌≡◌, ℕ, ◌+◌, ◌<◌, ◌≤◌, suc, inl, inr, refl, Option, IfSome, MatchOption, List, [], length, slice_set, get_or, sym, ap, ◌∙◌, subst, arith}
+use Rattle.std.proofs.Common.{◌≡◌, ℕ, ◌+◌, ◌<◌, ◌≤◌, suc, inl, inr, refl, IfSome, MatchOption, List, [], length, slice_set, get_or, sym, ap, ◌∙◌, subst, arith}
 use Rattle.std.proofs.lemmas.Bool.{cases_lt}
 use Rattle.rank_key.specs.Bits.{bit_length}
-use Rattle.stream_cells.specs.declared.cell.Cell.{Cell}
+use Rattle.stream_cells.specs.Cells.{cell_down}
 use Rattle.suffix_streams.specs.ProductView.{ProductView}
 use Rattle.suffix_streams.specs.NodeStreamsView.{NodeStreamsView, product_at, known_of, with_product}
 use Rattle.suffix_streams.specs.TreeStreams.{HasParts, IsCell, IsStreams, lists_of, product_of, stream_of, part_known}
@@ -13,7 +13,8 @@ use Rattle.suffix_streams.proofs.Searching.{reached_none}
 use Rattle.suffix_streams.proofs.Heads.{lists_at}
 use Rattle.suffix_streams.proofs.Entries.{parts_of}
 use Rattle.suffix_streams.proofs.Changes.{lists_same}
-use Rattle.suffix_streams.proofs.StepCells.{cell_known, down_cell_known, beside_cell_known, at_head, none_beside, one_change}
+use Rattle.suffix_streams.proofs.StepCells.{cell_known, beside_cell_known, at_head, none_beside, one_change}
+use Rattle.suffix_streams.proofs.Exchanges.{top_right, below_right, can_exchange, exchanged_offer}
 use Rattle.suffix_streams.proofs.ProductPass.{IsProductPassed, product_passed, stepped_holds, stepped_reaches}
 use Rattle.suffix_streams.proofs.solutions.Solutions.step.Given.{Over}
 use Rattle.suffix_streams.proofs.solutions.Solutions.step.Goals.{After-known-known, After-step_product}
@@ -30,13 +31,13 @@ module _ (g : Over) where
   known_is c = c.known-known.ensures ∙ ap (λ n. known_of n c.args.row c.args.child) (sym (lists_at c.args.self.now.nodes.items c.args.node c.index.result.now c.index.ensures (omega (arith, c.requires.formed.all_nodes, c.requires.node))))
 
   -- the place of the next left part is reached if the right part is the head
-  ready_of : (c : After-step_product g) → c.args.cell.now.right ≡ head_of c.args.self.now.tree.now c.args.self.now.nodes.items c.args.node c.args.row c.args.child → IsReached g.R.Rank.KEYS g.R.Rank.key c.args.self.now.tree.now c.args.self.now.nodes.items c.args.node c.args.row c.args.child (c.args.cell.now.left + 1)
+  ready_of : (c : After-step_product g) → c.args.top.now.tag.right ≡ head_of c.args.self.now.tree.now c.args.self.now.nodes.items c.args.node c.args.row c.args.child → IsReached g.R.Rank.KEYS g.R.Rank.key c.args.self.now.tree.now c.args.self.now.nodes.items c.args.node c.args.row c.args.child (c.args.top.now.tag.left + 1)
   ready_of c e = elim (cases_lt 0 c.args.child) [
     | inl later ↦ c.requires.across later (e ∙ sym (c.requires.head later))
     | inr none ↦
         let first : 0 ≡ c.args.child = omega (arith, none) in
-        subst (λ k. IsReached g.R.Rank.KEYS g.R.Rank.key c.args.self.now.tree.now c.args.self.now.nodes.items c.args.node c.args.row k (c.args.cell.now.left + 1)) first
-        (reached_none g.R.Rank.KEYS g.R.Rank.key c.args.self.now.tree.now c.args.self.now.entries.entries c.args.self.now.nodes.items c.requires.formed c.args.node c.args.row (c.args.cell.now.left + 1) c.requires.node (omega arith))
+        subst (λ k. IsReached g.R.Rank.KEYS g.R.Rank.key c.args.self.now.tree.now c.args.self.now.nodes.items c.args.node c.args.row k (c.args.top.now.tag.left + 1)) first
+        (reached_none g.R.Rank.KEYS g.R.Rank.key c.args.self.now.tree.now c.args.self.now.entries.entries c.args.self.now.nodes.items c.requires.formed c.args.node c.args.row (c.args.top.now.tag.left + 1) c.requires.node (omega arith))
   ]
 
   -- the product with the solutions that it had, and the frontier that it has
@@ -51,8 +52,8 @@ module _ (g : Over) where
 
   passed_of : (c : After-step_product g) → IsProductPassed g.R.Rank.KEYS g.R.Rank.key c.args.self.now.tree.now c.args.self.now.entries.entries c.args.self.now.nodes.items c.args.node c.args.row c.args.child (passed c)
   passed_of c =
-      product_passed g.R.Rank.KEYS g.R.Rank.key c.args.self.now.tree.now c.args.self.now.entries.entries c.args.self.now.nodes.items c.args.node c.args.row c.args.child (passed c) c.index.result.now c.index_mut.result.now c.known-known.result c.args.cell.now c.args.below (head_of c.args.self.now.tree.now c.args.self.now.nodes.items c.args.node c.args.row c.args.child) c.down_cell-down.result c.across_cell-across.result c.offered-down.result c.offered-across.result
-      c.requires.formed c.requires.node c.requires.row c.requires.child c.requires.top c.requires.cell refl c.requires.below (ready_of c) c.index.ensures c.index_mut.ensures.value c.known-known.ensures c.down_cell-down.ensures (at_head c.args.child c.known-known.result c.args.head (head_of c.args.self.now.tree.now c.args.self.now.nodes.items c.args.node c.args.row c.args.child) c.args.cell.now c.requires.head (λ none. c.known-known.ensures ∙ ap (λ k. known_of c.index.result.now c.args.row k) none) c.across_cell-across.result c.across_cell-across.ensures) c.offered-down.ensures.offer c.offered-across.ensures.offer refl refl c.step_product.ensures.moved c.step_product.ensures.least
+      product_passed g.R.Rank.KEYS g.R.Rank.key c.args.self.now.tree.now c.args.self.now.entries.entries c.args.self.now.nodes.items c.args.node c.args.row c.args.child (passed c) c.index.result.now c.index_mut.result.now c.known-known.result c.args.top.now.tag c.args.below (head_of c.args.self.now.tree.now c.args.self.now.nodes.items c.args.node c.args.row c.args.child) (cell_down c.args.top.now.tag c.args.below) c.across_cell-across.result c.offer_below-down.result c.offered-across.result
+      c.requires.formed c.requires.node c.requires.row c.requires.child c.requires.top (λ x. ap (λ e. e.tag) (c.requires.first x)) refl c.requires.below (ready_of c) c.index.ensures c.index_mut.ensures.value c.known-known.ensures refl (at_head c.args.child c.known-known.result c.args.head (head_of c.args.self.now.tree.now c.args.self.now.nodes.items c.args.node c.args.row c.args.child) c.args.top.now.tag c.requires.head (λ none. c.known-known.ensures ∙ ap (λ k. known_of c.index.result.now c.args.row k) none) c.across_cell-across.result c.across_cell-across.ensures) (exchanged_offer g.R.Rank.KEYS g.R.Rank.key c.args.self.now.tree.now c.args.self.now.entries.entries c.args.self.now.nodes.items c.requires.formed c.args.node c.args.row c.args.child c.requires.node c.requires.row c.requires.child c.args.top.now c.requires.top c.requires.first c.args.below c.offer_below-down.result c.requires.below c.offer_below-down.ensures.offer) c.offered-across.ensures.offer refl refl c.step_product.ensures.moved c.step_product.ensures.least
 
   -- the nodes then
   changed_of : (c : After-step_product g) → slice_set c.args.self.now.nodes.items c.args.node c.step_product.new.self ≡ slice_set c.args.self.now.nodes.items c.args.node (with_product (lists_of c.args.self.now.nodes.items c.args.node) c.args.row c.args.child (product_at c.step_product.new.self c.args.row c.args.child))
@@ -61,32 +62,33 @@ module _ (g : Over) where
   product_is : (c : After-step_product g) → product_of (slice_set c.args.self.now.nodes.items c.args.node c.step_product.new.self) c.args.node c.args.row c.args.child ≡ product_at c.step_product.new.self c.args.row c.args.child
   product_is c = ap (λ (m : NodeStreamsView g.row.R.Denot). product_at m c.args.row c.args.child) (lists_same c.args.self.now.nodes.items c.args.node c.step_product.new.self (omega (arith, c.requires.formed.all_nodes, c.requires.node)))
 
-pub offered-down-requires-clause-parts : goal.offered-down-requires-clause-parts
-offered-down-requires-clause-parts g c = subst (λ (z : List (NodeStreamsView g.row.R.Denot)). HasParts g.R.Rank.KEYS g.R.Rank.key c.args.self.now.tree.now c.args.self.now.entries.entries z c.args.node c.args.row c.args.child) (sym c.as_slice.ensures.value) (parts_of g.R.Rank.KEYS g.R.Rank.key c.args.self.now.tree.now c.args.self.now.entries.entries c.args.self.now.nodes.items c.requires.formed c.args.node c.args.row c.args.child c.requires.node c.requires.row c.requires.child)
+pub offer_below-down-requires-clause-right : goal.offer_below-down-requires-clause-right
+offer_below-down-requires-clause-right g c = top_right g.R.Rank.KEYS g.R.Rank.key c.args.self.now.tree.now c.args.self.now.entries.entries c.args.self.now.nodes.items c.requires.formed c.args.node c.args.row c.args.child c.requires.node c.requires.row c.requires.child c.args.top.now c.requires.top c.requires.first
 
-pub offered-down-requires-clause-cell : goal.offered-down-requires-clause-cell
-offered-down-requires-clause-cell g c =
-    subst (λ (z : List (NodeStreamsView g.row.R.Denot)). IfSome c.down_cell-down.result (IsCell g.R.Rank.KEYS g.R.Rank.key c.args.self.now.tree.now c.args.self.now.entries.entries z c.args.node c.args.row c.args.child)) (sym c.as_slice.ensures.value)
-    (subst (λ (o : Option Cell). IfSome o (IsCell g.R.Rank.KEYS g.R.Rank.key c.args.self.now.tree.now c.args.self.now.entries.entries c.args.self.now.nodes.items c.args.node c.args.row c.args.child)) (sym c.down_cell-down.ensures) (down_cell_known g.R.Rank.KEYS g.R.Rank.key c.args.self.now.tree.now c.args.self.now.entries.entries c.args.self.now.nodes.items c.requires.formed c.args.node c.args.row c.args.child c.requires.node c.requires.row c.requires.child c.args.cell.now c.requires.top c.requires.cell c.args.below c.requires.below))
+pub offer_below-down-requires-clause-below : goal.offer_below-down-requires-clause-below
+offer_below-down-requires-clause-below g c = below_right g.R.Rank.KEYS g.R.Rank.key c.args.self.now.tree.now c.args.self.now.entries.entries c.args.self.now.nodes.items c.requires.formed c.args.node c.args.row c.args.child c.requires.node c.requires.row c.requires.child c.args.top.now c.requires.top c.requires.first c.args.below c.requires.below
+
+pub offer_below-down-requires-clause-exchange : goal.offer_below-down-requires-clause-exchange
+offer_below-down-requires-clause-exchange g c = can_exchange g.R.Rank.KEYS g.R.Rank.key c.args.self.now.tree.now c.args.self.now.entries.entries c.args.self.now.nodes.items c.requires.formed c.args.node c.args.row c.args.child c.requires.node c.requires.row c.requires.child c.args.top.now c.requires.top c.requires.first c.args.below c.requires.below
 
 pub across_cell-across-requires : goal.across_cell-across-requires
 across_cell-across-requires g c =
     let at = goal.at.across_cell-across-requires g c in
     let known = known_is g at.After-known-known in
-    omega (arith, known, (cell_known g.R.Rank.KEYS g.R.Rank.key c.args.self.now.tree.now c.args.self.now.entries.entries c.args.self.now.nodes.items c.requires.formed c.args.node c.args.row c.args.child c.requires.node c.requires.row c.requires.child c.args.cell.now c.requires.top c.requires.cell).left)
+    omega (arith, known, (cell_known g.R.Rank.KEYS g.R.Rank.key c.args.self.now.tree.now c.args.self.now.entries.entries c.args.self.now.nodes.items c.requires.formed c.args.node c.args.row c.args.child c.requires.node c.requires.row c.requires.child c.args.top.now.tag c.requires.top (λ x. ap (λ e. e.tag) (c.requires.first x))).left)
 
 pub offered-across-requires-clause-parts : goal.offered-across-requires-clause-parts
-offered-across-requires-clause-parts g c = subst (λ (z : List (NodeStreamsView g.row.R.Denot)). HasParts g.R.Rank.KEYS g.R.Rank.key c.args.self.now.tree.now c.args.self.now.entries.entries z c.args.node c.args.row c.args.child) (sym c.as_slice-2.ensures.value) (parts_of g.R.Rank.KEYS g.R.Rank.key c.args.self.now.tree.now c.args.self.now.entries.entries c.args.self.now.nodes.items c.requires.formed c.args.node c.args.row c.args.child c.requires.node c.requires.row c.requires.child)
+offered-across-requires-clause-parts g c = subst (λ (z : List (NodeStreamsView g.row.R.Denot)). HasParts g.R.Rank.KEYS g.R.Rank.key c.args.self.now.tree.now c.args.self.now.entries.entries z c.args.node c.args.row c.args.child) (sym c.as_slice.ensures.value) (parts_of g.R.Rank.KEYS g.R.Rank.key c.args.self.now.tree.now c.args.self.now.entries.entries c.args.self.now.nodes.items c.requires.formed c.args.node c.args.row c.args.child c.requires.node c.requires.row c.requires.child)
 
 pub offered-across-requires-clause-cell : goal.offered-across-requires-clause-cell
 offered-across-requires-clause-cell g c =
     let at = goal.at.offered-across-requires-clause-cell g c in
     let known = known_is g at.After-known-known in
     let head = head_of c.args.self.now.tree.now c.args.self.now.nodes.items c.args.node c.args.row c.args.child in
-    let beside = subst (λ k. MatchOption c.across_cell-across.result (c.args.cell.now.right ≡ head → k ≤ c.args.cell.now.left + 1) (λ x. (c.args.cell.now.right ≡ head) × (c.args.cell.now.left + 1 < k) × (x ≡ record { left = c.args.cell.now.left + 1; right = head }))) known
-    (at_head c.args.child c.known-known.result c.args.head head c.args.cell.now c.requires.head (λ none. c.known-known.ensures ∙ ap (λ k. known_of c.index.result.now c.args.row k) none) c.across_cell-across.result c.across_cell-across.ensures) in
-    subst (λ (z : List (NodeStreamsView g.row.R.Denot)). IfSome c.across_cell-across.result (IsCell g.R.Rank.KEYS g.R.Rank.key c.args.self.now.tree.now c.args.self.now.entries.entries z c.args.node c.args.row c.args.child)) (sym c.as_slice-2.ensures.value)
-    (beside_cell_known g.R.Rank.KEYS g.R.Rank.key c.args.self.now.tree.now c.args.self.now.entries.entries c.args.self.now.nodes.items c.requires.formed c.args.node c.args.row c.args.child c.requires.node c.requires.row c.requires.child c.args.cell.now c.requires.top c.requires.cell (head_of c.args.self.now.tree.now c.args.self.now.nodes.items c.args.node c.args.row c.args.child) refl c.across_cell-across.result beside)
+    let beside = subst (λ k. MatchOption c.across_cell-across.result (c.args.top.now.tag.right ≡ head → k ≤ c.args.top.now.tag.left + 1) (λ x. (c.args.top.now.tag.right ≡ head) × (c.args.top.now.tag.left + 1 < k) × (x ≡ record { left = c.args.top.now.tag.left + 1; right = head }))) known
+    (at_head c.args.child c.known-known.result c.args.head head c.args.top.now.tag c.requires.head (λ none. c.known-known.ensures ∙ ap (λ k. known_of c.index.result.now c.args.row k) none) c.across_cell-across.result c.across_cell-across.ensures) in
+    subst (λ (z : List (NodeStreamsView g.row.R.Denot)). IfSome c.across_cell-across.result (IsCell g.R.Rank.KEYS g.R.Rank.key c.args.self.now.tree.now c.args.self.now.entries.entries z c.args.node c.args.row c.args.child)) (sym c.as_slice.ensures.value)
+    (beside_cell_known g.R.Rank.KEYS g.R.Rank.key c.args.self.now.tree.now c.args.self.now.entries.entries c.args.self.now.nodes.items c.requires.formed c.args.node c.args.row c.args.child c.requires.node c.requires.row c.requires.child c.args.top.now.tag c.requires.top (λ x. ap (λ e. e.tag) (c.requires.first x)) (head_of c.args.self.now.tree.now c.args.self.now.nodes.items c.args.node c.args.row c.args.child) refl c.across_cell-across.result beside)
 
 pub index-requires : goal.index-requires
 index-requires g c =
@@ -96,18 +98,6 @@ pub known-known-requires : goal.known-known-requires
 known-known-requires g c =
     let inside : c.args.node < length c.args.self.now.nodes.items = omega (arith, c.requires.formed.all_nodes, c.requires.node) in
     omega (arith, c.requires.child, ap (λ n. length (get_or n.products c.args.row [])) (lists_at c.args.self.now.nodes.items c.args.node c.index.result.now c.index.ensures inside))
-
-pub offered-down-requires-clause-formed : goal.offered-down-requires-clause-formed
-offered-down-requires-clause-formed g c =
-    c.requires.formed.tree
-
-pub offered-down-requires-clause-node : goal.offered-down-requires-clause-node
-offered-down-requires-clause-node g c =
-    c.requires.node
-
-pub offered-down-requires-clause-row : goal.offered-down-requires-clause-row
-offered-down-requires-clause-row g c =
-    c.requires.row
 
 pub offered-across-requires-clause-formed : goal.offered-across-requires-clause-formed
 offered-across-requires-clause-formed g c =
@@ -133,7 +123,7 @@ step_product-requires-clause-frontier_room g c _ across =
       | inr l ↦
           let first : c.args.child ≡ 0 = omega (arith, l) in
           let one : c.known-known.result ≡ 1 = c.known-known.ensures ∙ ap (λ k. known_of c.index.result.now c.args.row k) first in
-          absurd (none_beside g.R.Rank.KEYS g.R.Rank.key c.args.self.now.tree.now c.args.self.now.entries.entries c.args.node c.args.row c.args.child c.args.cell.now c.args.head c.known-known.result (omega (arith, one)) c.across_cell-across.result c.offered-across.result c.across_cell-across.ensures c.offered-across.ensures.offer across)
+          absurd (none_beside g.R.Rank.KEYS g.R.Rank.key c.args.self.now.tree.now c.args.self.now.entries.entries c.args.node c.args.row c.args.child c.args.top.now.tag c.args.head c.known-known.result (omega (arith, one)) c.across_cell-across.result c.offered-across.result c.across_cell-across.ensures c.offered-across.ensures.offer across)
     ]
 
 pub step_product-requires-clause-child : goal.step_product-requires-clause-child
@@ -188,4 +178,4 @@ pub returns-clause-cost : goal.returns-clause-cost
 returns-clause-cost g c =
     let old = ap (λ n. product_at n c.args.row c.args.child) (sym (lists_at c.args.self.now.nodes.items c.args.node c.index_mut.result.now c.index_mut.ensures.value (omega (arith, c.requires.formed.all_nodes, c.requires.node)))) in
     let fewer : bit_length (length (product_of c.args.self.now.nodes.items c.args.node c.args.row c.args.child).frontier) ≤ bit_length (length (product_of c.args.self.now.nodes.items c.args.node c.args.row c.args.child).frontier + 1) = bit_length_rises (length (product_of c.args.self.now.nodes.items c.args.node c.args.row c.args.child).frontier) (length (product_of c.args.self.now.nodes.items c.args.node c.args.row c.args.child).frontier + 1) (omega arith) in
-    omega (arith, fewer, c.offered-down.ensures.cost, c.offered-across.ensures.cost, c.step_product.ensures.cost, ap (λ q. bit_length (length q.frontier)) old, ap (λ q. bit_length (length q.frontier + 1)) old)
+    omega (arith, fewer, c.offer_below-down.ensures.cost, c.offered-across.ensures.cost, c.step_product.ensures.cost, ap (λ q. bit_length (length q.frontier)) old, ap (λ q. bit_length (length q.frontier + 1)) old)
