@@ -15,12 +15,13 @@ use Rattle.stream_model.specs.QueueEntries.{IsHeld, places, InRuns}
 use Rattle.stream_model.specs.Reaches.{reaches}
 use Rattle.stream_model.specs.Links.{owned, place_in, IsLinkedAt}
 use Rattle.suffix_streams.specs.declared.stream.Found.{Found}
+use Rattle.suffix_streams.specs.declared.stream.Solved.{Solved}
 use Rattle.stream_cells.specs.declared.source.Source.{Source}
 use Rattle.suffix_streams.specs.ProductView.{ProductView}
 use Rattle.suffix_streams.specs.NodeStreamsView.{NodeStreamsView, known_of}
 use Rattle.suffix_streams.specs.Rankings.{child, part_list, group_list}
 use Rattle.suffix_streams.specs.Frontiers.{AreFirst}
-use Rattle.suffix_streams.specs.TreeStreams.{node_list, group_list_of, node_of, group_of, place_of, stream, lists_of, stream_of, product_of, row_known, run_of, IsHeaded, HasOwnParts, IsStreamOf, IsStreams}
+use Rattle.suffix_streams.specs.TreeStreams.{kept_of, node_list, group_list_of, node_of, group_of, place_of, stream, lists_of, stream_of, product_of, row_known, run_of, IsHeaded, HasOwnParts, IsStreamOf, IsStreams}
 use Rattle.suffix_streams.specs.Beginnings.{IsBegunAt, IsBegun}
 use Rattle.suffix_streams.proofs.FirstSums.{first_own}
 use Rattle.suffix_streams.proofs.BeginFirsts.{group_head}
@@ -77,7 +78,7 @@ module _ {R : Type 0} (d : ℕ) (key : R → KeyOf d 16) (t : List (NodeView R))
 
 module _ {R : Type 0} (d : ℕ) (key : R → KeyOf d 16) (t : List (NodeView R)) (formed : IsFormed d key t) (free : IsTieFreeTree t) (es : List (Linked (Found R))) (nodes : List (NodeStreamsView R)) (b : IsBegun d key t es nodes) where
   -- the stream is its head
-  stream_is : (q h : ℕ) (a : Entry R Source) → q < length t → h < length (lists_of nodes q).streams → (e : Linked (Found R)) → a ≡ (get_or es (stream_of nodes q h).head e).value.solution → stream es q h ≡ a ∷ []
+  stream_is : (q h : ℕ) (a : Entry R Solved) → q < length t → h < length (lists_of nodes q).streams → (e : Linked (Found R)) → a ≡ (get_or es (stream_of nodes q h).head e).value.solution → stream es q h ≡ a ∷ []
   stream_is q h a l lh e s =
       let x = b.begun q h l lh in
       only_one (stream es q h) a (stream_length es q h ∙ owned_one d key t es nodes b q h lh)
@@ -114,11 +115,11 @@ module _ {R : Type 0} (d : ℕ) (key : R → KeyOf d 16) (t : List (NodeView R))
   stream_begun q h l lg lh =
       let x = b.begun q h l lh in
       let e : Linked (Found R) = an_entry es (stream_of nodes q h).head x.head_in in
-      let a : Entry R Source = (get_or es (stream_of nodes q h).head e).value.solution in
+      let a : Entry R Solved = (get_or es (stream_of nodes q h).head e).value.solution in
       let whole : stream es q h ≡ a ∷ [] = stream_is q h a l lh e refl in
       let f : Entry R Source = x.only.0 in
       let queue : (stream_of nodes q h).queue ≡ f ∷ [] = x.only.1 in
-      let own : a ≡ f = x.top e a ∙ ap (λ z. get_or z 0 a) queue in
+      let own : a ≡ kept_of f = x.top e f ∙ ap (λ (z : List (Entry R Source)). kept_of (get_or z 0 f)) queue in
       let ahead = first_ahead d key t formed free run_of q h f (group_list d key t q h) (λ i. part_list d key t q (get_or (members t q h) i 0) (child_count t q)) l (formed.inhabited q h l lg) x.only.2.0 x.only.2.1
       (group_is_ranking d key t q h l) (λ i li. row_is_ranking d key t formed q (get_or (members t q h) i 0) l) in
       let known : Known q h f = omega (arith, ap (λ (p : Pair). p.right) x.only.2.0, row_one q (get_or (members t q h) f.tag.member 0)) in
@@ -130,19 +131,18 @@ module _ {R : Type 0} (d : ℕ) (key : R → KeyOf d 16) (t : List (NodeView R))
         head_place = head_first d key t es nodes b q h l lh;
         few = omega (arith, ap length queue, formed.inhabited q h l lg);
         known = subst (All (Known q h)) (sym queue) (only (Known q h) f known);
-        found_known = subst (All (Known q h)) (sym whole) (only (Known q h) a (subst (Known q h) (sym own) known));
+        sources = f ∷ [];
+        kept = ap (λ (z : Entry R Solved). z ∷ []) (sym own) ∙ sym whole;
+        found_known = only (Known q h) f known;
         parts = subst (All (Parts q h)) (sym queue) (only (Parts q h) f parts);
-        found_parts = subst (All (Parts q h)) (sym whole) (only (Parts q h) a (subst (Parts q h) (sym own) parts));
+        found_parts = only (Parts q h) f parts;
         merge = record {
-          prefix = subst (λ z. AreFirst d key z (group_list d key t q h)) (sym whole) (prefix_one q h a l lg (x.first e));
-          kept = subst (All (Held q h)) (sym whole) (subst (λ z. All (Held q h) (z ∷ [])) (sym own) ahead.0);
+          prefix = prefix_one q h f l lg (subst (λ (z : Entry R Solved). key z.rank ≡ get_or (group_list d key t q h) 0 (key_none d 16)) own (x.first e));
+          kept = ahead.0;
           held = subst (All (Held q h)) (sym queue) ahead.0;
           ahead = subst (λ z. IsAhead Pair (KeyOf d 16) (key_below d 16) (run_key (key_none d 16) (λ i. part_list d key t q (get_or (members t q h) i 0) (child_count t q)))
               (reaches (length (members t q h)) (λ i. length (part_list d key t q (get_or (members t q h) i 0) (child_count t q)))) (InRuns d (length (members t q h)) (λ i. part_list d key t q (get_or (members t q h) i 0) (child_count t q)))
-              (group_list d key t q h) (length (stream es q h)) (places run_of z)) (sym queue)
-              (subst (λ k. IsAhead Pair (KeyOf d 16) (key_below d 16) (run_key (key_none d 16) (λ i. part_list d key t q (get_or (members t q h) i 0) (child_count t q)))
-              (reaches (length (members t q h)) (λ i. length (part_list d key t q (get_or (members t q h) i 0) (child_count t q)))) (InRuns d (length (members t q h)) (λ i. part_list d key t q (get_or (members t q h) i 0) (child_count t q)))
-              (group_list d key t q h) k (places run_of (f ∷ []))) (sym (ap length whole)) ahead.1);
+              (group_list d key t q h) 1 (places run_of z)) (sym queue) ahead.1;
         };
       }
     where

@@ -16,7 +16,7 @@ use Rattle.suffix_streams.specs.NodeStreamsView.{NodeStreamsView}
 use Rattle.suffix_streams.specs.Rankings.{group_list}
 use Rattle.stream_cells.specs.declared.source.Source.{Source}
 use Rattle.take2_heap.specs.declared.entry.Entry.{Entry}
-use Rattle.suffix_streams.specs.TreeStreams.{node_list, group_list_of, next_list, node_of, group_of, place_of, next_of, lists_of, stream_of}
+use Rattle.suffix_streams.specs.TreeStreams.{kept_of, node_list, group_list_of, next_list, node_of, group_of, place_of, next_of, lists_of, stream_of}
 use Rattle.suffix_streams.proofs.BeginOwners.{owned_by, owned_else, map_behind, get_before, get_behind, length_behind, get_past}
 use Rattle.suffix_streams.specs.Beginnings.{HasFirst, AreChildren, IsEmptyNode, IsBegunAt, IsBegun}
 
@@ -124,7 +124,7 @@ module _ {R : Type 0} (d : ℕ) (key : R → KeyOf d 16) (t : List (NodeView R))
 
   -- A group's stream is made.
   pub begun_more : (g : ℕ) → v < length t → g ≡ length (lists_of nodes v).streams → g < group_count t v → e.value.node ≡ v → e.value.group ≡ g → e.next ≡ None
-      → s.head ≡ length es → key e.value.solution.rank ≡ get_or (group_list d key t v g) 0 (key_none d 16) → ((x : Entry R Source) → e.value.solution ≡ get_or s.queue 0 x) → HasFirst d key t es v g s.queue → IsBegun d key t es nodes → IsBegun d key t (es ++ (e ∷ [])) nodes'
+      → s.head ≡ length es → key e.value.solution.rank ≡ get_or (group_list d key t v g) 0 (key_none d 16) → ((x : Entry R Source) → e.value.solution ≡ kept_of (get_or s.queue 0 x)) → HasFirst d key t es v g s.queue → IsBegun d key t es nodes → IsBegun d key t (es ++ (e ∷ [])) nodes'
   begun_more g l is_last lg en eg el at_head first own_top only b = record {
     all_nodes = same_nodes ∙ b.all_nodes;
     children = λ q lq. subst (λ z. AreChildren t q z) (sym (children_kept q)) (b.children q lq);
@@ -206,7 +206,7 @@ module _ {R : Type 0} (d : ℕ) (key : R → KeyOf d 16) (t : List (NodeView R))
             node = ap (λ z. node_of (es ++ (e ∷ [])) z.head) k ∙ node_before (stream_of nodes q h).head x.head_in ∙ x.node;
             group = ap (λ z. group_of (es ++ (e ∷ [])) z.head) k ∙ group_before (stream_of nodes q h).head x.head_in ∙ x.group;
             first = λ y. subst (λ z. key z.value.solution.rank ≡ get_or (group_list d key t q h) 0 (key_none d 16)) (sym (ap (λ z. get_or (es ++ (e ∷ [])) z.head y) k ∙ get_before es e (stream_of nodes q h).head y x.head_in)) (x.first y);
-            top = λ y w. ap (λ z. z.value.solution) (ap (λ z. get_or (es ++ (e ∷ [])) z.head y) k ∙ get_before es e (stream_of nodes q h).head y x.head_in) ∙ x.top y w ∙ ap (λ z. get_or z.queue 0 w) (sym k);
+            top = λ y w. ap (λ z. z.value.solution) (ap (λ z. get_or (es ++ (e ∷ [])) z.head y) k ∙ get_before es e (stream_of nodes q h).head y x.head_in) ∙ x.top y w ∙ ap (λ z. kept_of (get_or z.queue 0 w)) (sym k);
             only = subst (λ z. HasFirst d key t (es ++ (e ∷ [])) q h z.queue) (sym k) (first_before q h (stream_of nodes q h).queue x.only);
           }
 
@@ -219,6 +219,6 @@ module _ {R : Type 0} (d : ℕ) (key : R → KeyOf d 16) (t : List (NodeView R))
         node = node_behind (stream_of nodes' v g).head (ap (λ z. z.head) new_stream ∙ at_head) ∙ en;
         group = group_behind (stream_of nodes' v g).head (ap (λ z. z.head) new_stream ∙ at_head) ∙ eg;
         first = λ y. subst (λ z. key z.value.solution.rank ≡ get_or (group_list d key t v g) 0 (key_none d 16)) (sym (get_behind es e (stream_of nodes' v g).head y (ap (λ z. z.head) new_stream ∙ at_head))) first;
-        top = λ y w. ap (λ z. z.value.solution) (get_behind es e (stream_of nodes' v g).head y (ap (λ z. z.head) new_stream ∙ at_head)) ∙ own_top w ∙ ap (λ z. get_or z.queue 0 w) (sym new_stream);
+        top = λ y w. ap (λ z. z.value.solution) (get_behind es e (stream_of nodes' v g).head y (ap (λ z. z.head) new_stream ∙ at_head)) ∙ own_top w ∙ ap (λ z. kept_of (get_or z.queue 0 w)) (sym new_stream);
         only = subst (λ z. HasFirst d key t (es ++ (e ∷ [])) v g z.queue) (sym new_stream) (first_before v g s.queue only);
       }

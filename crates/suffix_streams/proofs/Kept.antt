@@ -68,13 +68,13 @@ module _ {R : Type 0} (d : ℕ) (key : R → KeyOf d 16) (t : List (NodeView R))
     known = subst (λ (z : StreamView R). All (λ (e : Entry R Source). e.tag.place < row_known nodes' q (get_or (members t q g) e.tag.member 0)) z.queue) (sym same)
         (All-weaker (λ (e : Entry R Source). e.tag.place < row_known nodes q (get_or (members t q g) e.tag.member 0)) (λ (e : Entry R Source). e.tag.place < row_known nodes' q (get_or (members t q g) e.tag.member 0))
         (λ e h. omega (arith, h, rises (get_or (members t q g) e.tag.member 0))) (stream_of nodes q g).queue s.known);
-    found_known = subst (λ (z : List (Entry R Source)). All (λ (e : Entry R Source). e.tag.place < row_known nodes' q (get_or (members t q g) e.tag.member 0)) z) (sym found)
-        (All-weaker (λ (e : Entry R Source). e.tag.place < row_known nodes q (get_or (members t q g) e.tag.member 0)) (λ (e : Entry R Source). e.tag.place < row_known nodes' q (get_or (members t q g) e.tag.member 0))
-        (λ e h. omega (arith, h, rises (get_or (members t q g) e.tag.member 0))) (stream es q g) s.found_known);
+    sources = s.sources;
+    kept = s.kept ∙ sym found;
+    found_known = All-weaker (λ (e : Entry R Source). e.tag.place < row_known nodes q (get_or (members t q g) e.tag.member 0)) (λ (e : Entry R Source). e.tag.place < row_known nodes' q (get_or (members t q g) e.tag.member 0))
+        (λ e h. omega (arith, h, rises (get_or (members t q g) e.tag.member 0))) s.sources s.found_known;
     parts = subst (λ (z : StreamView R). All (λ (e : Entry R Source). HasOwnParts d key t es' nodes' q g e.tag) z.queue) (sym same) (parts_stay q g keeps (stream_of nodes q g).queue s.parts);
-    found_parts = subst (λ (z : List (Entry R Source)). All (λ (e : Entry R Source). HasOwnParts d key t es' nodes' q g e.tag) z) (sym found) (parts_stay q g keeps (stream es q g) s.found_parts);
-    merge = subst (λ (z : StreamView R). IsMerge d key run_of (length (members t q g)) (λ i. part_list d key t q (get_or (members t q g) i 0) (child_count t q)) (group_list d key t q g) (stream es' q g) z.queue) (sym same)
-        (subst (λ (z : List (Entry R Source)). IsMerge d key run_of (length (members t q g)) (λ i. part_list d key t q (get_or (members t q g) i 0) (child_count t q)) (group_list d key t q g) z (stream_of nodes q g).queue) (sym found) s.merge);
+    found_parts = parts_stay q g keeps s.sources s.found_parts;
+    merge = subst (λ (z : StreamView R). IsMerge d key run_of (length (members t q g)) (λ i. part_list d key t q (get_or (members t q g) i 0) (child_count t q)) (group_list d key t q g) s.sources z.queue) (sym same) s.merge;
   }
 
   -- a frontier whose entries stay

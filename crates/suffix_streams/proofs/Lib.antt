@@ -11,6 +11,7 @@ pub mod NodeFacts
 pub mod Rows
 pub mod Firsts
 pub mod Heads
+pub mod Sources
 pub mod Kept
 pub mod Changes
 pub mod Entries

@@ -1,5 +1,5 @@
 -- One step of a group's stream.
-use Rattle.std.proofs.Common.{◌≡◌, ◌≢◌, ℕ, zero, suc, ◌+◌, ◌-◌, ◌*◌, ◌/◌, ◌<◌, ◌≤◌, ◌⊎◌, Option, Some, None, IfSome, IfNone, List, [], ◌∷◌, ◌++◌, length, get_or, slice_set, refl, sym, ap, ◌∙◌, subst, inl, inr, arith}
+use Rattle.std.proofs.Common.{◌≡◌, ◌≢◌, ℕ, zero, suc, ◌+◌, ◌-◌, ◌*◌, ◌/◌, ◌<◌, ◌≤◌, ◌⊎◌, Option, Some, None, IfSome, IfNone, List, [], ◌∷◌, ◌++◌, map, length, get_or, slice_set, refl, sym, ap, ◌∙◌, subst, inl, inr, arith}
 use Rattle.std.specs.List.{All}
 use Rattle.std.specs.List.Sorted.{IsPermutation}
 use Rattle.std.proofs.lemmas.Bool.{cases_eq}
@@ -30,7 +30,7 @@ use Rattle.suffix_streams.specs.NodeStreamsView.{NodeStreamsView, stream_at, wit
 use Rattle.suffix_streams.specs.Rankings.{part_list, group_list}
 use Rattle.suffix_streams.specs.Frontiers.{IsMerge}
 use Rattle.suffix_streams.specs.Firsts.{IsFirstBelow}
-use Rattle.suffix_streams.specs.TreeStreams.{IsKnownPart, IsSumOf, HasOwnParts, node_list, group_list_of, next_list, node_of, group_of, place_of, stream, lists_of, products_of, stream_of, part_known, row_known, run_of, IsStreamOf, IsStreams}
+use Rattle.suffix_streams.specs.TreeStreams.{kept_of, IsKnownPart, IsSumOf, HasOwnParts, node_list, group_list_of, next_list, node_of, group_of, place_of, stream, lists_of, products_of, stream_of, part_known, row_known, run_of, IsStreamOf, IsStreams}
 use Rattle.suffix_streams.specs.Growing.{IsReached}
 use Rattle.suffix_streams.proofs.BeginFirsts.{row_head}
 use Rattle.suffix_streams.proofs.Rankings.{part_ascends, row_is_ranking}
@@ -93,13 +93,13 @@ module _ {R : Type 0} (d : ℕ) (key : R → KeyOf d 16) (t : List (NodeView R))
   ]
 
   pub queue_set : ((i : ℕ) → i < length es' → (node_of es' i < length t) × (group_of es' i < group_count t (node_of es' i))) → IsLinked (node_list es') (group_list_of es') (next_list es')
-      → ((w k : ℕ) → ((w ≢ q) ⊎ (k ≢ g)) → stream es' w k ≡ stream es w k) → length new ≤ length (members t q g)
+      → ((w k : ℕ) → ((w ≢ q) ⊎ (k ≢ g)) → stream es' w k ≡ stream es w k) → (sources : List (Entry R Source)) → map kept_of sources ≡ stream es' q g → length new ≤ length (members t q g)
       → All (λ (e : Entry R Source). e.tag.place < row_known nodes q (get_or (members t q g) e.tag.member 0)) new
-      → All (λ (e : Entry R Source). e.tag.place < row_known nodes q (get_or (members t q g) e.tag.member 0)) (stream es' q g)
-      → All (λ (e : Entry R Source). HasOwnParts d key t es nodes q g e.tag) new → All (λ (e : Entry R Source). HasOwnParts d key t es nodes q g e.tag) (stream es' q g)
-      → IsMerge d key run_of (length (members t q g)) (λ i. part_list d key t q (get_or (members t q g) i 0) (child_count t q)) (group_list d key t q g) (stream es' q g) new
+      → All (λ (e : Entry R Source). e.tag.place < row_known nodes q (get_or (members t q g) e.tag.member 0)) sources
+      → All (λ (e : Entry R Source). HasOwnParts d key t es nodes q g e.tag) new → All (λ (e : Entry R Source). HasOwnParts d key t es nodes q g e.tag) sources
+      → IsMerge d key run_of (length (members t q g)) (λ i. part_list d key t q (get_or (members t q g) i 0) (child_count t q)) (group_list d key t q g) sources new
       → IsStreams d key t es' queued
-  queue_set owners linked same few known found_known parts found_parts merge = record {
+  queue_set owners linked same sources kept few known found_known parts found_parts merge = record {
     tree = h.tree;
     all_nodes = set_length nodes q (with_queue (lists_of nodes q) g new room) ∙ h.all_nodes;
     all_children = λ w a. ap length (queued_children w) ∙ h.all_children w a;
@@ -130,11 +130,13 @@ module _ {R : Type 0} (d : ℕ) (key : R → KeyOf d 16) (t : List (NodeView R))
         known = subst (λ (z : StreamView R). All (λ (e : Entry R Source). e.tag.place < row_known queued q (get_or (members t q g) e.tag.member 0)) z.queue) (sym queued_stream)
             (All-weaker (λ (e : Entry R Source). e.tag.place < row_known nodes q (get_or (members t q g) e.tag.member 0)) (λ (e : Entry R Source). e.tag.place < row_known queued q (get_or (members t q g) e.tag.member 0))
             (λ e k. omega (arith, k, queued_row q (get_or (members t q g) e.tag.member 0))) new known);
+        sources = sources;
+        kept = kept;
         found_known = All-weaker (λ (e : Entry R Source). e.tag.place < row_known nodes q (get_or (members t q g) e.tag.member 0)) (λ (e : Entry R Source). e.tag.place < row_known queued q (get_or (members t q g) e.tag.member 0))
-            (λ e k. omega (arith, k, queued_row q (get_or (members t q g) e.tag.member 0))) (stream es' q g) found_known;
+            (λ e k. omega (arith, k, queued_row q (get_or (members t q g) e.tag.member 0))) sources found_known;
         parts = subst (λ (z : StreamView R). All (λ (e : Entry R Source). HasOwnParts d key t es' queued q g e.tag) z.queue) (sym queued_stream) (parts_stay d key t es es' nodes queued held q g (λ r k p few. part_kept q r k p) new parts);
-        found_parts = parts_stay d key t es es' nodes queued held q g (λ r k p few. part_kept q r k p) (stream es' q g) found_parts;
-        merge = subst (λ (z : StreamView R). IsMerge d key run_of (length (members t q g)) (λ i. part_list d key t q (get_or (members t q g) i 0) (child_count t q)) (group_list d key t q g) (stream es' q g) z.queue) (sym queued_stream) merge;
+        found_parts = parts_stay d key t es es' nodes queued held q g (λ r k p few. part_kept q r k p) sources found_parts;
+        merge = subst (λ (z : StreamView R). IsMerge d key run_of (length (members t q g)) (λ i. part_list d key t q (get_or (members t q g) i 0) (child_count t q)) (group_list d key t q g) sources z.queue) (sym queued_stream) merge;
       }
 
       apart : (w k : ℕ) → w < length t → k < group_count t w → ((w ≢ q) ⊎ (k ≢ g)) → IsStreamOf d key t es' queued w k
@@ -182,7 +184,7 @@ module _ {R : Type 0} (d : ℕ) (key : R → KeyOf d 16) (t : List (NodeView R))
   abbrev Parts : Entry R Source → Type 0
   Parts e = HasOwnParts d key t es nodes q g e.tag
 
-  own : IsStreamOf d key t es nodes q g
+  abbrev own : IsStreamOf d key t es nodes q g
   own = h.streams q g l in_group
 
   top_held : Held top
@@ -287,18 +289,18 @@ module _ {R : Type 0} (d : ℕ) (key : R → KeyOf d 16) (t : List (NodeView R))
 
   pub queue_few : length new ≤ n
   queue_few =
-      merge_few d key n lists (group_list d key t q g) ascending heap_ordered run_of (stream es q g) queue new offer left right top own.merge some is_top least moved all_facts.0 left_facts.0 right_facts.0 top_held.0
+      merge_few d key n lists (group_list d key t q g) ascending heap_ordered run_of own.sources queue new offer left right top own.merge some is_top least moved all_facts.0 left_facts.0 right_facts.0 top_held.0
       all_facts.2 left_facts.2 right_facts.2
 
-  pub group_ends : new ≡ [] → (length (stream es q g) ≡ length (group_list d key t q g)) × IsMerge d key run_of n lists (group_list d key t q g) (stream es q g) []
+  pub group_ends : new ≡ [] → (length own.sources ≡ length (group_list d key t q g)) × IsMerge d key run_of n lists (group_list d key t q g) own.sources []
   group_ends e =
-      merge_ends d key n lists (group_list d key t q g) ascending heap_ordered run_of (stream es q g) queue offer left right top own.merge some is_top least
+      merge_ends d key n lists (group_list d key t q g) ascending heap_ordered run_of own.sources queue offer left right top own.merge some is_top least
       (subst (λ z. IsPermutation (offers right None (offers offer left queue)) (top ∷ z)) e moved) all_facts.0 left_facts.0 right_facts.0 top_held.0 all_facts.2 left_facts.2 right_facts.2
 
   pub group_grows : (after : Entry R Source) → 0 < length new → after ≡ get_or new 0 after → IsLeast d key after new
-      → IsMerge d key run_of n lists (group_list d key t q g) (stream es q g ++ (after ∷ [])) new
+      → IsMerge d key run_of n lists (group_list d key t q g) (own.sources ++ (after ∷ [])) new
   group_grows after more is_after after_least =
-      (merge_grows d key n lists (group_list d key t q g) ascending heap_ordered run_of (stream es q g) queue new offer left right top after own.merge some is_top least
+      (merge_grows d key n lists (group_list d key t q g) ascending heap_ordered run_of own.sources queue new offer left right top after own.merge some is_top least
       moved all_facts.0 left_facts.0 right_facts.0 top_held.0 all_facts.2 left_facts.2 right_facts.2 more is_after after_least).1
 
 -- the offer that was made

@@ -15,12 +15,14 @@ use Rattle.stream_model.specs.QueueEntries.{IsHeld, InRuns}
 use Rattle.stream_model.specs.Links.{IsLinked}
 use Rattle.stream_cells.specs.declared.source.Source.{Source}
 use Rattle.suffix_streams.specs.declared.stream.Found.{Found}
+use Rattle.suffix_streams.specs.declared.stream.Solved.{Solved}
 use Rattle.suffix_streams.specs.NodeStreamsView.{NodeStreamsView, with_queue}
 use Rattle.suffix_streams.specs.Rankings.{part_list, group_list}
 use Rattle.suffix_streams.specs.Frontiers.{IsMerge}
 use Rattle.suffix_streams.specs.Firsts.{IsFirstBelow, AreFirstsMoved}
-use Rattle.suffix_streams.specs.TreeStreams.{IsSumOf, HasOwnParts, node_of, group_of, next_of, node_size, node_list, group_list_of, next_list, stream, lists_of, products_of, stream_of, row_known, run_of, IsStreams}
+use Rattle.suffix_streams.specs.TreeStreams.{kept_of, IsSumOf, HasOwnParts, node_of, group_of, next_of, node_size, node_list, group_list_of, next_list, stream, lists_of, products_of, stream_of, row_known, run_of, IsStreamOf, IsStreams}
 use Rattle.suffix_streams.specs.Growing.{IsReached, IsStoreGrown}
+use Rattle.suffix_streams.proofs.Sources.{kept_more, sources_length}
 use Rattle.suffix_streams.proofs.Kept.{AreHeld, held_itself}
 use Rattle.suffix_streams.proofs.StepCells.{first_of}
 use Rattle.suffix_streams.proofs.State.{all_more}
@@ -66,7 +68,7 @@ roomed {R} d key t es n m v g h l in_group is =
     let k : ℕ = (stream_of m v g).room in
     subst (λ (z : List (NodeStreamsView R)). IsRoomed d key t es n z v g) (sym is)
     (record {
-      formed = queue_set d key t es es n h (held_itself es) v g l in_group q k h.owners h.linked (λ w k z. refl) own.few own.known own.found_known own.parts own.found_parts own.merge;
+      formed = queue_set d key t es es n h (held_itself es) v g l in_group q k h.owners h.linked (λ w k z. refl) own.sources own.kept own.few own.known own.found_known own.parts own.found_parts own.merge;
       above = queued_other d key t es es n h (held_itself es) v g l in_group q k;
       products = queued_products d key t es es n h (held_itself es) v g l in_group q k;
       streams = ap (λ z. z.streams) (queued_at d key t es es n h (held_itself es) v g l in_group q k)
@@ -92,9 +94,9 @@ pub record IsQueuePassed {R : Type 0} (d : ℕ) (key : R → KeyOf d 16) (t : Li
   pub known : All (λ (e : Entry R Source). e.tag.place < row_known n v (get_or (members t v g) e.tag.member 0)) q
   pub parts : All (λ (e : Entry R Source). HasOwnParts d key t es n v g e.tag) q
   pub held : All (IsHeld d key (run_key (key_none d 16) (lists_of_member d key t v g)) (InRuns d (length (members t v g)) (lists_of_member d key t v g)) run_of) q
-  pub ends : q ≡ [] → (length (stream es v g) ≡ length (group_list d key t v g)) × IsMerge d key run_of (length (members t v g)) (lists_of_member d key t v g) (group_list d key t v g) (stream es v g) []
+  pub ends : q ≡ [] → (length (before.streams v g node group).sources ≡ length (group_list d key t v g)) × IsMerge d key run_of (length (members t v g)) (lists_of_member d key t v g) (group_list d key t v g) (before.streams v g node group).sources []
   pub grows : (after : Entry R Source) → 0 < length q → after ≡ get_or q 0 after → IsLeast d key after q
-      → IsMerge d key run_of (length (members t v g)) (lists_of_member d key t v g) (group_list d key t v g) (stream es v g ++ (after ∷ [])) q
+      → IsMerge d key run_of (length (members t v g)) (lists_of_member d key t v g) (group_list d key t v g) ((before.streams v g node group).sources ++ (after ∷ [])) q
 
 pub queue_passed : {R : Type 0} {d : ℕ} {key : R → KeyOf d 16} {t : List (NodeView R)} {es : List (Linked (Found R))} {n : List (NodeStreamsView R)} {last v g r : ℕ} → IsGroupTop d key t es n last v g r → (apart : IsTieFreeTree t) (m p : ℕ) (offer : Option (Entry R Source))
     (q : List (Entry R Source)) → IsStreams d key t es n → AreFirstsMoved d key t es v g m p offer (stream_of n v g).queue q
@@ -139,21 +141,27 @@ module _ {R : Type 0} {d : ℕ} {key : R → KeyOf d 16} {t : List (NodeView R)}
   abbrev Parts : Entry R Source → Type 0
   Parts e = HasOwnParts d key t es n v g e.tag
 
+  abbrev own : IsStreamOf d key t es n v g
+  own = p.before.streams v g p.node p.group
+
   -- if the queue is empty, the stream is the whole ranking
+  pub whole_stream : q ≡ [] → length (stream es v g) ≡ length (group_list d key t v g)
+  whole_stream empty = sym (sources_length d key t es n v g own) ∙ (p.ends empty).0
+
   pub passed_ends : (room : ℕ) → q ≡ [] → IsStreams d key t es (slice_set n v (with_queue (lists_of n v) g q room))
   passed_ends room empty =
-      queue_set d key t es es n p.before (held_itself es) v g p.node p.group q room p.before.owners p.before.linked (λ w k z. refl) p.few p.known (p.before.streams v g p.node p.group).found_known p.parts (p.before.streams v g p.node p.group).found_parts
-      (subst (λ z. IsMerge d key run_of (length (members t v g)) (lists_of_member d key t v g) (group_list d key t v g) (stream es v g) z) (sym empty) (p.ends empty).1)
+      queue_set d key t es es n p.before (held_itself es) v g p.node p.group q room p.before.owners p.before.linked (λ w k z. refl) own.sources own.kept p.few p.known own.found_known p.parts own.found_parts
+      (subst (λ z. IsMerge d key run_of (length (members t v g)) (lists_of_member d key t v g) (group_list d key t v g) own.sources z) (sym empty) (p.ends empty).1)
 
   -- the store b has one more entry, which stands for `after`
   pub passed_grows : (room : ℕ) (b : List (Linked (Found R))) (after : Entry R Source) → AreHeld es b → ((i : ℕ) → i < length b → (node_of b i < length t) × (group_of b i < group_count t (node_of b i)))
-      → IsLinked (node_list b) (group_list_of b) (next_list b) → ((w k : ℕ) → ((w ≢ v) ⊎ (k ≢ g)) → stream b w k ≡ stream es w k) → stream b v g ≡ stream es v g ++ (after ∷ [])
+      → IsLinked (node_list b) (group_list_of b) (next_list b) → ((w k : ℕ) → ((w ≢ v) ⊎ (k ≢ g)) → stream b w k ≡ stream es w k) → stream b v g ≡ stream es v g ++ (kept_of after ∷ [])
       → 0 < length q → after ≡ get_or q 0 after → IsLeast d key after q → IsStreams d key t b (slice_set n v (with_queue (lists_of n v) g q room))
   passed_grows room b after held owners linked others longer some first least =
-      queue_set d key t es b n p.before held v g p.node p.group q room owners linked others p.few p.known
-      (subst (All Known) (sym longer) (all_more Known (stream es v g) after (p.before.streams v g p.node p.group).found_known (subst Known (sym first) (All-get_or Known q 0 after some p.known))))
-      p.parts (subst (All Parts) (sym longer) (all_more Parts (stream es v g) after (p.before.streams v g p.node p.group).found_parts (subst Parts (sym first) (All-get_or Parts q 0 after some p.parts))))
-      (subst (λ z. IsMerge d key run_of (length (members t v g)) (lists_of_member d key t v g) (group_list d key t v g) z q) (sym longer) (p.grows after some first least))
+      queue_set d key t es b n p.before held v g p.node p.group q room owners linked others (own.sources ++ (after ∷ [])) (kept_more own.sources (stream es v g) (stream b v g) after own.kept longer) p.few p.known
+      (all_more Known own.sources after own.found_known (subst Known (sym first) (All-get_or Known q 0 after some p.known)))
+      p.parts (all_more Parts own.sources after own.found_parts (subst Parts (sym first) (All-get_or Parts q 0 after some p.parts)))
+      (p.grows after some first least)
 
 -- # The store with one more entry, to which the last entry of its stream links
 
@@ -167,7 +175,7 @@ pub record IsEntryLinked {R : Type 0} (t : List (NodeView R)) (es es2 : List (Li
   pub longer : stream es2 f.node f.group ≡ stream es f.node f.group ++ (f.solution ∷ [])
 
 -- es1 is the store with the entry, and es2 the store with the link too
-pub entry_linked : {R : Type 0} {d : ℕ} {key : R → KeyOf d 16} {t : List (NodeView R)} {es : List (Linked (Found R))} {n : List (NodeStreamsView R)} {last v g r : ℕ} → IsGroupTop d key t es n last v g r → (solution : Entry R Source) (es1 es2 : List (Linked (Found R)))
+pub entry_linked : {R : Type 0} {d : ℕ} {key : R → KeyOf d 16} {t : List (NodeView R)} {es : List (Linked (Found R))} {n : List (NodeStreamsView R)} {last v g r : ℕ} → IsGroupTop d key t es n last v g r → (solution : Entry R Solved) (es1 es2 : List (Linked (Found R)))
     (id : ℕ) → IsStreams d key t es n → last < length es → node_of es last ≡ v → group_of es last ≡ g → next_of es last ≡ None → id ≡ length es → es1 ≡ es ++ (record { value = record { node = v; group = g; solution = solution }; next = None } ∷ [])
     → ((x : Linked (Found R)) → es2 ≡ slice_set es1 last (record (get_or es1 last x) { next = Some id })) → IsEntryLinked t es es2 last (record { node = v; group = g; solution = solution })
 entry_linked {R} {d} {key} {t} {es} {n} {last} {v} {g} top solution es1 es2 id h within node_is group_is none id_is pushed set =

@@ -23,13 +23,14 @@ use Rattle.stream_cells.specs.declared.source.Source.{Source}
 use Rattle.suffix_streams.specs.ProductView.{ProductView}
 use Rattle.suffix_streams.specs.NodeStreamsView.{NodeStreamsView, product_at, with_product}
 use Rattle.suffix_streams.specs.Rankings.{child, part_list, group_list}
-use Rattle.suffix_streams.specs.TreeStreams.{HasOwnParts, node_list, group_list_of, node_of, group_of, next_of, stream, node_size, lists_of, products_of, product_of, stream_of, row_known, pair_of, run_of, IsStreams}
+use Rattle.suffix_streams.specs.TreeStreams.{HasOwnParts, node_list, group_list_of, node_of, group_of, next_of, node_size, lists_of, products_of, product_of, stream_of, row_known, pair_of, run_of, IsStreams}
 use Rattle.suffix_streams.specs.Growing.{IsStoreGrown, IsGrown, IsExtended, IsReached, IsAnswered, AreQueuesGrown, below_kids}
 use Rattle.suffix_streams.proofs.Rankings.{kid_below, own_only}
 use Rattle.suffix_streams.proofs.Stores.{node_length, group_length, store_stays, store_goes_on, store_from_above}
 use Rattle.suffix_streams.proofs.BeginOwners.{get_past}
 use Rattle.suffix_streams.proofs.Costs.{kids_below_node}
 use Rattle.suffix_streams.proofs.Entries.{stream_owned}
+use Rattle.suffix_streams.proofs.Sources.{sources_length}
 use Rattle.suffix_streams.proofs.Kept.{held_itself, product_stays}
 use Rattle.suffix_streams.proofs.Changes.{lists_same, lists_other, product_new, product_row, product_elsewhere, counts_kept, changed_known, changed_product, product_set}
 
@@ -165,16 +166,16 @@ module _ {R : Type 0} (d : ℕ) (key : R → KeyOf d 16) (t : List (NodeView R))
       let own = h.owners i l in
       let s = h.streams (node_of es i) (group_of es i) own.0 own.1 in
       let link : IsLinkedAt (node_list es) (group_list_of es) i None = subst (λ o. IsLinkedAt (node_list es) (group_list_of es) i o) none (h.linked i (omega (arith, l, node_length es))) in
-      let end : length (stream es (node_of es i) (group_of es i)) ≡ length (group_list d key t (node_of es i) (group_of es i)) =
+      let end : length s.sources ≡ length (group_list d key t (node_of es i) (group_of es i)) =
       all_known d (run_key (key_none d 16) (λ j. part_list d key t (node_of es i) (get_or (members t (node_of es i) (group_of es i)) j 0) (child_count t (node_of es i))))
       (reaches (length (members t (node_of es i) (group_of es i))) (λ r. length (part_list d key t (node_of es i) (get_or (members t (node_of es i) (group_of es i)) r 0) (child_count t (node_of es i)))))
       (InRuns d (length (members t (node_of es i) (group_of es i))) (λ j. part_list d key t (node_of es i) (get_or (members t (node_of es i) (group_of es i)) j 0) (child_count t (node_of es i))))
-      (group_list d key t (node_of es i) (group_of es i)) (length (stream es (node_of es i) (group_of es i)))
+      (group_list d key t (node_of es i) (group_of es i)) (length s.sources)
       (subst (λ (z : List (Entry R Source)). IsAhead Pair (KeyOf d 16) (key_below d 16) (run_key (key_none d 16) (λ j. part_list d key t (node_of es i) (get_or (members t (node_of es i) (group_of es i)) j 0) (child_count t (node_of es i))))
       (reaches (length (members t (node_of es i) (group_of es i))) (λ r. length (part_list d key t (node_of es i) (get_or (members t (node_of es i) (group_of es i)) r 0) (child_count t (node_of es i)))))
       (InRuns d (length (members t (node_of es i) (group_of es i))) (λ j. part_list d key t (node_of es i) (get_or (members t (node_of es i) (group_of es i)) j 0) (child_count t (node_of es i))))
-      (group_list d key t (node_of es i) (group_of es i)) (length (stream es (node_of es i) (group_of es i))) (places run_of z)) empty s.merge.ahead) in
-      sym end ∙ stream_owned es (node_of es i) (group_of es i) ∙ sym link
+      (group_list d key t (node_of es i) (group_of es i)) (length s.sources) (places run_of z)) empty s.merge.ahead) in
+      sym end ∙ sources_length d key t es nodes (node_of es i) (group_of es i) s ∙ stream_owned es (node_of es i) (group_of es i) ∙ sym link
 
   -- the product whose frontier is empty has all sums
   pub sums_done : (v r c : ℕ) → v < length t → r < rows t v → c < length (products_of nodes v r) → (product_of nodes v r c).frontier ≡ [] → length (product_of nodes v r c).found ≡ length (part_list d key t v r (suc c))

@@ -1,5 +1,5 @@
 -- The effect of a call on the streams, as callers see it.
-use Rattle.std.proofs.Common.{◌≡◌, ℕ, zero, suc, ◌+◌, ◌-◌, ◌*◌, ◌^◌, ◌<◌, ◌≤◌, max, Option, Some, None, Bool, true, false, cond, nat_eq, List, [], length, get_or, ap, inl, inr, arith}
+use Rattle.std.proofs.Common.{◌≡◌, ℕ, zero, suc, ◌+◌, ◌-◌, ◌*◌, ◌^◌, ◌<◌, ◌≤◌, max, Option, Some, None, Bool, true, false, cond, nat_eq, List, [], length, get_or, sym, ap, subst, inl, inr, arith}
 use Rattle.std.proofs.lemmas.Bool.{cases_lt}
 use Rattle.stream_store.specs.declared.entry.Linked.{Linked}
 use Rattle.rank_key.specs.Bits.{bit_length}
@@ -13,13 +13,20 @@ use Rattle.tdp_model.specs.KeyTuple.{KeyOf}
 use Rattle.tdp_model.specs.TreeProblem.{sum_from}
 use Rattle.suffix_streams.specs.declared.stream.Found.{Found}
 use Rattle.suffix_streams.specs.ProductView.{ProductView}
-use Rattle.suffix_streams.specs.NodeStreamsView.{NodeStreamsView}
+use Rattle.suffix_streams.specs.NodeStreamsView.{NodeStreamsView, stream_at}
 use Rattle.suffix_streams.specs.TreeStreams.{node_of, lists_of, products_of, product_of, IsStreams}
 use Rattle.suffix_streams.specs.Growing.{IsStoreGrown, AreQueuesGrown, IsAnswered, IsWithinSteps, subtree_size}
-use Rattle.suffix_streams.specs.StreamsView.{StreamsView, AreKept, Follows}
+use Rattle.suffix_streams.specs.StreamsView.{StreamsView, entry_node, entry_group, entry_place, IsEntry, AreKept, Follows}
 use Rattle.suffix_streams.proofs.BeginOwners.{get_past}
 use Rattle.suffix_streams.proofs.Stores.{open_few}
-use Rattle.suffix_streams.proofs.ViewPrefixes.{entry_inside, next_linked}
+use Rattle.suffix_streams.proofs.ViewPrefixes.{entry_inside, next_linked, head_at}
+
+-- what callers see of the head of a stream
+pub head_seen : {R : Type 0} (d : ℕ) (key : R → KeyOf d 16) (s v : StreamsView R) → s ≡ v → IsStreams d key s.tree s.entries s.nodes → (q g e : ℕ) (n : NodeStreamsView R) → q < length v.tree → g < group_count v.tree q
+    → n ≡ get_or s.nodes q n → e ≡ (stream_at n g).head → (e < length v.entries) × (entry_node v e ≡ q) × (entry_group v e ≡ g) × (entry_place v e ≡ 0) × IsEntry d key v e
+head_seen {R} d key s v same h q g e n l lg at is =
+    subst (λ (z : StreamsView R). (e < length z.entries) × (entry_node z e ≡ q) × (entry_group z e ≡ g) × (entry_place z e ≡ 0) × IsEntry d key z e) same
+    (head_at d key s.tree s.entries s.nodes h q g e n (subst (λ (z : StreamsView R). q < length z.tree) (sym same) l) (subst (λ (z : StreamsView R). g < group_count z.tree q) (sym same) lg) at is)
 
 -- a node is below another one at most once
 pub below_few : (up : ℕ → ℕ) (q v : ℕ) → is_below up q v ≤ 1

@@ -6,18 +6,20 @@ use Rattle.rankings.proofs.Unique.{ranking_unique}
 use Rattle.stream_store.specs.declared.entry.Linked.{Linked}
 use Rattle.tdp_model.specs.KeyTuple.{KeyOf, key_below, key_none}
 use Rattle.tdp_model.proofs.KeyTuples.{tuple_keys}
-use Rattle.stream_cells.specs.declared.source.Source.{Source}
 use Rattle.take2_heap.specs.declared.entry.Entry.{Entry}
 use Rattle.tdp_core.specs.TreeView.{NodeView, group_count}
 use Rattle.stream_model.specs.Links.{IsLinkedAt}
 use Rattle.suffix_streams.specs.declared.stream.Found.{Found}
-use Rattle.suffix_streams.specs.NodeStreamsView.{NodeStreamsView}
+use Rattle.suffix_streams.specs.declared.stream.Solved.{Solved}
+use Rattle.suffix_streams.specs.NodeStreamsView.{NodeStreamsView, stream_at}
 use Rattle.suffix_streams.specs.Rankings.{GroupSolution, group_list}
 use Rattle.suffix_streams.specs.Frontiers.{AreFirst}
-use Rattle.suffix_streams.specs.TreeStreams.{node_list, group_list_of, node_of, group_of, place_of, next_of, stream, IsStreams}
+use Rattle.suffix_streams.specs.TreeStreams.{node_list, group_list_of, node_of, group_of, place_of, next_of, stream, stream_of, IsStreams}
 use Rattle.suffix_streams.proofs.BeginOwners.{owned_within}
+use Rattle.suffix_streams.proofs.Heads.{lists_at}
 use Rattle.suffix_streams.proofs.Rankings.{group_is_ranking}
 use Rattle.suffix_streams.proofs.ViewEntries.{stream_length, entry_at}
+use Rattle.suffix_streams.proofs.Sources.{stream_prefix}
 
 module _ {R : Type 0} (d : ℕ) (key : R → KeyOf d 16) where
   get_taken : {K : Type 0} (n i : ℕ) (ks : List K) (k : K) → i < n → get_or (take n ks) i k ≡ get_or ks i k
@@ -27,7 +29,7 @@ module _ {R : Type 0} (d : ℕ) (key : R → KeyOf d 16) where
   get_taken (suc n) (suc i) (x ∷ ks) k l = get_taken n i ks k (omega arith)
 
   -- a member of a prefix
-  pub prefix_at : (xs : List (Entry R Source)) (ks : List (KeyOf d 16)) (i : ℕ) (a : Entry R Source) → AreFirst d key xs ks → i < length xs
+  pub prefix_at : (xs : List (Entry R Solved)) (ks : List (KeyOf d 16)) (i : ℕ) (a : Entry R Solved) → AreFirst d key xs ks → i < length xs
       → (i < length ks) × (key (get_or xs i a).rank ≡ get_or ks i (key_none d 16))
   prefix_at xs ks i a p l = (
     omega (arith, l, p.1),
@@ -39,7 +41,7 @@ module _ {R : Type 0} (d : ℕ) (key : R → KeyOf d 16) where
     pub all_prefixes : (q g : ℕ) (ks : List (KeyOf d 16)) → q < length t → g < group_count t q → IsRanking (KeyOf d 16) (key_below d 16) (GroupSolution d key t q g) ks → AreFirst d key (stream es q g) ks
     all_prefixes q g ks l lg r =
         subst (λ z. AreFirst d key (stream es q g) z) (ranking_unique (key_below d 16) (tuple_keys d 16).order (GroupSolution d key t q g) (group_list d key t q g) ks (group_is_ranking d key t q g l) r)
-        (s.streams q g l lg).merge.prefix
+        (stream_prefix d key t es nodes q g (s.streams q g l lg))
 
     -- an entry is in its stream
     pub place_in_stream : (i : ℕ) → i < length es → place_of es i < length (stream es (node_of es i) (group_of es i))
@@ -58,7 +60,7 @@ module _ {R : Type 0} (d : ℕ) (key : R → KeyOf d 16) where
         let o = s.owners i l in
         let x : Linked (Found R) = record { value = f; next = None } in
         let same : get_or (stream es (node_of es i) (group_of es i)) (place_of es i) f.solution ≡ f.solution = entry_at es i x f.solution l ∙ ap (λ v. v.solution) (value x) in
-        let p = prefix_at (stream es (node_of es i) (group_of es i)) (group_list d key t (node_of es i) (group_of es i)) (place_of es i) f.solution (s.streams (node_of es i) (group_of es i) o.0 o.1).merge.prefix (place_in_stream i l) in
+        let p = prefix_at (stream es (node_of es i) (group_of es i)) (group_list d key t (node_of es i) (group_of es i)) (place_of es i) f.solution (stream_prefix d key t es nodes (node_of es i) (group_of es i) (s.streams (node_of es i) (group_of es i) o.0 o.1)) (place_in_stream i l) in
         (p.0, subst (λ a. key a.rank ≡ get_or (group_list d key t (node_of es i) (group_of es i)) (place_of es i) (key_none d 16)) same p.1)
 
     -- what is linked after an entry
@@ -71,5 +73,14 @@ module _ {R : Type 0} (d : ℕ) (key : R → KeyOf d 16) where
     pub entry_inside : (i : ℕ) → i < length es → place_of es i < length (group_list d key t (node_of es i) (group_of es i))
     entry_inside i l =
         let o = s.owners i l in
-        let p : length (stream es (node_of es i) (group_of es i)) ≤ length (group_list d key t (node_of es i) (group_of es i)) = (s.streams (node_of es i) (group_of es i) o.0 o.1).merge.prefix.1 in
+        let p : length (stream es (node_of es i) (group_of es i)) ≤ length (group_list d key t (node_of es i) (group_of es i)) = (stream_prefix d key t es nodes (node_of es i) (group_of es i) (s.streams (node_of es i) (group_of es i) o.0 o.1)).1 in
         omega (arith, place_in_stream i l, p)
+
+    -- the head of a stream
+    pub head_at : (q g e : ℕ) (n : NodeStreamsView R) → q < length t → g < group_count t q → n ≡ get_or nodes q n → e ≡ (stream_at n g).head
+        → (e < length es) × (node_of es e ≡ q) × (group_of es e ≡ g) × (place_of es e ≡ 0) × (place_of es e < length (group_list d key t (node_of es e) (group_of es e)))
+    head_at q g e n l lg at is =
+        let x = s.streams q g l lg in
+        let same : e ≡ (stream_of nodes q g).head = is ∙ ap (λ (z : NodeStreamsView R). (stream_at z g).head) (sym (lists_at nodes q n at (omega (arith, l, s.all_nodes)))) in
+        subst (λ z. (z < length es) × (node_of es z ≡ q) × (group_of es z ≡ g) × (place_of es z ≡ 0) × (place_of es z < length (group_list d key t (node_of es z) (group_of es z)))) (sym same)
+        (x.head_in, x.head_node, x.head_group, x.head_place, entry_inside (stream_of nodes q g).head x.head_in)

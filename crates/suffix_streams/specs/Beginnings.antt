@@ -10,7 +10,7 @@ use Rattle.stream_cells.specs.declared.source.Source.{Source}
 use Rattle.suffix_streams.specs.NodeStreamsView.{NodeStreamsView}
 use Rattle.suffix_streams.specs.Firsts.{IsFirstOf}
 use Rattle.suffix_streams.specs.Rankings.{child, group_list}
-use Rattle.suffix_streams.specs.TreeStreams.{open_rows, node_list, group_list_of, node_of, group_of, next_of, lists_of, stream_of, products_of, HasKey}
+use Rattle.suffix_streams.specs.TreeStreams.{open_rows, kept_of, node_list, group_list_of, node_of, group_of, next_of, lists_of, stream_of, products_of, HasKey}
 
 -- the queue has the first solution of the first member of group g of node q, which stands for all
 abbrev pub HasFirst : {R : Type 0} (d : ℕ) → (R → KeyOf d 16) → List (NodeView R)
@@ -42,7 +42,7 @@ module _ {R : Type 0} (d : ℕ) (key : R → KeyOf d 16) (t : List (NodeView R))
         (slice_index_or (group_list d key t q g) 0 (key_none d 16))
     pub top : (x : Linked (Found R)) (e : Entry R Source)
         → (slice_index_or es (stream_of nodes q g).head x).value.solution
-        ≡ slice_index_or (stream_of nodes q g).queue 0 e
+        ≡ kept_of (slice_index_or (stream_of nodes q g).queue 0 e)
     pub only : HasFirst d key t es q g (stream_of nodes q g).queue
 
   -- the streams that are there have only their heads, and no row has products

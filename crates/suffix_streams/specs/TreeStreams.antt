@@ -12,6 +12,7 @@ use Rattle.stream_model.specs.Links.{place_in, IsLinked}
 use Rattle.stream_cells.specs.declared.cell.Cell.{Cell}
 use Rattle.stream_cells.specs.declared.source.Source.{Source}
 use Rattle.suffix_streams.specs.declared.stream.Found.{Found}
+use Rattle.suffix_streams.specs.declared.stream.Solved.{Solved}
 use Rattle.suffix_streams.specs.ProductView.{ProductView}
 use Rattle.suffix_streams.specs.StreamView.{StreamView}
 use Rattle.suffix_streams.specs.NodeStreamsView.{NodeStreamsView, product_at, stream_at, known_of}
@@ -46,7 +47,7 @@ module _ {R : Type 0} (es : List (Linked (Found R))) where
   next_of i = slice_index_or next_list i None
 
 -- the stream of group g of node q: its solutions, in the order in which they were found
-unfoldable pub stream : {R : Type 0} → List (Linked (Found R)) → ℕ → ℕ → List (Entry R Source)
+unfoldable pub stream : {R : Type 0} → List (Linked (Found R)) → ℕ → ℕ → List (Entry R Solved)
 stream [] q g = []
 stream (e ∷ es) q g = cond (nat_eq e.value.node q)
     (cond (nat_eq e.value.group g) (e.value.solution ∷ stream es q g) (stream es q g))
@@ -56,6 +57,13 @@ stream (e ∷ es) q g = cond (nat_eq e.value.node q)
 unfoldable pub node_size : {R : Type 0} → List (Linked (Found R)) → ℕ → ℕ
 node_size [] q = 0
 node_size (e ∷ es) q = cond (nat_eq e.value.node q) 1 0 + node_size es q
+
+-- what an entry keeps of a solution and its source: all but the member and the place
+abbrev pub kept_of : {R : Type 0} → Entry R Source → Entry R Solved
+kept_of e = record {
+  rank = e.rank;
+  tag = record { row = e.tag.row; number = e.tag.number; cell = e.tag.cell };
+}
 
 -- # The data of each node
 
@@ -148,7 +156,8 @@ HasOwnParts d key t es nodes q g s = (s.row ≡ slice_index (members t q g) s.me
 
 module _ {R : Type 0} (d : ℕ) (key : R → KeyOf d 16) (t : List (NodeView R))
     (es : List (Linked (Found R))) (nodes : List (NodeStreamsView R)) where
-  -- the stream of group g of node q is a prefix of the group's ranking, and its queue has the rest
+  -- The stream of group g of node q is a prefix of the group's ranking, and its queue has the rest.
+  -- Its entries keep of the sources of its solutions what the rows are read from.
   pub record IsStreamOf (q g : ℕ) : Type 0 where
     pub head_in : (stream_of nodes q g).head < length es
     pub head_node : node_of es (stream_of nodes q g).head ≡ q
@@ -157,13 +166,15 @@ module _ {R : Type 0} (d : ℕ) (key : R → KeyOf d 16) (t : List (NodeView R))
     pub few : length (stream_of nodes q g).queue ≤ length (members t q g)
     pub known : All (λ e. e.tag.place
         < row_known nodes q (slice_index (members t q g) e.tag.member)) (stream_of nodes q g).queue
+    pub sources : List (Entry R Source)
+    pub kept : map kept_of sources ≡ stream es q g
     pub found_known : All (λ e. e.tag.place
-        < row_known nodes q (slice_index (members t q g) e.tag.member)) (stream es q g)
+        < row_known nodes q (slice_index (members t q g) e.tag.member)) sources
     pub parts : All (λ e. HasOwnParts d key t es nodes q g e.tag) (stream_of nodes q g).queue
-    pub found_parts : All (λ e. HasOwnParts d key t es nodes q g e.tag) (stream es q g)
+    pub found_parts : All (λ e. HasOwnParts d key t es nodes q g e.tag) sources
     pub merge : IsMerge d key run_of (length (members t q g))
         (λ i. part_list d key t q (slice_index (members t q g) i) (child_count t q))
-        (group_list d key t q g) (stream es q g) (stream_of nodes q g).queue
+        (group_list d key t q g) sources (stream_of nodes q g).queue
 
   -- product number c of row r of node v: the sums of the row's solutions with its first c children
   -- and of the next child's solutions

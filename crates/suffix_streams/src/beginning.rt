@@ -7,13 +7,13 @@ ghost use Rattle.tdp_core.specs.WellFormed.{IsFormed};
 ghost use Rattle.tdp_model.specs.KeyTuple.{key_none};
 ghost use Rattle.suffix_streams.specs.Rankings.{group_list};
 ghost use Rattle.suffix_streams.specs.StreamView.{IsNextHead};
-ghost use Rattle.suffix_streams.specs.TreeStreams.{open_rows, lists_of, IsHeaded};
+ghost use Rattle.suffix_streams.specs.TreeStreams.{open_rows, kept_of, lists_of, IsHeaded};
 ghost use Rattle.suffix_streams.specs.Beginnings.{AreChildren, IsEmptyNode, HasFirst, IsBegunFrom};
 
 use crate::members::first_solution;
 use crate::node::NodeStreams;
 use crate::opened::RowProducts;
-use crate::stream::{Found, Stream};
+use crate::stream::{Found, Stream, kept_solution};
 use rank_key::Rank;
 use std::alloc::Allocator;
 use std::sync::ledger::Ledger;
@@ -121,7 +121,7 @@ fn first_stream<R: Rank, A: Allocator + Clone, L: Ledger>(
         × (e.value.node ≡ node) × (e.value.group ≡ group) × (e.next ≡ None)
         × (R.key e.value.solution.rank
         ≡ slice_index_or (group_list R.KEYS R.key tree.now node group) 0 (key_none R.KEYS 16))
-        × ((d : Entry R Source) → e.value.solution ≡ slice_index_or s.entries 0 d)) }
+        × ((d : Entry R Source) → e.value.solution ≡ kept_of (slice_index_or s.entries 0 d))) }
     ensures cost { steps.new ≤ steps.old + 5 }
 {
     let solution = first_solution(tree, nodes, entries, node, group, 0, steps);
@@ -130,7 +130,7 @@ fn first_stream<R: Rank, A: Allocator + Clone, L: Ledger>(
         Found {
             node,
             group,
-            solution,
+            solution: kept_solution(solution),
         },
         steps,
     );

@@ -18,7 +18,7 @@ use crate::members::pass_last;
 use crate::node::NodeStreams;
 use crate::product::Product;
 use crate::reads::{make_products, offer_below, offered, row_offer};
-use crate::stream::Found;
+use crate::stream::{Found, kept_solution};
 use rank_key::Rank;
 use std::alloc::Allocator;
 use std::sync::ledger::Ledger;
@@ -402,7 +402,7 @@ impl<'t, R: Rank, A: Allocator + Clone> Solutions<'t, R, A> {
             Found {
                 node,
                 group,
-                solution: top,
+                solution: kept_solution(top),
             },
             steps,
         );

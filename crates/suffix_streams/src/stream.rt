@@ -7,21 +7,49 @@ ghost use Rattle.take2_heap.specs.declared.entry.Entry.{Entry};
 ghost use Rattle.stream_model.specs.Offers.{offers};
 ghost use Rattle.stream_cells.specs.declared.source.Source.{Source};
 ghost use Rattle.suffix_streams.specs.Firsts.{can_enter};
+ghost use Rattle.suffix_streams.specs.TreeStreams.{kept_of};
 
 use rank_key::Rank;
 use std::alloc::Allocator;
 use std::marker::Model;
 use std::sync::ledger::Ledger;
 use step_counter::{NoMemory, Steps};
-use stream_cells::Source;
+use stream_cells::{Cell, Source};
 use stream_model::Queue;
 use take2_heap::Entry;
 
-/// A subtree solution of a group, as the store has it: its rank, and the source that its rows are
-/// read from. The source is beside the node, since the two are read together.
+/// What an entry of the store keeps of the source of its solution: what the solution's rows are read
+/// from. Its member and place in the group are left out, which only a queue needs.
+#[derive(Clone, Copy)]
+pub(crate) struct Solved {
+    /// The row of the group's node, from 0.
+    pub(crate) row: u32,
+    /// The row's number in its table, from 1.
+    pub(crate) number: u32,
+    /// The parts of the solution. It says nothing of a row without children.
+    pub(crate) cell: Cell,
+}
+
+/// What an entry of the store keeps of a solution of a queue.
+pub(crate) fn kept_solution<R: Rank>(solution: Entry<R, Source>) -> Entry<R, Solved>
+    ensures { result ≡ kept_of solution }
+{
+    let source = solution.tag;
+    Entry {
+        rank: solution.rank,
+        tag: Solved {
+            row: source.row,
+            number: source.number,
+            cell: source.cell,
+        },
+    }
+}
+
+/// A subtree solution of a group, as the store has it: its rank, and what its rows are read from.
+/// That is beside the node, since the two are read together.
 #[derive(Clone, Copy)]
 pub(crate) struct Found<R> {
-    pub(crate) solution: Entry<R, Source>,
+    pub(crate) solution: Entry<R, Solved>,
     pub(crate) node: u32,
     pub(crate) group: u32,
 }

@@ -47,18 +47,18 @@ impl<'t, R: Rank, A: Allocator + Clone> Solutions<'t, R, A> {
             * subtree_size self.now.tree.now (node_of self.now.entries.entries entry) }
     {
         let found = self.entries.get(entry, steps);
-        let source = found.solution.tag;
-        let row = source.row;
+        let solved = found.solution.tag;
+        let row = solved.row;
         let count = self.nodes[found.node as usize].child_count();
         if count == 0 {
-            add_own_row(self.tree, found.node, row, source.number, numbers);
+            add_own_row(self.tree, found.node, row, solved.number, numbers);
         } else {
             self.add_sum_rows(
                 found.node,
                 row,
-                source.number,
+                solved.number,
                 count - 1,
-                &source.cell,
+                &solved.cell,
                 numbers,
                 steps,
             );

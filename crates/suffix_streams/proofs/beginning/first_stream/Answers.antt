@@ -1,6 +1,10 @@
-use Rattle.std.proofs.Common.{◌≡◌, None, [], ◌∷◌, ◌++◌, get_or, refl, sym, ap, ◌∙◌, arith}
+use Rattle.std.proofs.Common.{◌≡◌, None, List, [], ◌∷◌, ◌++◌, get_or, refl, sym, ap, ◌∙◌, arith}
 use Rattle.stream_store.specs.declared.entry.Linked.{Linked}
+use Rattle.take2_heap.specs.declared.entry.Entry.{Entry}
+use Rattle.stream_cells.specs.declared.source.Source.{Source}
 use Rattle.suffix_streams.specs.declared.stream.Found.{Found}
+use Rattle.suffix_streams.specs.declared.stream.Solved.{Solved}
+use Rattle.suffix_streams.specs.TreeStreams.{kept_of}
 use Rattle.suffix_streams.proofs.BeginNodes.{first_best, first_member}
 use Rattle.suffix_streams.proofs.beginning.first_stream.Given.{Over}
 use Rattle.suffix_streams.proofs.beginning.first_stream.Goals.{After-of}
@@ -14,16 +18,17 @@ returns-clause-entry g c =
     let d = g.R.Rank.KEYS in
     let key = g.R.Rank.key in
     let t = c.args.tree.now in
-    let e : Linked (Found g.row.R.Denot) = record { value = record { node = c.args.node; group = c.args.group; solution = c.first_solution-solution.result }; next = None } in (
+    let e : Linked (Found g.row.R.Denot) = record { value = record { node = c.args.node; group = c.args.group; solution = c.kept_solution.result }; next = None } in (
       e,
       c.push_reserved.ensures.entries ∙ ap (λ es. es ++ (e ∷ [])) c.reserve.ensures.entries,
       refl,
       refl,
       refl,
-      c.first_solution-solution.ensures.first.1
+      ap (λ (z : Entry g.row.R.Denot Solved). key z.rank) c.kept_solution.ensures
+          ∙ c.first_solution-solution.ensures.first.1
           ∙ first_best d key t c.requires.formed c.args.node c.args.group c.requires.node c.requires.group
           ∙ first_member d key t c.requires.formed c.args.node c.args.group c.requires.node c.requires.group,
-      λ x. ap (λ z. get_or z 0 x) (sym (queue_of g c)),
+      λ x. c.kept_solution.ensures ∙ ap (λ (z : List (Entry g.row.R.Denot Source)). kept_of (get_or z 0 x)) (sym (queue_of g c)),
     )
 
 pub returns-clause-only : goal.returns-clause-only

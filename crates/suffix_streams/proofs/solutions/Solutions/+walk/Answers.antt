@@ -12,7 +12,7 @@ use Rattle.suffix_streams.proofs.Heads.{lists_at}
 use Rattle.suffix_streams.proofs.Firsts.{own_at}
 use Rattle.suffix_streams.specs.RowNumbers.{AreAddable, AreAdded}
 use Rattle.suffix_streams.proofs.Rows.{left_addable, right_addable, both_added}
-use Rattle.suffix_streams.proofs.PartRows.{IsSourceAt, known_own, source_at}
+use Rattle.suffix_streams.proofs.PartRows.{IsSolvedAt, known_own, solved_at}
 use Rattle.suffix_streams.proofs.solutions.Solutions.+walk.Given.{Over}
 use Rattle.suffix_streams.proofs.solutions.Solutions.+walk.Goals.{add_entry_rows-After-child_count-count, add_entry_rows-After-get-found, add_part_rows-After-part_cell-cell, add_sum_rows-After-add_part_rows}
 use Rattle.suffix_streams.proofs.solutions.Solutions.+walk.Goals as goal
@@ -20,36 +20,33 @@ use Rattle.suffix_streams.proofs.solutions.Solutions.+walk.Goals as goal
 -- # What the proofs share about an entry
 
 module _ (g : Over) (t : ℕ) where
-  source_of : (c : add_entry_rows-After-get-found g t) → IsSourceAt g.R.Rank.KEYS g.R.Rank.key c.args.self.now.tree.now c.args.self.now.entries.entries c.args.self.now.nodes.items c.args.entry c.get-found.result.now.node c.get-found.result.now.group c.get-found.result.now.solution.tag
-  source_of c = source_at g.R.Rank.KEYS g.R.Rank.key c.args.self.now.tree.now c.args.self.now.entries.entries c.args.self.now.nodes.items c.requires.formed c.args.entry c.get-found.result.now c.requires.entry c.get-found.ensures.value
+  solved_of : (c : add_entry_rows-After-get-found g t) → IsSolvedAt g.R.Rank.KEYS g.R.Rank.key c.args.self.now.tree.now c.args.self.now.entries.entries c.args.self.now.nodes.items c.args.entry c.get-found.result.now.node c.get-found.result.now.solution.tag
+  solved_of c = solved_at g.R.Rank.KEYS g.R.Rank.key c.args.self.now.tree.now c.args.self.now.entries.entries c.args.self.now.nodes.items c.requires.formed c.args.entry c.get-found.result.now c.requires.entry c.get-found.ensures.value
 
-  kids_of : (c : add_entry_rows-After-child_count-count g t) → IsSourceAt g.R.Rank.KEYS g.R.Rank.key c.args.self.now.tree.now c.args.self.now.entries.entries c.args.self.now.nodes.items c.args.entry c.get-found.result.now.node c.get-found.result.now.group c.get-found.result.now.solution.tag → c.child_count-count.result ≡ child_count c.args.self.now.tree.now c.get-found.result.now.node
+  kids_of : (c : add_entry_rows-After-child_count-count g t) → (s : IsSolvedAt g.R.Rank.KEYS g.R.Rank.key c.args.self.now.tree.now c.args.self.now.entries.entries c.args.self.now.nodes.items c.args.entry c.get-found.result.now.node c.get-found.result.now.solution.tag) → c.child_count-count.result ≡ child_count c.args.self.now.tree.now c.get-found.result.now.node
   kids_of c s =
       let inside : c.get-found.result.now.node < length c.args.self.now.nodes.items = omega (arith, s.node, c.requires.formed.all_nodes) in
       c.child_count-count.ensures ∙ ap (λ m. length m.children) (sym (lists_at c.args.self.now.nodes.items c.get-found.result.now.node c.index.result.now c.index.ensures inside)) ∙ c.requires.formed.all_children c.get-found.result.now.node s.node
 
-  row_of : (c : add_entry_rows-After-child_count-count g t) → IsSourceAt g.R.Rank.KEYS g.R.Rank.key c.args.self.now.tree.now c.args.self.now.entries.entries c.args.self.now.nodes.items c.args.entry c.get-found.result.now.node c.get-found.result.now.group c.get-found.result.now.solution.tag → c.get-found.result.now.solution.tag.row < rows c.args.self.now.tree.now c.get-found.result.now.node
-  row_of c s = subst (λ z. z < rows c.args.self.now.tree.now c.get-found.result.now.node) (sym s.parts.0) s.row
+  row_of : (c : add_entry_rows-After-child_count-count g t) → (s : IsSolvedAt g.R.Rank.KEYS g.R.Rank.key c.args.self.now.tree.now c.args.self.now.entries.entries c.args.self.now.nodes.items c.args.entry c.get-found.result.now.node c.get-found.result.now.solution.tag) → c.get-found.result.now.solution.tag.row < rows c.args.self.now.tree.now c.get-found.result.now.node
+  row_of c s = s.row
 
-  number_of : (c : add_entry_rows-After-child_count-count g t) → IsSourceAt g.R.Rank.KEYS g.R.Rank.key c.args.self.now.tree.now c.args.self.now.entries.entries c.args.self.now.nodes.items c.args.entry c.get-found.result.now.node c.get-found.result.now.group c.get-found.result.now.solution.tag → c.get-found.result.now.solution.tag.number ≡ number c.args.self.now.tree.now c.get-found.result.now.node c.get-found.result.now.solution.tag.row
-  number_of c s = s.parts.1 ∙ ap (number c.args.self.now.tree.now c.get-found.result.now.node) (sym s.parts.0)
+  number_of : (c : add_entry_rows-After-child_count-count g t) → (s : IsSolvedAt g.R.Rank.KEYS g.R.Rank.key c.args.self.now.tree.now c.args.self.now.entries.entries c.args.self.now.nodes.items c.args.entry c.get-found.result.now.node c.get-found.result.now.solution.tag) → c.get-found.result.now.solution.tag.number ≡ number c.args.self.now.tree.now c.get-found.result.now.node c.get-found.result.now.solution.tag.row
+  number_of c s = s.number_is
 
   -- the key of the entry's solution, by its row
-  key_of : (c : add_entry_rows-After-child_count-count g t) → IsSourceAt g.R.Rank.KEYS g.R.Rank.key c.args.self.now.tree.now c.args.self.now.entries.entries c.args.self.now.nodes.items c.args.entry c.get-found.result.now.node c.get-found.result.now.group c.get-found.result.now.solution.tag
-      → get_or (part_list g.R.Rank.KEYS g.R.Rank.key c.args.self.now.tree.now c.get-found.result.now.node c.get-found.result.now.solution.tag.row (child_count c.args.self.now.tree.now c.get-found.result.now.node)) c.get-found.result.now.solution.tag.place (key_none g.R.Rank.KEYS 16)
+  key_of : (c : add_entry_rows-After-child_count-count g t) → (s : IsSolvedAt g.R.Rank.KEYS g.R.Rank.key c.args.self.now.tree.now c.args.self.now.entries.entries c.args.self.now.nodes.items c.args.entry c.get-found.result.now.node c.get-found.result.now.solution.tag)
+      → get_or (part_list g.R.Rank.KEYS g.R.Rank.key c.args.self.now.tree.now c.get-found.result.now.node c.get-found.result.now.solution.tag.row (child_count c.args.self.now.tree.now c.get-found.result.now.node)) s.place (key_none g.R.Rank.KEYS 16)
       ≡ get_or (group_list g.R.Rank.KEYS g.R.Rank.key c.args.self.now.tree.now (node_of c.args.self.now.entries.entries c.args.entry) (group_of c.args.self.now.entries.entries c.args.entry)) (place_of c.args.self.now.entries.entries c.args.entry) (key_none g.R.Rank.KEYS 16)
-  key_of c s =
-      ap (λ r. get_or (part_list g.R.Rank.KEYS g.R.Rank.key c.args.self.now.tree.now c.get-found.result.now.node r (child_count c.args.self.now.tree.now c.get-found.result.now.node)) c.get-found.result.now.solution.tag.place (key_none g.R.Rank.KEYS 16)) s.parts.0
-      ∙ s.same
+  key_of c s = s.same
 
   -- the parts of the entry's solution
-  own_parts : (c : add_entry_rows-After-child_count-count g t) → IsSourceAt g.R.Rank.KEYS g.R.Rank.key c.args.self.now.tree.now c.args.self.now.entries.entries c.args.self.now.nodes.items c.args.entry c.get-found.result.now.node c.get-found.result.now.group c.get-found.result.now.solution.tag
-      → (k : ℕ) → child_count c.args.self.now.tree.now c.get-found.result.now.node ≡ suc k → IsSumOf g.R.Rank.KEYS g.R.Rank.key c.args.self.now.tree.now c.args.self.now.entries.entries c.args.self.now.nodes.items c.get-found.result.now.node c.get-found.result.now.solution.tag.row k c.get-found.result.now.solution.tag.place c.get-found.result.now.solution.tag.cell
-  own_parts c s k kids =
-      subst (λ r. IsSumOf g.R.Rank.KEYS g.R.Rank.key c.args.self.now.tree.now c.args.self.now.entries.entries c.args.self.now.nodes.items c.get-found.result.now.node r k c.get-found.result.now.solution.tag.place c.get-found.result.now.solution.tag.cell) (sym s.parts.0) (s.parts.2 k kids)
+  own_parts : (c : add_entry_rows-After-child_count-count g t) → (s : IsSolvedAt g.R.Rank.KEYS g.R.Rank.key c.args.self.now.tree.now c.args.self.now.entries.entries c.args.self.now.nodes.items c.args.entry c.get-found.result.now.node c.get-found.result.now.solution.tag)
+      → (k : ℕ) → child_count c.args.self.now.tree.now c.get-found.result.now.node ≡ suc k → IsSumOf g.R.Rank.KEYS g.R.Rank.key c.args.self.now.tree.now c.args.self.now.entries.entries c.args.self.now.nodes.items c.get-found.result.now.node c.get-found.result.now.solution.tag.row k s.place c.get-found.result.now.solution.tag.cell
+  own_parts c s k kids = s.parts k kids
 
   -- without children it is the row's own solution
-  own_is : (c : add_entry_rows-After-child_count-count g t) → IsSourceAt g.R.Rank.KEYS g.R.Rank.key c.args.self.now.tree.now c.args.self.now.entries.entries c.args.self.now.nodes.items c.args.entry c.get-found.result.now.node c.get-found.result.now.group c.get-found.result.now.solution.tag → c.child_count-count.result ≡ 0
+  own_is : (c : add_entry_rows-After-child_count-count g t) → (s : IsSolvedAt g.R.Rank.KEYS g.R.Rank.key c.args.self.now.tree.now c.args.self.now.entries.entries c.args.self.now.nodes.items c.args.entry c.get-found.result.now.node c.get-found.result.now.solution.tag) → c.child_count-count.result ≡ 0
       → rank c.args.self.now.tree.now g.R.Rank.KEYS g.R.Rank.key c.get-found.result.now.node c.get-found.result.now.solution.tag.row
       ≡ get_or (group_list g.R.Rank.KEYS g.R.Rank.key c.args.self.now.tree.now (node_of c.args.self.now.entries.entries c.args.entry) (group_of c.args.self.now.entries.entries c.args.entry)) (place_of c.args.self.now.entries.entries c.args.entry) (key_none g.R.Rank.KEYS 16)
   own_is c s zero =
@@ -60,19 +57,18 @@ module _ (g : Over) (t : ℕ) where
       let f = c.get-found.result.now in
       let kids = kids_of c s in
       let none : child_count tree f.node ≡ 0 = omega (arith, kids, zero) in
-      let place : IsKnownPart n f.node c.get-found.result.now.solution.tag.row (child_count tree f.node) f.solution.tag.place = subst (λ r. IsKnownPart n f.node r (child_count tree f.node) f.solution.tag.place) (sym s.parts.0) s.place in
-      let known = known_own d key tree c.args.self.now.entries.entries n c.requires.formed f.node c.get-found.result.now.solution.tag.row (child_count tree f.node) f.solution.tag.place none place in
-      own_at d key tree c.requires.formed.tree n f.node c.get-found.result.now.solution.tag.row (child_count tree f.node) f.solution.tag.place (rank tree d key f.node c.get-found.result.now.solution.tag.row) s.node none known refl ∙ key_of c s
+      let known = known_own d key tree c.args.self.now.entries.entries n c.requires.formed f.node c.get-found.result.now.solution.tag.row (child_count tree f.node) s.place none s.known in
+      own_at d key tree c.requires.formed.tree n f.node c.get-found.result.now.solution.tag.row (child_count tree f.node) s.place (rank tree d key f.node c.get-found.result.now.solution.tag.row) s.node none known refl ∙ key_of c s
 
   -- with children it is the sum of its parts
-  sum_is : (c : add_entry_rows-After-child_count-count g t) → IsSourceAt g.R.Rank.KEYS g.R.Rank.key c.args.self.now.tree.now c.args.self.now.entries.entries c.args.self.now.nodes.items c.args.entry c.get-found.result.now.node c.get-found.result.now.group c.get-found.result.now.solution.tag → (k : ℕ) → child_count c.args.self.now.tree.now c.get-found.result.now.node ≡ suc k
+  sum_is : (c : add_entry_rows-After-child_count-count g t) → (s : IsSolvedAt g.R.Rank.KEYS g.R.Rank.key c.args.self.now.tree.now c.args.self.now.entries.entries c.args.self.now.nodes.items c.args.entry c.get-found.result.now.node c.get-found.result.now.solution.tag) → (k : ℕ) → child_count c.args.self.now.tree.now c.get-found.result.now.node ≡ suc k
       → pair_key (key_add g.R.Rank.KEYS 16) (key_none g.R.Rank.KEYS 16) (part_list g.R.Rank.KEYS g.R.Rank.key c.args.self.now.tree.now c.get-found.result.now.node c.get-found.result.now.solution.tag.row k)
       (group_list g.R.Rank.KEYS g.R.Rank.key c.args.self.now.tree.now (child c.args.self.now.tree.now c.get-found.result.now.node k) (group_named c.args.self.now.tree.now c.get-found.result.now.node c.get-found.result.now.solution.tag.row k)) (pair_of c.args.self.now.entries.entries c.get-found.result.now.solution.tag.cell)
       ≡ get_or (group_list g.R.Rank.KEYS g.R.Rank.key c.args.self.now.tree.now (node_of c.args.self.now.entries.entries c.args.entry) (group_of c.args.self.now.entries.entries c.args.entry)) (place_of c.args.self.now.entries.entries c.args.entry) (key_none g.R.Rank.KEYS 16)
   sum_is c s k kids =
       let more : k + 1 ≡ child_count c.args.self.now.tree.now c.get-found.result.now.node = omega (arith, kids) in
       sym (own_parts c s k kids).sum
-      ∙ ap (λ z. get_or (part_list g.R.Rank.KEYS g.R.Rank.key c.args.self.now.tree.now c.get-found.result.now.node c.get-found.result.now.solution.tag.row z) c.get-found.result.now.solution.tag.place (key_none g.R.Rank.KEYS 16)) more ∙ key_of c s
+      ∙ ap (λ z. get_or (part_list g.R.Rank.KEYS g.R.Rank.key c.args.self.now.tree.now c.get-found.result.now.node c.get-found.result.now.solution.tag.row z) s.place (key_none g.R.Rank.KEYS 16)) more ∙ key_of c s
 
   -- the key of a solution is the sum of its parts
   part_is : (c : add_part_rows-After-part_cell-cell g t) → c.args.count - 1 + 1 ≡ c.args.count
@@ -85,39 +81,39 @@ module _ (g : Over) (t : ℕ) where
 
 pub add_entry_rows-index-requires : goal.add_entry_rows-index-requires
 add_entry_rows-index-requires g t c =
-    let s = source_at g.R.Rank.KEYS g.R.Rank.key c.args.self.now.tree.now c.args.self.now.entries.entries c.args.self.now.nodes.items c.requires.formed c.args.entry c.get-found.result.now c.requires.entry c.get-found.ensures.value in
+    let s = solved_at g.R.Rank.KEYS g.R.Rank.key c.args.self.now.tree.now c.args.self.now.entries.entries c.args.self.now.nodes.items c.requires.formed c.args.entry c.get-found.result.now c.requires.entry c.get-found.ensures.value in
     omega (arith, s.node, c.requires.formed.all_nodes)
 
 pub add_entry_rows-add_own_row-requires-clause-node : goal.add_entry_rows-add_own_row-requires-clause-node
 add_entry_rows-add_own_row-requires-clause-node g t c =
     let at = goal.at.add_entry_rows-add_own_row-requires-clause-node g t c in
-    (source_of g t at.After-get-found).node
+    (solved_of g t at.After-get-found).node
 
 pub add_entry_rows-add_own_row-requires-clause-row : goal.add_entry_rows-add_own_row-requires-clause-row
 add_entry_rows-add_own_row-requires-clause-row g t c =
     let at = goal.at.add_entry_rows-add_own_row-requires-clause-row g t c in
-    row_of g t at.After-child_count-count (source_of g t at.After-get-found)
+    row_of g t at.After-child_count-count (solved_of g t at.After-get-found)
 
 pub add_entry_rows-add_own_row-requires-clause-number : goal.add_entry_rows-add_own_row-requires-clause-number
 add_entry_rows-add_own_row-requires-clause-number g t c =
     let at = goal.at.add_entry_rows-add_own_row-requires-clause-number g t c in
-    number_of g t at.After-child_count-count (source_of g t at.After-get-found)
+    number_of g t at.After-child_count-count (solved_of g t at.After-get-found)
 
 pub add_entry_rows-add_own_row-requires-clause-fits : goal.add_entry_rows-add_own_row-requires-clause-fits
 add_entry_rows-add_own_row-requires-clause-fits g t c =
     let at = goal.at.add_entry_rows-add_own_row-requires-clause-fits g t c in
-    subst (AreAddable g.R.Rank.KEYS c.args.numbers.now) (sym (own_is g t at.After-child_count-count (source_of g t at.After-get-found) (omega (arith, c.if-count-eq0.true)))) c.requires.fits
+    subst (AreAddable g.R.Rank.KEYS c.args.numbers.now) (sym (own_is g t at.After-child_count-count (solved_of g t at.After-get-found) (omega (arith, c.if-count-eq0.true)))) c.requires.fits
 
 pub add_entry_rows-returns-then-count-eq0-clause-added : goal.add_entry_rows-returns-then-count-eq0-clause-added
 add_entry_rows-returns-then-count-eq0-clause-added g t c =
     let at = goal.at.add_entry_rows-returns-then-count-eq0-clause-added g t c in
-    subst (λ k. AreAdded g.R.Rank.KEYS c.args.numbers.now k c.add_own_row.new.numbers) (own_is g t at.After-child_count-count (source_of g t at.After-get-found) (omega (arith, c.if-count-eq0.true))) c.add_own_row.ensures.added
+    subst (λ k. AreAdded g.R.Rank.KEYS c.args.numbers.now k c.add_own_row.new.numbers) (own_is g t at.After-child_count-count (solved_of g t at.After-get-found) (omega (arith, c.if-count-eq0.true))) c.add_own_row.ensures.added
 
 pub add_entry_rows-returns-then-count-eq0-clause-cost : goal.add_entry_rows-returns-then-count-eq0-clause-cost
 add_entry_rows-returns-then-count-eq0-clause-cost g t c =
     let at = goal.at.add_entry_rows-returns-then-count-eq0-clause-cost g t c in
     let tree = c.args.self.now.tree.now in
-    let s = source_of g t at.After-get-found in
+    let s = solved_of g t at.After-get-found in
     let kids = kids_of g t at.After-child_count-count s in
     omega (
       arith,
@@ -131,7 +127,7 @@ add_entry_rows-add_sum_rows-requires g t c κs within =
     let at = goal.at.add_entry_rows-add_sum_rows-requires g t c in
     let tree = c.args.self.now.tree.now in
     let f = c.get-found.result.now in
-    let s = source_of g t at.After-get-found in
+    let s = solved_of g t at.After-get-found in
     let kids = kids_of g t at.After-child_count-count s in
     let last : child_count tree f.node ≡ suc (c.child_count-count.result - 1) = omega (arith, kids, c.if-count-eq0.false) in (
       omega (arith, c.decreases, s.owner, s.node, kids, kids_below_most (parent tree) f.node (length tree), c.requires.formed.tree.shaped.few_nodes),
@@ -154,7 +150,7 @@ add_entry_rows-add_sum_rows-requires g t c κs within =
                       (
                         omega (arith, last),
                         (
-                          (f.solution.tag.place, own_parts g t at.After-child_count-count s (c.child_count-count.result - 1) last),
+                          (s.place, own_parts g t at.After-child_count-count s (c.child_count-count.result - 1) last),
                           subst (AreAddable g.R.Rank.KEYS c.args.numbers.now) (sym (sum_is g t at.After-child_count-count s (c.child_count-count.result - 1) last)) c.requires.fits,
                         ),
                       ),
@@ -171,7 +167,7 @@ add_entry_rows-add_sum_rows-requires g t c κs within =
 pub add_entry_rows-returns-else-count-eq0-clause-added : goal.add_entry_rows-returns-else-count-eq0-clause-added
 add_entry_rows-returns-else-count-eq0-clause-added g t c =
     let at = goal.at.add_entry_rows-returns-else-count-eq0-clause-added g t c in
-    let s = source_of g t at.After-get-found in
+    let s = solved_of g t at.After-get-found in
     let kids = kids_of g t at.After-child_count-count s in
     let last : child_count c.args.self.now.tree.now c.get-found.result.now.node ≡ suc (c.child_count-count.result - 1) = omega (arith, kids, c.if-count-eq0.false) in
     subst (λ k. AreAdded g.R.Rank.KEYS c.args.numbers.now k c.add_sum_rows.new.numbers) (sum_is g t at.After-child_count-count s (c.child_count-count.result - 1) last) c.add_sum_rows.ensures.added
@@ -181,7 +177,7 @@ add_entry_rows-returns-else-count-eq0-clause-cost g t c =
     let at = goal.at.add_entry_rows-returns-else-count-eq0-clause-cost g t c in
     let tree = c.args.self.now.tree.now in
     let f = c.get-found.result.now in
-    let s = source_of g t at.After-get-found in
+    let s = solved_of g t at.After-get-found in
     let kids = kids_of g t at.After-child_count-count s in
     let more : c.child_count-count.result - 1 + 1 ≡ c.child_count-count.result = omega (arith, c.if-count-eq0.false) in
     omega (

@@ -1,11 +1,13 @@
-use Rattle.std.proofs.Common.{◌≡◌, ◌≢◌, ℕ, ◌+◌, ◌*◌, ◌<◌, ◌≤◌, None, Some, IfSome, IfNone, is_some, List, [], length, get_or, refl, sym, ap, ◌∙◌, subst, arith}
+use Rattle.std.proofs.Common.{◌≡◌, ◌≢◌, ℕ, ◌+◌, ◌*◌, ◌<◌, ◌≤◌, None, Some, IfSome, IfNone, is_some, List, [], ◌∷◌, ◌++◌, length, get_or, refl, sym, ap, ◌∙◌, subst, arith}
 use Rattle.take2_heap.specs.Order.{IsLeast}
 use Rattle.tdp_core.specs.TreeView.{number, members, child_count}
 use Rattle.tdp_model.specs.KeyTuple.{key_none}
 use Rattle.stream_store.specs.declared.entry.Linked.{Linked}
+use Rattle.take2_heap.specs.declared.entry.Entry.{Entry}
 use Rattle.suffix_streams.specs.declared.stream.Found.{Found}
+use Rattle.suffix_streams.specs.declared.stream.Solved.{Solved}
 use Rattle.suffix_streams.specs.NodeStreamsView.{NodeStreamsView, stream_at, with_queue}
-use Rattle.suffix_streams.specs.TreeStreams.{IsSumOf, row_known, products_of, IsStreams, node_list, group_list_of, node_of, group_of, lists_of, stream_of}
+use Rattle.suffix_streams.specs.TreeStreams.{IsSumOf, row_known, products_of, IsStreams, node_list, group_list_of, node_of, group_of, stream, lists_of, stream_of}
 use Rattle.suffix_streams.specs.Growing.{IsAnswered}
 use Rattle.suffix_streams.proofs.Changes.{lists_other, lists_same}
 use Rattle.suffix_streams.proofs.Heads.{lists_at}
@@ -20,7 +22,7 @@ use Rattle.rank_key.specs.Bits.{bit_length}
 use Rattle.rank_key.proofs.BitLemmas.{bit_length_rises}
 use Rattle.stream_model.specs.Links.{owned, IsLinkedAt}
 use Rattle.suffix_streams.specs.Rankings.{part_list, group_list}
-use Rattle.suffix_streams.proofs.QueuePass.{IsGroupTop, IsQueuePassed, IsEntryLinked, group_top, queue_passed, passed_ends, passed_grows, entry_linked}
+use Rattle.suffix_streams.proofs.QueuePass.{IsGroupTop, IsQueuePassed, IsEntryLinked, whole_stream, group_top, queue_passed, passed_ends, passed_grows, entry_linked}
 use Rattle.suffix_streams.proofs.solutions.Solutions.advance.Given.{Over}
 use Rattle.suffix_streams.proofs.solutions.Solutions.advance.Goals.{After-as_slice, After-index, After-pass_last, After-push_reserved-next, After-set_next, In_ok-top}
 use Rattle.suffix_streams.proofs.solutions.Solutions.advance.Goals as goal
@@ -85,11 +87,11 @@ module _ (g : Over) where
   -- one more entry
   pushed_of : (c : After-push_reserved-next g) → length c.push_reserved-next.new.self.entries ≡ length c.args.self.now.entries.entries + 1
   pushed_of c =
-      let e : Linked (Found g.row.R.Denot) = record { value = record { node = c.args.node; group = c.args.group; solution = c.in_ok-top.top }; next = None } in
+      let e : Linked (Found g.row.R.Denot) = record { value = record { node = c.args.node; group = c.args.group; solution = c.kept_solution.result }; next = None } in
       omega (arith, ap length c.push_reserved-next.ensures.entries, count_more c.args.self.now.entries.entries e)
 
-  linked_of : (c : After-set_next g) → IsGroupTop g.R.Rank.KEYS g.R.Rank.key c.args.self.now.tree.now c.args.self.now.entries.entries c.args.self.now.nodes.items c.args.last c.args.node c.args.group c.args.row → IsEntryLinked c.args.self.now.tree.now c.args.self.now.entries.entries c.set_next.new.self.entries c.args.last (record { node = c.args.node; group = c.args.group; solution = c.in_ok-top.top })
-  linked_of c o = entry_linked o c.in_ok-top.top c.push_reserved-next.new.self.entries c.set_next.new.self.entries c.push_reserved-next.result c.requires.formed c.requires.last c.requires.node c.requires.group c.requires.none c.push_reserved-next.ensures.id c.push_reserved-next.ensures.entries c.set_next.ensures.entries
+  linked_of : (c : After-set_next g) → IsGroupTop g.R.Rank.KEYS g.R.Rank.key c.args.self.now.tree.now c.args.self.now.entries.entries c.args.self.now.nodes.items c.args.last c.args.node c.args.group c.args.row → IsEntryLinked c.args.self.now.tree.now c.args.self.now.entries.entries c.set_next.new.self.entries c.args.last (record { node = c.args.node; group = c.args.group; solution = c.kept_solution.result })
+  linked_of c o = entry_linked o c.kept_solution.result c.push_reserved-next.new.self.entries c.set_next.new.self.entries c.push_reserved-next.result c.requires.formed c.requires.last c.requires.node c.requires.group c.requires.none c.push_reserved-next.ensures.id c.push_reserved-next.ensures.entries c.set_next.ensures.entries
 
 pub returns-in_err-top-clause-formed : goal.returns-in_err-top-clause-formed
 returns-in_err-top-clause-formed g c =
@@ -110,7 +112,7 @@ returns-in_err-top-clause-answer g c =
     let empty : (stream_of c.pass_last.new.nodes.items c.args.node c.args.group).queue ≡ [] = ap (λ n. (stream_at n c.args.group).queue) read ∙ no_top c.top.result (stream_at c.index.result.now c.args.group).queue c.in_err-top.was c.top.ensures.variant in
     let link = subst (λ o. IsLinkedAt (node_list c.args.self.now.entries.entries) (group_list_of c.args.self.now.entries.entries) c.args.last o) c.requires.none (c.requires.formed.linked c.args.last (omega (arith, c.requires.last, node_length c.args.self.now.entries.entries))) in
     subst (λ o. IsAnswered g.R.Rank.KEYS g.R.Rank.key c.args.self.now.tree.now c.args.self.now.entries.entries c.args.last o) (sym c.from_residual.ensures)
-    (ap (λ z. length (group_list g.R.Rank.KEYS g.R.Rank.key c.args.self.now.tree.now z (group_of c.args.self.now.entries.entries c.args.last))) c.requires.node ∙ ap (λ z. length (group_list g.R.Rank.KEYS g.R.Rank.key c.args.self.now.tree.now c.args.node z)) c.requires.group ∙ sym (p.ends empty).0 ∙ stream_owned c.args.self.now.entries.entries c.args.node c.args.group
+    (ap (λ z. length (group_list g.R.Rank.KEYS g.R.Rank.key c.args.self.now.tree.now z (group_of c.args.self.now.entries.entries c.args.last))) c.requires.node ∙ ap (λ z. length (group_list g.R.Rank.KEYS g.R.Rank.key c.args.self.now.tree.now c.args.node z)) c.requires.group ∙ sym (whole_stream p empty) ∙ stream_owned c.args.self.now.entries.entries c.args.node c.args.group
     ∙ ap (λ z. owned (node_list c.args.self.now.entries.entries) (group_list_of c.args.self.now.entries.entries) z c.args.group) (sym c.requires.node) ∙ ap (λ z. owned (node_list c.args.self.now.entries.entries) (group_list_of c.args.self.now.entries.entries) (node_of c.args.self.now.entries.entries c.args.last) z) (sym c.requires.group) ∙ sym link)
 
 pub returns-in_err-top-clause-cost : goal.returns-in_err-top-clause-cost
@@ -166,7 +168,8 @@ returns-clause-formed g c =
     let first = first_is g at.In_ok-top read in
     let e = linked_of g at.After-set_next o in
     subst (λ (z : List (NodeStreamsView g.row.R.Denot)). IsStreams g.R.Rank.KEYS g.R.Rank.key c.args.self.now.tree.now c.set_next.new.self.entries z) (sym changed)
-    (passed_grows p (stream_of c.pass_last.new.nodes.items c.args.node c.args.group).room c.set_next.new.self.entries c.in_ok-top.top (entry_held c.args.self.now.entries.entries c.set_next.new.self.entries e.store) e.owners e.linked e.others e.longer some first
+    (passed_grows p (stream_of c.pass_last.new.nodes.items c.args.node c.args.group).room c.set_next.new.self.entries c.in_ok-top.top (entry_held c.args.self.now.entries.entries c.set_next.new.self.entries e.store) e.owners e.linked e.others
+    (e.longer ∙ ap (λ (z : Entry g.row.R.Denot Solved). stream c.args.self.now.entries.entries c.args.node c.args.group ++ (z ∷ [])) c.kept_solution.ensures) some first
     (subst (λ n. IsLeast g.R.Rank.KEYS g.R.Rank.key c.in_ok-top.top (stream_at n c.args.group).queue) (sym read) c.in_ok-top.ensures.least))
 
 pub row_offer-offer-requires-clause-row : goal.row_offer-offer-requires-clause-row
@@ -271,7 +274,7 @@ set_next-requires-clause-to g c =
 pub set_next-requires-clause-none : goal.set_next-requires-clause-none
 set_next-requires-clause-none g c d =
     let es = c.args.self.now.entries.entries in
-    let e : Linked (Found g.row.R.Denot) = record { value = record { node = c.args.node; group = c.args.group; solution = c.in_ok-top.top }; next = None } in
+    let e : Linked (Found g.row.R.Denot) = record { value = record { node = c.args.node; group = c.args.group; solution = c.kept_solution.result }; next = None } in
     ap (λ (z : List (Linked (Found g.row.R.Denot))). (get_or z c.args.last d).next) c.push_reserved-next.ensures.entries
     ∙ ap (λ (x : Linked (Found g.row.R.Denot)). x.next) (at_more es e d c.args.last c.requires.last)
     ∙ sym (next_value es c.args.last d c.requires.last) ∙ c.requires.none
