@@ -1,5 +1,5 @@
 //! Entries of a store, and their names.
-ghost use Rattle.std.specs.Prelude.{◌≡◌, ◌+◌, ◌^◌, ◌<◌};
+ghost use Rattle.std.specs.Prelude.{◌≡◌, ◌↔◌, ◌+◌, ◌^◌, ◌<◌, ◌≤◌, IsTrue};
 
 use std::marker::Model;
 
@@ -35,6 +35,13 @@ impl EntryId {
         EntryId {
             place: self.place + count,
         }
+    }
+
+    /// Whether this is one of the `count` entries from `first` on.
+    pub fn is_within(self, first: EntryId, count: usize) -> bool
+        ensures { IsTrue result ↔ ((first ≤ self) × (self < first + count)) }
+    {
+        self.place >= first.place && ((self.place - first.place) as usize) < count
     }
 }
 

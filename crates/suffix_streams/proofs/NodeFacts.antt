@@ -1,11 +1,11 @@
 -- A node in which one queue, one product or a row's products change.
-use Rattle.std.proofs.Common.{◌≡◌, ℕ, ◌+◌, ◌<◌, List, [], length, get_or, slice_set, refl, sym, ap, ◌∙◌, subst, arith}
+use Rattle.std.proofs.Common.{◌≡◌, ℕ, Bool, IsTrue, ◌↔◌, ◌+◌, ◌-◌, ◌<◌, ◌≤◌, List, [], length, get_or, slice_set, refl, sym, ap, ◌∙◌, subst, arith}
 use Rattle.std.proofs.lemmas.List.{get_or-set_same}
 use Rattle.take2_heap.specs.Heap.{Heap}
 use Rattle.stream_cells.specs.declared.source.Source.{Source}
 use Rattle.suffix_streams.specs.ProductView.{ProductView}
 use Rattle.suffix_streams.specs.StreamView.{StreamView, headed}
-use Rattle.suffix_streams.specs.NodeStreamsView.{NodeStreamsView, product_at, stream_at, with_product, with_queue}
+use Rattle.suffix_streams.specs.NodeStreamsView.{NodeStreamsView, HasHead, product_at, stream_at, with_product, with_queue}
 use Rattle.suffix_streams.proofs.HeadedStreams.{stream_at_head, headed_length, headed_at, headed_set}
 use Rattle.suffix_streams.proofs.Stores.{row_inside}
 
@@ -50,6 +50,20 @@ module _ {R : Type 0} (children : List ℕ) (first : ℕ) (queues : List (Heap R
       whole : record { children = children; streams = headed first (slice_set queues g q); products = products } ≡ with_queue n g q.entries q.spare
       whole = ap node set ∙ ap (changed (stream_at_head (first + g) q)) is
           ∙ ap (λ (h : ℕ). changed (record { head = h; queue = q.entries; room = q.spare }) n) (sym (ap (λ (s : StreamView R). s.head) was))
+
+-- the first entries of the groups of a node, by their names
+pub head_named : {R : Type 0} (children : List ℕ) (first : ℕ) (queues : List (Heap R Source)) (products : List (List (ProductView R))) (n : NodeStreamsView R)
+    → record { children = children; streams = headed first queues; products = products } ≡ n → (i : ℕ) (b : Bool) → (IsTrue b ↔ ((first ≤ i) × (i < first + length queues))) → IsTrue b ↔ HasHead n i
+head_named {R} children first queues products n is i b named = (found, λ h. named.1 (omega (arith, name h), omega (arith, name h, in_queues children first queues products n is h.0 h.1)))
+  where
+    name : (h : HasHead n i) → i ≡ first + h.0
+    name h = h.2 ∙ head_read children first queues products n is h.0 h.1
+
+    within : IsTrue b → i - first < length n.streams
+    within y = omega (arith, named.0 y, ap (λ (m : NodeStreamsView R). length m.streams) is, headed_length first queues)
+
+    found : IsTrue b → HasHead n i
+    found y = (i - first, within y, omega (arith, named.0 y, head_read children first queues products n is (i - first) (within y)))
 
 -- a product of a node, when it changes
 pub product_changed : {R : Type 0} (children : List ℕ) (streams : List (StreamView R)) (products : List (List (ProductView R))) (n : NodeStreamsView R) (r c : ℕ) (p : ProductView R)

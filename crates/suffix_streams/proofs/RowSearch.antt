@@ -1,26 +1,24 @@
 -- The facts of a search in a row with its first children, after each of its calls.
-use Rattle.std.proofs.Common.{◌≡◌, ℕ, suc, ◌+◌, ◌-◌, ◌*◌, ◌<◌, ◌≤◌, cond, nat_eq, List, [], length, get_or, sym, ap, ◌∙◌, subst, arith}
+use Rattle.std.proofs.Common.{◌≡◌, ℕ, suc, Bool, IsTrue, ◌↔◌, ◌+◌, ◌-◌, ◌*◌, ◌<◌, ◌≤◌, cond, nat_eq, List, [], length, get_or, slice_index, sym, ap, ◌∙◌, subst, arith}
 use Rattle.stream_store.specs.declared.entry.Linked.{Linked}
 use Rattle.take2_heap.specs.declared.entry.Entry.{Entry}
 use Rattle.rank_key.specs.Bits.{bit_length}
 use Rattle.tdp_core.specs.TreeView.{NodeView, parent, rows, child_count, group_named}
-use Rattle.tdp_core.specs.WellFormed.{IsTieFreeTree}
 use Rattle.tdp_model.specs.Below.{is_below}
 use Rattle.tdp_model.specs.KeyTuple.{KeyOf}
 use Rattle.suffix_streams.specs.declared.stream.Found.{Found}
 use Rattle.stream_cells.specs.declared.cell.Cell.{Cell}
 use Rattle.suffix_streams.specs.ProductView.{ProductView}
-use Rattle.suffix_streams.specs.NodeStreamsView.{NodeStreamsView, product_at, known_of}
+use Rattle.suffix_streams.specs.NodeStreamsView.{NodeStreamsView, HasHead, product_at, known_of}
 use Rattle.suffix_streams.specs.Rankings.{child}
-use Rattle.suffix_streams.specs.TreeStreams.{lists_of, products_of, product_of, stream_of, part_known, node_of, IsStreams, IsCell}
+use Rattle.suffix_streams.specs.TreeStreams.{lists_of, products_of, product_of, stream_of, part_known, node_of, group_of, IsStreams, IsCell}
 use Rattle.suffix_streams.specs.Refusals.{AreUnstepped}
 use Rattle.suffix_streams.specs.Growing.{IsGrown, IsExtended, AreQueuesGrown, HasOtherProduct, IsWithinSteps, below_kids, kids_size}
 use Rattle.suffix_streams.proofs.Rankings.{kid, kid_below}
 use Rattle.suffix_streams.proofs.Heads.{lists_at}
 use Rattle.suffix_streams.proofs.Entries.{child_in}
 use Rattle.suffix_streams.proofs.Stores.{any_default}
-use Rattle.suffix_streams.proofs.FirstSums.{first_right}
-use Rattle.suffix_streams.proofs.StepCells.{cell_known}
+use Rattle.suffix_streams.proofs.StepCells.{cell_known, named_head, head_of_named}
 use Rattle.suffix_streams.proofs.Searching.{extended_none, extended_child, queues_child}
 use Rattle.suffix_streams.proofs.SearchRoom.{room_formed, room_count, room_extended, room_queues, room_within, room_unstepped, unstepped_on, unstepped_own}
 use Rattle.suffix_streams.proofs.SearchSteps.{product_kept, row_kept, search_extended, search_queues, search_within, no_search, search_head, stepped_extended, stepped_queues, IsSearched}
@@ -150,17 +148,15 @@ module _ {R : Type 0} {d : ℕ} {key : R → KeyOf d 16} {t : List (NodeView R)}
   pub asked_unstepped : AreUnstepped v n o
   asked_unstepped = unstepped_on v n m o (made_unstepped a) (unstepped_own v m o k.own)
 
-  -- the product has solutions, and x is the data of the node that was read
-  pub asked_some : (x : NodeStreamsView R) → x ≡ get_or o v x → 0 < length (product_at x r (count - 1)).found
-  asked_some x read = subst (λ z. 0 < length (product_at z r (count - 1)).found) (lists_at o v x read (omega (arith, a.node, k.formed.all_nodes))) (k.formed.products v r (count - 1) a.node a.row k.in_row).sums.prefix.0
-
-  -- the first solution's right part is the head of the child's stream
-  pub asked_right : IsTieFreeTree t → (x : NodeStreamsView R) (right : ℕ) → x ≡ get_or o v x → ((first : Cell) → right ≡ (get_or (product_at x r (count - 1)).found 0 first).right)
-      → right ≡ (stream_of o (child t v (count - 1)) (group_named t v r (count - 1))).head
-  asked_right apart x right read is =
-      let first : Cell = record { left = 0; right = right } in
-      is first ∙ ap (λ z. (get_or (product_at z r (count - 1)).found 0 first).right) (sym (lists_at o v x read (omega (arith, a.node, k.formed.all_nodes))))
-      ∙ first_right d key t b o k.formed apart v r (count - 1) first a.node a.row k.in_row
+  -- whether the cell has others beside it, by the first entries of the groups of the child's node
+  pub asked_beside : (beside : Bool) → (IsTrue beside ↔ ((0 < count - 1) × HasHead (lists_of o (slice_index (lists_of o v).children (count - 1))) top.tag.right)) → 0 < count - 1
+      → IsTrue beside ↔ (top.tag.right ≡ (stream_of o (child t v (count - 1)) (group_named t v r (count - 1))).head)
+  asked_beside beside told later =
+      let same : slice_index (lists_of o v).children (count - 1) ≡ child t v (count - 1) = k.formed.children v (count - 1) a.node a.in_kids in
+      let own : group_of b top.tag.right ≡ group_named t v r (count - 1) = k.grown.store.groups top.tag.right a.known.right ∙ a.known.group in (
+        λ y. named_head d key t b o k.formed v r (count - 1) a.node a.row a.in_kids top.tag.right own (subst (λ u. HasHead (lists_of o u) top.tag.right) same (told.0 y).1),
+        λ e. told.1 (later, subst (λ u. HasHead (lists_of o u) top.tag.right) (sym same) (head_of_named d key t b o k.formed v r (count - 1) a.node a.row a.in_kids top.tag.right e)),
+      )
 
 -- # The search with the other children was made
 

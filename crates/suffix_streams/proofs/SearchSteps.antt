@@ -1,6 +1,6 @@
 -- A search in a row: the call at the last child, the search with the other children, and the step of the last child's product.
-use Rattle.std.proofs.Common.{◌≡◌, ℕ, suc, ◌+◌, ◌*◌, ◌≢◌, ◌<◌, ◌≤◌, ◌⊎◌, cond, nat_eq, List, [], length, get_or, refl, sym, ap, ◌∙◌, subst, inl, inr, arith}
-use Rattle.std.proofs.lemmas.Bool.{cases_lt, cases_eq}
+use Rattle.std.proofs.Common.{◌≡◌, ℕ, suc, Bool, true, false, IsTrue, IsFalse, ◌+◌, ◌*◌, ◌<◌, ◌≤◌, ◌⊎◌, cond, nat_eq, List, [], length, get_or, refl, sym, ap, ◌∙◌, subst, inl, inr, arith}
+use Rattle.std.proofs.lemmas.Bool.{cases_lt}
 use Rattle.stream_store.specs.declared.entry.Linked.{Linked}
 use Rattle.rank_key.specs.Bits.{bit_length}
 use Rattle.rank_key.proofs.BitLemmas.{bit_length_rises}
@@ -125,12 +125,14 @@ searched {R} d key t a v r c b m u e o k s0 s1 f g few all h x q w =
     (subst (λ (y : List (NodeView R)). AreQueuesGrown (λ w. below_kids y v k w + cond (nat_eq w v) 1 0) m o) f q)
     (subst (λ (y : List (NodeView R)). IsWithinSteps y m (λ w. below_kids y v k w + cond (nat_eq w v) 1 0) (λ b. 20 * kids_size y v k * (1 + b)) s0 (s1 + 6 * k)) f w)
 
--- the number of children with which a search is made
-pub all_or_none : (i j k c p place : ℕ) → (i ≡ j → (k ≡ c) × (p ≡ place)) → (i ≢ j → (k ≡ 0) × (p ≡ 0)) → (k ≡ c) ⊎ (k ≡ 0)
-all_or_none i j k c p place beside apart = elim (cases_eq i j) [
-  | inl e ↦ inl (beside e).0
-  | inr n ↦ inr (apart n).0
-]
+-- the number of children with which a search is made, and the place
+pub left_or_none : (b : Bool) (k c p place : ℕ) → (IsTrue b → (k ≡ c) × (p ≡ place)) → (IsFalse b → (k ≡ 0) × (p ≡ 0)) → ((k ≡ c) × (p ≡ place)) ⊎ ((k ≡ 0) × (p ≡ 0))
+left_or_none true k c p place beside apart = inl (beside refl)
+left_or_none false k c p place beside apart = inr (apart refl)
+
+pub all_or_none : (k c p place : ℕ) → ((k ≡ c) × (p ≡ place)) ⊎ ((k ≡ 0) × (p ≡ 0)) → (k ≡ c) ⊎ (k ≡ 0)
+all_or_none k c p place (inl e) = inl e.0
+all_or_none k c p place (inr e) = inr e.0
 
 -- the place that was searched for is reached
 pub left_reached : {R : Type 0} (d : ℕ) (key : R → KeyOf d 16) (t a : List (NodeView R)) (o : List (NodeStreamsView R)) (v r c k p place : ℕ) → a ≡ t → k ≡ c → p ≡ place → IsReached d key a o v r k p → IsReached d key t o v r c place

@@ -1,17 +1,17 @@
 -- The cells that a step of a product offers, and the change of the product.
-use Rattle.std.proofs.Common.{◌≡◌, ◌↔◌, ℕ, zero, suc, ◌+◌, ◌<◌, ◌≤◌, Option, Some, None, IsSome, is_some, true, false, MatchOption, IfSome, List, [], ◌∷◌, length, get_or, slice_set, refl, sym, ap, ◌∙◌, subst, arith}
+use Rattle.std.proofs.Common.{◌≡◌, ◌↔◌, Bool, IsTrue, ℕ, zero, suc, ◌+◌, ◌<◌, ◌≤◌, Option, Some, None, IsSome, is_some, true, false, MatchOption, IfSome, List, [], ◌∷◌, length, get_or, slice_set, refl, sym, ap, ◌∙◌, subst, arith}
 use Rattle.std.proofs.lemmas.List.Elements.{All-get_or}
 use Rattle.stream_store.specs.declared.entry.Linked.{Linked}
 use Rattle.std.specs.List.Sorted.{IsPermutation}
 use Rattle.std.proofs.lemmas.List.Sorted.{length_permutation}
 use Rattle.stream_model.specs.Offers.{offers}
 use Rattle.take2_heap.specs.declared.entry.Entry.{Entry}
-use Rattle.tdp_core.specs.TreeView.{NodeView, rows, group_named}
+use Rattle.tdp_core.specs.TreeView.{NodeView, rows, child_count, group_named}
 use Rattle.tdp_model.specs.KeyTuple.{KeyOf}
 use Rattle.stream_model.specs.Links.{IsLinkedAt}
 use Rattle.stream_cells.specs.declared.cell.Cell.{Cell}
 use Rattle.suffix_streams.specs.declared.stream.Found.{Found}
-use Rattle.suffix_streams.specs.NodeStreamsView.{NodeStreamsView, product_at, with_product}
+use Rattle.suffix_streams.specs.NodeStreamsView.{NodeStreamsView, HasHead, product_at, with_product}
 use Rattle.stream_cells.specs.Cells.{cell_down}
 use Rattle.suffix_streams.specs.Rankings.{child}
 use Rattle.suffix_streams.specs.TreeStreams.{node_list, group_list_of, node_of, group_of, lists_of, products_of, product_of, stream_of, part_known, IsStreamOf, IsStreams, IsCell, IsOffer}
@@ -25,6 +25,18 @@ use Rattle.suffix_streams.proofs.Entries.{child_in, named_stream}
 pub first_of : {A : Type 0} (xs : List A) → 0 < length xs → (x : A) × (x ≡ get_or xs 0 x)
 first_of [] l = absurd (omega arith)
 first_of (x ∷ xs) l = (x, refl)
+
+module _ {R : Type 0} (d : ℕ) (key : R → KeyOf d 16) (t : List (NodeView R)) (es : List (Linked (Found R))) (nodes : List (NodeStreamsView R)) (h : IsStreams d key t es nodes) (v r c : ℕ) (l : v < length t) (row : r < rows t v) (in_kids : c < child_count t v) (i : ℕ) where
+  -- an entry of the group that a row names for a child is the group's first one if it is the first one of any group
+  pub named_head : group_of es i ≡ group_named t v r c → HasHead (lists_of nodes (child t v c)) i → i ≡ (stream_of nodes (child t v c) (group_named t v r c)).head
+  named_head own (g, in_groups, e) =
+      let inside = (kid d key t h.tree v c in_kids).within in
+      let s : IsStreamOf d key t es nodes (child t v c) g = h.streams (child t v c) g inside (omega (arith, in_groups, h.all_streams (child t v c) inside)) in
+      let same : g ≡ group_named t v r c = sym s.head_group ∙ ap (λ z. group_of es z) (sym e) ∙ own in
+      e ∙ ap (λ z. (stream_of nodes (child t v c) z).head) same
+
+  pub head_of_named : i ≡ (stream_of nodes (child t v c) (group_named t v r c)).head → HasHead (lists_of nodes (child t v c)) i
+  head_of_named e = (group_named t v r c, omega (arith, named_stream d key t es nodes h v r c l row in_kids, h.all_streams (child t v c) (kid d key t h.tree v c in_kids).within), e)
 
 module _ {R : Type 0} (d : ℕ) (key : R → KeyOf d 16) (t : List (NodeView R)) (es : List (Linked (Found R))) (nodes : List (NodeStreamsView R)) (h : IsStreams d key t es nodes) (v r c : ℕ)
     (l : v < length t) (row : r < rows t v) (in_row : c < length (products_of nodes v r)) (cell : Cell) (some : 0 < length (product_of nodes v r c).frontier)
@@ -55,22 +67,24 @@ module _ {R : Type 0} (d : ℕ) (key : R → KeyOf d 16) (t : List (NodeView R))
       subst (λ (z : Cell). IsCell d key t es nodes v r c z) (sym m.2)
       (record { left = m.1; right = omega (arith, e, s.head_in); node = ap (λ z. node_of es z) e ∙ s.head_node; group = ap (λ z. group_of es z) e ∙ s.head_group })
 
--- What is beside a cell, by the head of the child's stream. In the first product one left part is known, so nothing is beside, whatever entry was given.
-pub at_head : (c known given head : ℕ) (cell : Cell) → (0 < c → given ≡ head) → (c ≡ 0 → known ≡ 1) → (o : Option Cell)
-    → MatchOption o (cell.right ≡ given → known ≤ cell.left + 1) (λ x. (cell.right ≡ given) × (cell.left + 1 < known) × (x ≡ record { left = cell.left + 1; right = given }))
+-- What is beside a cell, by the head of the child's stream. In the first product one left part is known, so nothing is beside, whatever was told.
+pub at_head : (c known head : ℕ) (cell : Cell) (beside : Bool) → (0 < c → IsTrue beside ↔ (cell.right ≡ head)) → (c ≡ 0 → known ≡ 1) → (o : Option Cell)
+    → MatchOption o (IsTrue beside → known ≤ cell.left + 1) (λ x. IsTrue beside × (cell.left + 1 < known) × (x ≡ record { left = cell.left + 1; right = cell.right }))
     → MatchOption o (cell.right ≡ head → known ≤ cell.left + 1) (λ x. (cell.right ≡ head) × (cell.left + 1 < known) × (x ≡ record { left = cell.left + 1; right = head }))
-at_head zero known given head cell same one None m = λ e. omega (arith, one refl)
-at_head zero known given head cell same one (Some x) m = absurd (omega (arith, m.1, one refl))
-at_head (suc c) known given head cell same one o m =
-    subst (λ h. MatchOption o (cell.right ≡ h → known ≤ cell.left + 1) (λ x. (cell.right ≡ h) × (cell.left + 1 < known) × (x ≡ record { left = cell.left + 1; right = h }))) (same (omega arith)) m
+at_head zero known head cell beside told one None m = λ e. omega (arith, one refl)
+at_head zero known head cell beside told one (Some x) m = absurd (omega (arith, m.1, one refl))
+at_head (suc c) known head cell beside told one None m = λ e. m ((told (omega arith)).1 e)
+at_head (suc c) known head cell beside told one (Some x) m =
+    let e : cell.right ≡ head = (told (omega arith)).0 m.0 in
+    (e, m.1, m.2 ∙ ap (λ (i : ℕ). (let z : Cell = record { left = cell.left + 1; right = i } in z)) e)
 
 -- if only one left part is known, no cell beside is offered
-pub none_beside : {R : Type 0} (d : ℕ) (key : R → KeyOf d 16) (t : List (NodeView R)) (es : List (Linked (Found R))) (v r c : ℕ) (cell : Cell) (head known : ℕ) → known ≤ 1 → (o : Option Cell) (e : Option (Entry R Cell))
-    → MatchOption o (cell.right ≡ head → known ≤ cell.left + 1) (λ x. (cell.right ≡ head) × (cell.left + 1 < known) × (x ≡ record { left = cell.left + 1; right = head })) → IsOffer d key t es v r c o e → IsSome e → ⊥
-none_beside d key t es v r c cell head known one (Some x) (Some e) m f s = omega (arith, one, m.1)
-none_beside d key t es v r c cell head known one (Some x) None m f s = f
-none_beside d key t es v r c cell head known one None (Some e) m f s = f
-none_beside d key t es v r c cell head known one None None m f s = cc
+pub none_beside : {R : Type 0} (d : ℕ) (key : R → KeyOf d 16) (t : List (NodeView R)) (es : List (Linked (Found R))) (v r c : ℕ) (cell : Cell) (beside : Bool) (known : ℕ) → known ≤ 1 → (o : Option Cell) (e : Option (Entry R Cell))
+    → MatchOption o (IsTrue beside → known ≤ cell.left + 1) (λ x. IsTrue beside × (cell.left + 1 < known) × (x ≡ record { left = cell.left + 1; right = cell.right })) → IsOffer d key t es v r c o e → IsSome e → ⊥
+none_beside d key t es v r c cell beside known one (Some x) (Some e) m f s = omega (arith, one, m.1)
+none_beside d key t es v r c cell beside known one (Some x) None m f s = f
+none_beside d key t es v r c cell beside known one None (Some e) m f s = f
+none_beside d key t es v r c cell beside known one None None m f s = cc
 
 module _ {R : Type 0} (nodes : List (NodeStreamsView R)) (v r c : ℕ) (m n : NodeStreamsView R) (in_nodes : v < length nodes) (at : m ≡ get_or nodes v m) (changed : n ≡ with_product m r c (product_at n r c)) where
   -- a change of one product, in terms of the lists

@@ -1,5 +1,5 @@
 -- The data of a node, as its callers see it.
-use Rattle.std.specs.Prelude.{ℕ, zero, suc, List, [], length, slice_set, slice_index_or}
+use Rattle.std.specs.Prelude.{◌≡◌, ◌<◌, ℕ, zero, suc, List, [], length, slice_set, slice_index_or}
 use Rattle.take2_heap.specs.declared.entry.Entry.{Entry}
 use Rattle.stream_cells.specs.declared.source.Source.{Source}
 use Rattle.suffix_streams.specs.ProductView.{ProductView}
@@ -19,6 +19,10 @@ module _ {R : Type 0} (n : NodeStreamsView R) where
 
   abbrev pub stream_at : ℕ → StreamView R
   stream_at g = slice_index_or n.streams g (record { head = 0; queue = []; room = 0 })
+
+  -- entry i is the first one of a group
+  abbrev pub HasHead : ℕ → Type 0
+  HasHead i = (g : ℕ) × (g < length n.streams) × (i ≡ (stream_at g).head)
 
   -- the number of known solutions of row r with its first c children
   abbrev pub known_of : ℕ → ℕ → ℕ

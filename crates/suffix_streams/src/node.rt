@@ -1,5 +1,5 @@
 //! The data of one node of the tree.
-ghost use Rattle.std.specs.Prelude.{◌≡◌, ℕ, ◌+◌, ◌*◌, ◌^◌, ◌<◌, ◌≤◌, ◌↔◌, None, [], ◌∷◌, ◌++◌, length, slice_set, slice_index, slice_index_or, OnOk, OnErr, IsSome, IfSome};
+ghost use Rattle.std.specs.Prelude.{◌≡◌, ℕ, ◌+◌, ◌*◌, ◌^◌, ◌<◌, ◌≤◌, ◌↔◌, None, [], ◌∷◌, ◌++◌, length, slice_set, slice_index, slice_index_or, OnOk, OnErr, IsSome, IfSome, IsTrue};
 ghost use Rattle.std.specs.List.Sorted.{IsPermutation};
 ghost use Rattle.rank_key.specs.Bits.{bit_length};
 ghost use Rattle.take2_heap.specs.Order.{IsLeast};
@@ -9,7 +9,7 @@ ghost use Rattle.stream_cells.specs.declared.cell.Cell.{Cell};
 ghost use Rattle.stream_cells.specs.declared.source.Source.{Source};
 ghost use Rattle.suffix_streams.specs.ProductView.{with_rank};
 ghost use Rattle.suffix_streams.specs.Firsts.{can_enter};
-ghost use Rattle.suffix_streams.specs.NodeStreamsView.{known_of, product_at, stream_at, with_product, with_queue};
+ghost use Rattle.suffix_streams.specs.NodeStreamsView.{HasHead, known_of, product_at, stream_at, with_product, with_queue};
 
 use crate::opened::RowProducts;
 use crate::product::Product;
@@ -76,6 +76,14 @@ impl<R: Rank, A: Allocator> NodeStreams<R, A> {
         self.first_head.later(group)
     }
 
+    /// Whether an entry is the first one of a group. Its name alone tells, so nothing of the entry
+    /// is read.
+    pub(crate) fn is_head(&self, entry: EntryId) -> bool
+        ensures { IsTrue result ↔ HasHead self.now entry }
+    {
+        entry.is_within(self.first_head, self.streams.len())
+    }
+
     /// The number of products of a row.
     pub(crate) fn product_count(&self, row: u32) -> usize
         ensures { result ≡ length (slice_index_or self.now.products row []) }
@@ -112,21 +120,6 @@ impl<R: Rank, A: Allocator> NodeStreams<R, A> {
             → result ≡ slice_index_or (product_at self.now row child).found place d }
     {
         self.product(row, child).cell(place)
-    }
-
-    /// What a sum's right part must be for another sum to be beside it: the right part of the
-    /// product's first sum. In the first product of a row no sum is beside another one, and `right`
-    /// is returned there.
-    pub(crate) fn head_beside(&self, row: u32, child: usize, right: EntryId) -> EntryId
-        requires child { child < length (slice_index_or self.now.products row []) }
-        requires some { 0 < length (product_at self.now row child).found }
-        ensures { (d : Cell) → 0 < child
-            → result ≡ (slice_index_or (product_at self.now row child).found 0 d).right }
-    {
-        if child == 0 {
-            return right;
-        }
-        self.cell(row, child, 0).right
     }
 
     /// The rank of this solution. The product must keep ranks.

@@ -1,5 +1,5 @@
 //! The next solution of a stream, and the steps at the nodes below it.
-ghost use Rattle.std.specs.Prelude.{◌≡◌, ◌≢◌, ℕ, ◌+◌, ◌*◌, ◌<◌, ◌≤◌, Option, None, cond, nat_eq, length, slice_set, slice_index, slice_index_or, IfOk, OnOk, OnErr, IsOk, IsSome};
+ghost use Rattle.std.specs.Prelude.{◌≡◌, ◌≢◌, ℕ, ◌+◌, ◌*◌, ◌<◌, ◌≤◌, ◌↔◌, Option, None, cond, nat_eq, length, slice_set, slice_index, slice_index_or, IfOk, MatchOption, OnOk, OnErr, IsOk, IsSome, IsTrue, IsFalse};
 ghost use Rattle.take2_heap.specs.declared.entry.Entry.{Entry};
 ghost use Rattle.tdp_core.specs.TreeView.{parent, rows, number as row_number, child_count, group_count, group_named, members};
 ghost use Rattle.tdp_core.specs.WellFormed.{IsTieFreeTree};
@@ -9,7 +9,7 @@ ghost use Rattle.suffix_streams.specs.Rankings.{child as child_node};
 ghost use Rattle.stream_cells.specs.declared.cell.Cell.{Cell};
 ghost use Rattle.stream_cells.specs.declared.source.Source.{Source};
 ghost use Rattle.suffix_streams.specs.TreeStreams.{IsStreams, node_of, group_of, next_of, node_size, lists_of, stream_of, product_of, products_of, part_known, row_known};
-ghost use Rattle.suffix_streams.specs.NodeStreamsView.{with_queue};
+ghost use Rattle.suffix_streams.specs.NodeStreamsView.{HasHead, with_queue};
 ghost use Rattle.suffix_streams.specs.Firsts.{can_enter};
 ghost use Rattle.suffix_streams.specs.Refusals.{AreUnstepped};
 ghost use Rattle.suffix_streams.specs.Growing.{IsStoreGrown, IsGrown, IsExtended, IsReached, IsAnswered, HasOtherProduct, AreQueuesGrown, IsWithinSteps, below_kids, kids_size};
@@ -187,12 +187,11 @@ impl<'t, R: Rank, A: Allocator + Clone> Solutions<'t, R, A> {
         let cell = top.tag;
         make_room(&self.alloc, &mut self.nodes, node, row, child)?;
         let below = self.after(cell.right, steps)?;
-        let lists = &self.nodes[node as usize];
-        let head = lists.head_beside(row, child, cell.right);
-        let known = lists.known(row, child);
-        let (earlier, next) = left_search(&cell, head, child, known);
+        let beside = has_beside(self.nodes.as_slice(), node, child, cell.right);
+        let known = self.nodes[node as usize].known(row, child);
+        let (earlier, next) = left_search(&cell, beside, child, known);
         self.extend(node, row, earlier, next, steps)?;
-        self.step(node, row, child, &top, below, head, steps);
+        self.step(node, row, child, &top, below, beside, steps);
         Ok(())
     }
 }
@@ -259,8 +258,8 @@ impl<'t, R: Rank, A: Allocator + Clone> Solutions<'t, R, A> {
     }
 
     /// Finds one more solution of a product, if there is one. `top` is the last one found, and
-    /// `below` is the entry after its right part. `head` is the first entry of the child's stream,
-    /// or any entry if the product is the row's first.
+    /// `below` is the entry after its right part. `beside` says whether that right part is the
+    /// first entry of the child's stream. It says nothing if the product is the row's first.
     fn step<L: Ledger>(
         &mut self,
         node: u32,
@@ -268,7 +267,7 @@ impl<'t, R: Rank, A: Allocator + Clone> Solutions<'t, R, A> {
         child: usize,
         top: &Entry<R, Cell>,
         below: Option<EntryId>,
-        head: EntryId,
+        beside: bool,
         steps: &mut Steps<L>,
     )
         requires formed { IsStreams R.KEYS R.key self.old.tree.now self.old.entries.entries
@@ -281,12 +280,12 @@ impl<'t, R: Rank, A: Allocator + Clone> Solutions<'t, R, A> {
         requires first { (d : Entry R Cell)
             → slice_index_or (product_of self.old.nodes.items node row child).frontier 0 d
             ≡ top.now }
-        requires head { 0 < child → head
+        requires beside { 0 < child → (IsTrue beside ↔ (top.now.tag.right
             ≡ (stream_of self.old.nodes.items (child_node self.old.tree.now node child)
-            (group_named self.old.tree.now node row child)).head }
+            (group_named self.old.tree.now node row child)).head)) }
         requires below { IsAnswered R.KEYS R.key self.old.tree.now self.old.entries.entries
             top.now.tag.right below }
-        requires across { 0 < child → top.now.tag.right ≡ head
+        requires across { 0 < child → IsTrue beside
             → IsReached R.KEYS R.key self.old.tree.now self.old.nodes.items node row child
             (top.now.tag.left + 1) }
         requires room { 0 < (product_of self.old.nodes.items node row child).room }
@@ -307,7 +306,7 @@ impl<'t, R: Rank, A: Allocator + Clone> Solutions<'t, R, A> {
     {
         let known = self.nodes[node as usize].known(row, child);
         let down = offer_below(&self.entries, top, below, steps);
-        let across = across_cell(&top.tag, head, known);
+        let across = cell_beside(&top.tag, beside, known);
         let across = offered(
             self.tree,
             self.nodes.as_slice(),
@@ -456,18 +455,56 @@ fn make_room<R: Rank, A: Allocator + Clone>(
     nodes[node as usize].reserve_product(alloc, row, child)
 }
 
-/// The search in the product before this one that a step from `cell` needs, as a number of children
-/// and a place. It is for the next left part if the right part is the head, else for none. `known`
-/// is the number of known left parts.
-fn left_search(cell: &Cell, head: EntryId, child: usize, known: u32) -> (usize, u32)
-    requires { cell.now.left < known }
-    ensures beside { cell.now.right ≡ head → (result.0 ≡ child) × (result.1 ≡ cell.now.left + 1) }
-    ensures apart { cell.now.right ≢ head → (result.0 ≡ 0) × (result.1 ≡ 0) }
+/// Whether the sums with this right part have others beside them in a row's product number `child`,
+/// from 0: whether the right part is the first entry of its stream. In a row's first product no sum
+/// is beside another one, since there is one left part.
+fn has_beside<R: Rank, A: Allocator>(
+    nodes: &[NodeStreams<R, A>],
+    node: u32,
+    child: usize,
+    right: EntryId,
+) -> bool
+    requires node { node < length nodes.now }
+    requires child { child < length (lists_of nodes.now node).children }
+    requires below { slice_index (lists_of nodes.now node).children child < length nodes.now }
+    ensures { IsTrue result ↔ ((0 < child)
+        × HasHead (lists_of nodes.now (slice_index (lists_of nodes.now node).children child))
+        right) }
 {
-    if cell.right == head {
+    if child == 0 {
+        return false;
+    }
+    let child_node = nodes[node as usize].child(child);
+    nodes[child_node as usize].is_head(right)
+}
+
+/// The search in the product before this one that a step from `cell` needs, as a number of children
+/// and a place. It is for the next left part if the step can go `beside` the cell, else for none.
+/// `known` is the number of known left parts.
+fn left_search(cell: &Cell, beside: bool, child: usize, known: u32) -> (usize, u32)
+    requires { cell.now.left < known }
+    ensures beside { IsTrue beside → (result.0 ≡ child) × (result.1 ≡ cell.now.left + 1) }
+    ensures apart { IsFalse beside → (result.0 ≡ 0) × (result.1 ≡ 0) }
+{
+    if beside {
         (child, next_place(cell.left, known))
     } else {
         (0, 0)
+    }
+}
+
+/// The cell beside this one, if the step can go there and the next left part is one of the `known`
+/// ones.
+fn cell_beside(cell: &Cell, beside: bool, known: u32) -> Option<Cell>
+    requires { cell.now.left < known }
+    ensures { MatchOption result (IsTrue beside → known ≤ cell.now.left + 1)
+        (λ c. (IsTrue beside) × (cell.now.left + 1 < known)
+        × (c ≡ record { left = cell.now.left + 1; right = cell.now.right })) }
+{
+    if beside {
+        across_cell(cell, cell.right, known)
+    } else {
+        None
     }
 }
 

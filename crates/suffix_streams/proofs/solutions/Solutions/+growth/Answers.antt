@@ -1,5 +1,4 @@
-use Rattle.std.proofs.Common.{◌≡◌, ℕ, suc, ◌+◌, ◌-◌, ◌*◌, ◌<◌, ◌≤◌, Some, None, is_some, OnOk, List, [], length, get_or, refl, sym, ap, ◌∙◌, subst, inl, inr, arith}
-use Rattle.std.proofs.lemmas.Bool.{cases_eq}
+use Rattle.std.proofs.Common.{◌≡◌, ◌↔◌, ◌⊎◌, IsTrue, ℕ, suc, ◌+◌, ◌-◌, ◌*◌, ◌<◌, ◌≤◌, Some, None, is_some, OnOk, List, [], length, get_or, slice_index, refl, sym, ap, ◌∙◌, subst, inl, inr, arith}
 use Rattle.stream_store.specs.declared.entry.Linked.{Linked}
 use Rattle.rank_key.specs.Bits.{bit_length}
 use Rattle.tdp_core.specs.TreeView.{NodeView, parent, rows, number, members, child_count, group_named}
@@ -8,21 +7,21 @@ use Rattle.tdp_core.proofs.Children.{kids_below_most}
 use Rattle.suffix_streams.specs.declared.stream.Found.{Found}
 use Rattle.suffix_streams.specs.ProductView.{ProductView}
 use Rattle.suffix_streams.specs.StreamView.{StreamView}
-use Rattle.suffix_streams.specs.NodeStreamsView.{product_at, stream_at, known_of}
+use Rattle.suffix_streams.specs.NodeStreamsView.{HasHead, product_at, stream_at, known_of}
 use Rattle.suffix_streams.specs.Firsts.{can_enter}
 use Rattle.suffix_streams.specs.Rankings.{child}
-use Rattle.suffix_streams.specs.TreeStreams.{group_of, next_of, node_of, stream_of, part_known, row_known, IsStreams}
+use Rattle.suffix_streams.specs.TreeStreams.{group_of, next_of, node_of, stream_of, part_known, row_known, lists_of, IsStreams}
 use Rattle.suffix_streams.specs.Growing.{IsGrown, IsExtended, IsReached, IsAnswered}
 use Rattle.suffix_streams.proofs.Heads.{lists_at}
 use Rattle.suffix_streams.proofs.Stores.{any_default}
 use Rattle.suffix_streams.proofs.StepCells.{no_top}
 use Rattle.suffix_streams.proofs.Searching.{answered_stays, extended_none, last_of_all, sums_done, reached_none}
 use Rattle.suffix_streams.proofs.NextCall.{IsOwned, IsTopRead, IsRowOpen, IsRowCounted, IsRowSearched, owned, top_read, row_within, row_open, row_counted, row_searched, only_opened, searched_grown, searched_queues, searched_steps, searched_stream, searched_queue, linked_grown, linked_queues}
-use Rattle.suffix_streams.proofs.RowSearch.{IsRoomMade, IsChildAsked, IsLeftSearched, room_made, made_none, made_queues, made_unstepped, child_asked, asked_extended, asked_queues, asked_within, asked_unstepped, asked_some, asked_right, left_searched, left_extended, left_queues, left_steps, one_more_extended, one_more_queues}
+use Rattle.suffix_streams.proofs.RowSearch.{IsRoomMade, IsChildAsked, IsLeftSearched, room_made, made_none, made_queues, made_unstepped, child_asked, asked_extended, asked_queues, asked_within, asked_unstepped, asked_beside, left_searched, left_extended, left_queues, left_steps, one_more_extended, one_more_queues}
 use Rattle.suffix_streams.proofs.Errors.{none_given, none_done}
 use Rattle.suffix_streams.proofs.SearchCosts.{none_within}
 use Rattle.suffix_streams.proofs.SearchRoom.{unstepped_on}
-use Rattle.suffix_streams.proofs.SearchSteps.{searched, all_or_none, left_reached, left_within, none_within_known, count_few}
+use Rattle.suffix_streams.proofs.SearchSteps.{searched, left_or_none, all_or_none, left_reached, left_within, none_within_known, count_few}
 use Rattle.suffix_streams.proofs.SearchCalls.{on_ok, on_err, not_some, next_is, opened_grown}
 use Rattle.suffix_streams.proofs.solutions.Solutions.+growth.Given.{Over}
 use Rattle.suffix_streams.proofs.solutions.Solutions.+growth.Goals.{after-After-extend, after-After-get-found, after-After-open_row, after-After-child_count-count, after-In-Some-top, search-After-after, search-After-extend, search-After-make_room, extend-then-place-known-via-then-place-known, extend-then-place-known-via-else-place-known+then-count-eq0}
@@ -57,10 +56,13 @@ module _ (g : Over) (t : ℕ) where
   child_of : (c : search-After-after g t) → IsRoomMade g.R.Rank.KEYS g.R.Rank.key c.args.self.now.tree.now c.args.self.now.entries.entries c.args.self.now.nodes.items c.make_room.new.nodes.items c.args.node c.args.row c.args.count c.in-Some.top → IsChildAsked g.R.Rank.KEYS g.R.Rank.key c.args.self.now.tree.now c.args.self.now.entries.entries c.after.new.self.entries.entries c.make_room.new.nodes.items c.after.new.self.nodes.items c.args.node c.args.row c.args.count c.in-Some.top.tag c.args.steps.now c.after.new.steps
   child_of c a = child_asked a c.after.new.self.tree.now c.after.new.self.entries.entries c.after.new.self.nodes.items c.args.steps.now c.after.new.steps c.after.ensures.tree c.after.ensures.formed c.after.ensures.grown c.after.ensures.queues c.after.ensures.cost
 
+  left_is : (c : search-After-extend g t) → ((c.left_search-earlier.result.0 ≡ c.args.count - 1) × (c.left_search-earlier.result.1 ≡ c.in-Some.top.tag.left + 1)) ⊎ ((c.left_search-earlier.result.0 ≡ 0) × (c.left_search-earlier.result.1 ≡ 0))
+  left_is c = left_or_none c.has_beside-beside.result c.left_search-earlier.result.0 (c.args.count - 1) c.left_search-earlier.result.1 (c.in-Some.top.tag.left + 1) c.left_search-earlier.ensures.beside c.left_search-earlier.ensures.apart
+
   left_of : (c : search-After-extend g t) → IsRoomMade g.R.Rank.KEYS g.R.Rank.key c.args.self.now.tree.now c.args.self.now.entries.entries c.args.self.now.nodes.items c.make_room.new.nodes.items c.args.node c.args.row c.args.count c.in-Some.top → IsChildAsked g.R.Rank.KEYS g.R.Rank.key c.args.self.now.tree.now c.args.self.now.entries.entries c.after.new.self.entries.entries c.make_room.new.nodes.items c.after.new.self.nodes.items c.args.node c.args.row c.args.count c.in-Some.top.tag c.args.steps.now c.after.new.steps → IsLeftSearched g.R.Rank.KEYS g.R.Rank.key c.args.self.now.tree.now c.extend.new.self.tree.now c.after.new.self.entries.entries c.extend.new.self.entries.entries c.make_room.new.nodes.items c.after.new.self.nodes.items c.extend.new.self.nodes.items c.args.node c.args.row c.args.count c.after.new.steps c.extend.new.steps
   left_of c a b =
       let kids : c.args.count ≤ child_count c.args.self.now.tree.now c.args.node = count_few g.R.Rank.KEYS g.R.Rank.key c.args.self.now.tree.now c.args.self.now.entries.entries c.args.self.now.nodes.items c.requires.formed c.args.node c.args.row c.args.count c.requires.node c.requires.row c.requires.count in
-      left_searched a b (searched g.R.Rank.KEYS g.R.Rank.key c.args.self.now.tree.now c.after.new.self.tree.now c.args.node c.args.row (c.args.count - 1) c.after.new.self.entries.entries c.after.new.self.nodes.items c.extend.new.self.tree.now c.extend.new.self.entries.entries c.extend.new.self.nodes.items c.left_search-earlier.result.0 c.after.new.steps c.extend.new.steps c.after.ensures.tree c.extend.ensures.tree (omega (arith, kids)) (all_or_none c.in-Some.top.tag.right c.head_beside-head.result c.left_search-earlier.result.0 (c.args.count - 1) c.left_search-earlier.result.1 (c.in-Some.top.tag.left + 1) c.left_search-earlier.ensures.beside c.left_search-earlier.ensures.apart) c.extend.ensures.formed c.extend.ensures.extended c.extend.ensures.queues c.extend.ensures.cost)
+      left_searched a b (searched g.R.Rank.KEYS g.R.Rank.key c.args.self.now.tree.now c.after.new.self.tree.now c.args.node c.args.row (c.args.count - 1) c.after.new.self.entries.entries c.after.new.self.nodes.items c.extend.new.self.tree.now c.extend.new.self.entries.entries c.extend.new.self.nodes.items c.left_search-earlier.result.0 c.after.new.steps c.extend.new.steps c.after.ensures.tree c.extend.ensures.tree (omega (arith, kids)) (all_or_none c.left_search-earlier.result.0 (c.args.count - 1) c.left_search-earlier.result.1 (c.in-Some.top.tag.left + 1) (left_is c)) c.extend.ensures.formed c.extend.ensures.extended c.extend.ensures.queues c.extend.ensures.cost)
 
 pub after-returns-in-Some-clause-answer : goal.after-returns-in-Some-clause-answer
 after-returns-in-Some-clause-answer g t c =
@@ -386,9 +388,9 @@ search-extend-requires g t c κs within =
     let b = child_of g t at.After-after a in
     let in_tree = subst (λ (z : List (NodeView g.row.R.Denot)). c.args.node < length z) (sym c.after.ensures.tree) c.requires.node in
     let in_node = subst (λ (z : List (NodeView g.row.R.Denot)). c.args.row < rows z c.args.node) (sym c.after.ensures.tree) c.requires.row in
-    elim (cases_eq c.in-Some.top.tag.right c.head_beside-head.result) [
-      | inl e ↦ (omega (arith, c.decreases, a.last, ap length c.after.ensures.tree, (c.left_search-earlier.ensures.beside e).0), (within.0, (within.1.0, (within.1.1, (c.after.ensures.formed, (subst IsTieFreeTree (sym c.after.ensures.tree) c.requires.tie_free, (in_tree, (in_node, (omega (arith, b.in_row, (c.left_search-earlier.ensures.beside e).0), left_within c.after.new.self.nodes.items c.args.node c.args.row (c.args.count - 1) c.left_search-earlier.result.0 c.left_search-earlier.result.1 c.in-Some.top.tag.left b.left (c.left_search-earlier.ensures.beside e).0 (c.left_search-earlier.ensures.beside e).1)))))))))
-      | inr n ↦ (omega (arith, c.decreases, a.last, ap length c.after.ensures.tree, (c.left_search-earlier.ensures.apart n).0), (within.0, (within.1.0, (within.1.1, (c.after.ensures.formed, (subst IsTieFreeTree (sym c.after.ensures.tree) c.requires.tie_free, (in_tree, (in_node, (omega (arith, (c.left_search-earlier.ensures.apart n).0), none_within_known c.after.new.self.nodes.items c.args.node c.args.row c.left_search-earlier.result.0 c.left_search-earlier.result.1 (c.left_search-earlier.ensures.apart n).1)))))))))
+    elim (left_or_none c.has_beside-beside.result c.left_search-earlier.result.0 (c.args.count - 1) c.left_search-earlier.result.1 (c.in-Some.top.tag.left + 1) c.left_search-earlier.ensures.beside c.left_search-earlier.ensures.apart) [
+      | inl e ↦ (omega (arith, c.decreases, a.last, ap length c.after.ensures.tree, e.0), (within.0, (within.1.0, (within.1.1, (c.after.ensures.formed, (subst IsTieFreeTree (sym c.after.ensures.tree) c.requires.tie_free, (in_tree, (in_node, (omega (arith, b.in_row, e.0), left_within c.after.new.self.nodes.items c.args.node c.args.row (c.args.count - 1) c.left_search-earlier.result.0 c.left_search-earlier.result.1 c.in-Some.top.tag.left b.left e.0 e.1)))))))))
+      | inr n ↦ (omega (arith, c.decreases, a.last, ap length c.after.ensures.tree, n.0), (within.0, (within.1.0, (within.1.1, (c.after.ensures.formed, (subst IsTieFreeTree (sym c.after.ensures.tree) c.requires.tie_free, (in_tree, (in_node, (omega (arith, n.0), none_within_known c.after.new.self.nodes.items c.args.node c.args.row c.left_search-earlier.result.0 c.left_search-earlier.result.1 n.1)))))))))
     ]
 
 pub extend-search-requires : goal.extend-search-requires
@@ -572,14 +574,14 @@ search-step-requires-clause-first g t c =
     let l = left_of g t at.After-extend a b in
     λ x. ap (λ (z : ProductView g.row.R.Denot). get_or z.frontier 0 x) l.product ∙ a.first x
 
-pub search-step-requires-clause-head : goal.search-step-requires-clause-head
-search-step-requires-clause-head g t c later =
-    let at = goal.at.search-step-requires-clause-head g t c in
+pub search-step-requires-clause-beside : goal.search-step-requires-clause-beside
+search-step-requires-clause-beside g t c later =
+    let at = goal.at.search-step-requires-clause-beside g t c in
     let a = room_of g t at.After-make_room in
     let b = child_of g t at.After-after a in
     let l = left_of g t at.After-extend a b in
-    let head = asked_right a b c.requires.tie_free c.index-lists.result.now c.head_beside-head.result c.index-lists.ensures (λ first. c.head_beside-head.ensures first later) in
-    subst (λ (y : List (NodeView g.row.R.Denot)). c.head_beside-head.result ≡ (stream_of c.extend.new.self.nodes.items (child y c.args.node (c.args.count - 1)) (group_named y c.args.node c.args.row (c.args.count - 1))).head) (sym l.searched.tree) (head ∙ sym l.head)
+    let told = subst (λ z. IsTrue c.has_beside-beside.result ↔ (c.in-Some.top.tag.right ≡ z)) (sym l.head) (asked_beside a b c.has_beside-beside.result (subst (λ n. IsTrue c.has_beside-beside.result ↔ ((0 < c.args.count - 1) × HasHead (lists_of n (slice_index (lists_of n c.args.node).children (c.args.count - 1))) c.in-Some.top.tag.right)) c.as_slice.ensures.value c.has_beside-beside.ensures) later) in
+    subst (λ (y : List (NodeView g.row.R.Denot)). IsTrue c.has_beside-beside.result ↔ (c.in-Some.top.tag.right ≡ (stream_of c.extend.new.self.nodes.items (child y c.args.node (c.args.count - 1)) (group_named y c.args.node c.args.row (c.args.count - 1))).head)) (sym l.searched.tree) told
 
 pub search-step-requires-clause-below : goal.search-step-requires-clause-below
 search-step-requires-clause-below g t c =
@@ -664,28 +666,29 @@ search-left_search-earlier-requires g t c =
     let at = goal.at.search-left_search-earlier-requires g t c in
     let a = room_of g t at.After-make_room in
     let b = child_of g t at.After-after a in
-    omega (arith, b.left, c.known-known.ensures, ap (λ z. known_of z c.args.row (c.args.count - 1)) (lists_at c.after.new.self.nodes.items c.args.node c.index-lists.result.now c.index-lists.ensures (omega (arith, c.requires.node, b.formed.all_nodes))))
+    omega (arith, b.left, c.known-known.ensures, ap (λ z. known_of z c.args.row (c.args.count - 1)) (lists_at c.after.new.self.nodes.items c.args.node c.index-2.result.now c.index-2.ensures (omega (arith, c.requires.node, b.formed.all_nodes))))
 
-pub search-head_beside-head-requires-clause-child : goal.search-head_beside-head-requires-clause-child
-search-head_beside-head-requires-clause-child g t c =
-    let at = goal.at.search-head_beside-head-requires-clause-child g t c in
+pub search-has_beside-beside-requires-clause-child : goal.search-has_beside-beside-requires-clause-child
+search-has_beside-beside-requires-clause-child g t c =
+    let at = goal.at.search-has_beside-beside-requires-clause-child g t c in
     let a = room_of g t at.After-make_room in
     let b = child_of g t at.After-after a in
-    omega (arith, b.in_row, ap (λ z. length (get_or z.products c.args.row [])) (lists_at c.after.new.self.nodes.items c.args.node c.index-lists.result.now c.index-lists.ensures (omega (arith, c.requires.node, b.formed.all_nodes))))
+    subst (λ n. c.args.count - 1 < length (lists_of n c.args.node).children) (sym c.as_slice.ensures.value) (omega (arith, a.in_kids, b.formed.all_children c.args.node c.requires.node))
 
-pub search-head_beside-head-requires-clause-some : goal.search-head_beside-head-requires-clause-some
-search-head_beside-head-requires-clause-some g t c =
-    let at = goal.at.search-head_beside-head-requires-clause-some g t c in
+pub search-has_beside-beside-requires-clause-below : goal.search-has_beside-beside-requires-clause-below
+search-has_beside-beside-requires-clause-below g t c =
+    let at = goal.at.search-has_beside-beside-requires-clause-below g t c in
     let a = room_of g t at.After-make_room in
     let b = child_of g t at.After-after a in
-    asked_some a b c.index-lists.result.now c.index-lists.ensures
+    subst (λ n. slice_index (lists_of n c.args.node).children (c.args.count - 1) < length n) (sym c.as_slice.ensures.value)
+    (omega (arith, b.formed.children c.args.node (c.args.count - 1) c.requires.node a.in_kids, a.child_within, b.formed.all_nodes))
 
 pub search-known-known-requires : goal.search-known-known-requires
 search-known-known-requires g t c =
     let at = goal.at.search-known-known-requires g t c in
     let a = room_of g t at.After-make_room in
     let b = child_of g t at.After-after a in
-    omega (arith, b.in_row, ap (λ z. length (get_or z.products c.args.row [])) (lists_at c.after.new.self.nodes.items c.args.node c.index-lists.result.now c.index-lists.ensures (omega (arith, c.requires.node, b.formed.all_nodes))))
+    omega (arith, b.in_row, ap (λ z. length (get_or z.products c.args.row [])) (lists_at c.after.new.self.nodes.items c.args.node c.index-2.result.now c.index-2.ensures (omega (arith, c.requires.node, b.formed.all_nodes))))
 
 pub extend-index-requires : goal.extend-index-requires
 extend-index-requires g t c =
@@ -880,8 +883,8 @@ pub search-overflow_sub-child : goal.search-overflow_sub-child
 search-overflow_sub-child g t c =
     omega (arith, c.requires.some)
 
-pub search-index-lists-requires : goal.search-index-lists-requires
-search-index-lists-requires g t c =
+pub search-index-requires-2 : goal.search-index-requires-2
+search-index-requires-2 g t c =
     omega (arith, c.requires.node, c.after.ensures.formed.all_nodes, ap length c.after.ensures.tree)
 
 pub search-returns-in_err-below-clause-tree : goal.search-returns-in_err-below-clause-tree

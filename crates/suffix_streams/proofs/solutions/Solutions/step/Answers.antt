@@ -33,7 +33,7 @@ module _ (g : Over) where
   -- the place of the next left part is reached if the right part is the head
   ready_of : (c : After-step_product g) → c.args.top.now.tag.right ≡ head_of c.args.self.now.tree.now c.args.self.now.nodes.items c.args.node c.args.row c.args.child → IsReached g.R.Rank.KEYS g.R.Rank.key c.args.self.now.tree.now c.args.self.now.nodes.items c.args.node c.args.row c.args.child (c.args.top.now.tag.left + 1)
   ready_of c e = elim (cases_lt 0 c.args.child) [
-    | inl later ↦ c.requires.across later (e ∙ sym (c.requires.head later))
+    | inl later ↦ c.requires.across later ((c.requires.beside later).1 e)
     | inr none ↦
         let first : 0 ≡ c.args.child = omega (arith, none) in
         subst (λ k. IsReached g.R.Rank.KEYS g.R.Rank.key c.args.self.now.tree.now c.args.self.now.nodes.items c.args.node c.args.row k (c.args.top.now.tag.left + 1)) first
@@ -52,8 +52,8 @@ module _ (g : Over) where
 
   passed_of : (c : After-step_product g) → IsProductPassed g.R.Rank.KEYS g.R.Rank.key c.args.self.now.tree.now c.args.self.now.entries.entries c.args.self.now.nodes.items c.args.node c.args.row c.args.child (passed c)
   passed_of c =
-      product_passed g.R.Rank.KEYS g.R.Rank.key c.args.self.now.tree.now c.args.self.now.entries.entries c.args.self.now.nodes.items c.args.node c.args.row c.args.child (passed c) c.index.result.now c.index_mut.result.now c.known-known.result c.args.top.now.tag c.args.below (head_of c.args.self.now.tree.now c.args.self.now.nodes.items c.args.node c.args.row c.args.child) (cell_down c.args.top.now.tag c.args.below) c.across_cell-across.result c.offer_below-down.result c.offered-across.result
-      c.requires.formed c.requires.node c.requires.row c.requires.child c.requires.top (λ x. ap (λ e. e.tag) (c.requires.first x)) refl c.requires.below (ready_of c) c.index.ensures c.index_mut.ensures.value c.known-known.ensures refl (at_head c.args.child c.known-known.result c.args.head (head_of c.args.self.now.tree.now c.args.self.now.nodes.items c.args.node c.args.row c.args.child) c.args.top.now.tag c.requires.head (λ none. c.known-known.ensures ∙ ap (λ k. known_of c.index.result.now c.args.row k) none) c.across_cell-across.result c.across_cell-across.ensures) (exchanged_offer g.R.Rank.KEYS g.R.Rank.key c.args.self.now.tree.now c.args.self.now.entries.entries c.args.self.now.nodes.items c.requires.formed c.args.node c.args.row c.args.child c.requires.node c.requires.row c.requires.child c.args.top.now c.requires.top c.requires.first c.args.below c.offer_below-down.result c.requires.below c.offer_below-down.ensures.offer) c.offered-across.ensures.offer refl refl c.step_product.ensures.moved c.step_product.ensures.least
+      product_passed g.R.Rank.KEYS g.R.Rank.key c.args.self.now.tree.now c.args.self.now.entries.entries c.args.self.now.nodes.items c.args.node c.args.row c.args.child (passed c) c.index.result.now c.index_mut.result.now c.known-known.result c.args.top.now.tag c.args.below (head_of c.args.self.now.tree.now c.args.self.now.nodes.items c.args.node c.args.row c.args.child) (cell_down c.args.top.now.tag c.args.below) c.cell_beside-across.result c.offer_below-down.result c.offered-across.result
+      c.requires.formed c.requires.node c.requires.row c.requires.child c.requires.top (λ x. ap (λ e. e.tag) (c.requires.first x)) refl c.requires.below (ready_of c) c.index.ensures c.index_mut.ensures.value c.known-known.ensures refl (at_head c.args.child c.known-known.result (head_of c.args.self.now.tree.now c.args.self.now.nodes.items c.args.node c.args.row c.args.child) c.args.top.now.tag c.args.beside c.requires.beside (λ none. c.known-known.ensures ∙ ap (λ k. known_of c.index.result.now c.args.row k) none) c.cell_beside-across.result c.cell_beside-across.ensures) (exchanged_offer g.R.Rank.KEYS g.R.Rank.key c.args.self.now.tree.now c.args.self.now.entries.entries c.args.self.now.nodes.items c.requires.formed c.args.node c.args.row c.args.child c.requires.node c.requires.row c.requires.child c.args.top.now c.requires.top c.requires.first c.args.below c.offer_below-down.result c.requires.below c.offer_below-down.ensures.offer) c.offered-across.ensures.offer refl refl c.step_product.ensures.moved c.step_product.ensures.least
 
   -- the nodes then
   changed_of : (c : After-step_product g) → slice_set c.args.self.now.nodes.items c.args.node c.step_product.new.self ≡ slice_set c.args.self.now.nodes.items c.args.node (with_product (lists_of c.args.self.now.nodes.items c.args.node) c.args.row c.args.child (product_at c.step_product.new.self c.args.row c.args.child))
@@ -71,9 +71,9 @@ offer_below-down-requires-clause-below g c = below_right g.R.Rank.KEYS g.R.Rank.
 pub offer_below-down-requires-clause-exchange : goal.offer_below-down-requires-clause-exchange
 offer_below-down-requires-clause-exchange g c = can_exchange g.R.Rank.KEYS g.R.Rank.key c.args.self.now.tree.now c.args.self.now.entries.entries c.args.self.now.nodes.items c.requires.formed c.args.node c.args.row c.args.child c.requires.node c.requires.row c.requires.child c.args.top.now c.requires.top c.requires.first c.args.below c.requires.below
 
-pub across_cell-across-requires : goal.across_cell-across-requires
-across_cell-across-requires g c =
-    let at = goal.at.across_cell-across-requires g c in
+pub cell_beside-across-requires : goal.cell_beside-across-requires
+cell_beside-across-requires g c =
+    let at = goal.at.cell_beside-across-requires g c in
     let known = known_is g at.After-known-known in
     omega (arith, known, (cell_known g.R.Rank.KEYS g.R.Rank.key c.args.self.now.tree.now c.args.self.now.entries.entries c.args.self.now.nodes.items c.requires.formed c.args.node c.args.row c.args.child c.requires.node c.requires.row c.requires.child c.args.top.now.tag c.requires.top (λ x. ap (λ e. e.tag) (c.requires.first x))).left)
 
@@ -85,10 +85,10 @@ offered-across-requires-clause-cell g c =
     let at = goal.at.offered-across-requires-clause-cell g c in
     let known = known_is g at.After-known-known in
     let head = head_of c.args.self.now.tree.now c.args.self.now.nodes.items c.args.node c.args.row c.args.child in
-    let beside = subst (λ k. MatchOption c.across_cell-across.result (c.args.top.now.tag.right ≡ head → k ≤ c.args.top.now.tag.left + 1) (λ x. (c.args.top.now.tag.right ≡ head) × (c.args.top.now.tag.left + 1 < k) × (x ≡ record { left = c.args.top.now.tag.left + 1; right = head }))) known
-    (at_head c.args.child c.known-known.result c.args.head head c.args.top.now.tag c.requires.head (λ none. c.known-known.ensures ∙ ap (λ k. known_of c.index.result.now c.args.row k) none) c.across_cell-across.result c.across_cell-across.ensures) in
-    subst (λ (z : List (NodeStreamsView g.row.R.Denot)). IfSome c.across_cell-across.result (IsCell g.R.Rank.KEYS g.R.Rank.key c.args.self.now.tree.now c.args.self.now.entries.entries z c.args.node c.args.row c.args.child)) (sym c.as_slice.ensures.value)
-    (beside_cell_known g.R.Rank.KEYS g.R.Rank.key c.args.self.now.tree.now c.args.self.now.entries.entries c.args.self.now.nodes.items c.requires.formed c.args.node c.args.row c.args.child c.requires.node c.requires.row c.requires.child c.args.top.now.tag c.requires.top (λ x. ap (λ e. e.tag) (c.requires.first x)) (head_of c.args.self.now.tree.now c.args.self.now.nodes.items c.args.node c.args.row c.args.child) refl c.across_cell-across.result beside)
+    let beside = subst (λ k. MatchOption c.cell_beside-across.result (c.args.top.now.tag.right ≡ head → k ≤ c.args.top.now.tag.left + 1) (λ x. (c.args.top.now.tag.right ≡ head) × (c.args.top.now.tag.left + 1 < k) × (x ≡ record { left = c.args.top.now.tag.left + 1; right = head }))) known
+    (at_head c.args.child c.known-known.result head c.args.top.now.tag c.args.beside c.requires.beside (λ none. c.known-known.ensures ∙ ap (λ k. known_of c.index.result.now c.args.row k) none) c.cell_beside-across.result c.cell_beside-across.ensures) in
+    subst (λ (z : List (NodeStreamsView g.row.R.Denot)). IfSome c.cell_beside-across.result (IsCell g.R.Rank.KEYS g.R.Rank.key c.args.self.now.tree.now c.args.self.now.entries.entries z c.args.node c.args.row c.args.child)) (sym c.as_slice.ensures.value)
+    (beside_cell_known g.R.Rank.KEYS g.R.Rank.key c.args.self.now.tree.now c.args.self.now.entries.entries c.args.self.now.nodes.items c.requires.formed c.args.node c.args.row c.args.child c.requires.node c.requires.row c.requires.child c.args.top.now.tag c.requires.top (λ x. ap (λ e. e.tag) (c.requires.first x)) (head_of c.args.self.now.tree.now c.args.self.now.nodes.items c.args.node c.args.row c.args.child) refl c.cell_beside-across.result beside)
 
 pub index-requires : goal.index-requires
 index-requires g c =
@@ -123,7 +123,7 @@ step_product-requires-clause-frontier_room g c _ across =
       | inr l ↦
           let first : c.args.child ≡ 0 = omega (arith, l) in
           let one : c.known-known.result ≡ 1 = c.known-known.ensures ∙ ap (λ k. known_of c.index.result.now c.args.row k) first in
-          absurd (none_beside g.R.Rank.KEYS g.R.Rank.key c.args.self.now.tree.now c.args.self.now.entries.entries c.args.node c.args.row c.args.child c.args.top.now.tag c.args.head c.known-known.result (omega (arith, one)) c.across_cell-across.result c.offered-across.result c.across_cell-across.ensures c.offered-across.ensures.offer across)
+          absurd (none_beside g.R.Rank.KEYS g.R.Rank.key c.args.self.now.tree.now c.args.self.now.entries.entries c.args.node c.args.row c.args.child c.args.top.now.tag c.args.beside c.known-known.result (omega (arith, one)) c.cell_beside-across.result c.offered-across.result c.cell_beside-across.ensures c.offered-across.ensures.offer across)
     ]
 
 pub step_product-requires-clause-child : goal.step_product-requires-clause-child
