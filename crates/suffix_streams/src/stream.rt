@@ -18,8 +18,8 @@ use stream_cells::{Cell, Source};
 use stream_model::Queue;
 use take2_heap::Entry;
 
-/// What an entry of the store keeps of the source of its solution: what the solution's rows are read
-/// from. Its member and place in the group are left out, which only a queue needs.
+/// What an entry of the store keeps of the source of its solution, and what the solution's rows are
+/// read from. The member and the place in the group are left out, since only a queue needs them.
 #[derive(Clone, Copy)]
 pub(crate) struct Solved {
     /// The row of the group's node, from 0.
