@@ -36,6 +36,7 @@ LONG = {
     "bench/memory.py": "it measures for minutes",
     "bench/best_of.py": "it counts instructions for minutes, by valgrind",
     "bench/growth.py": "it measures for minutes",
+    "bench/pairs.py": "it measures for minutes, and needs another program",
     "bench/certificates.py": "it counts instructions for minutes, by valgrind",
     "bench/union.py": "it counts instructions for minutes, by valgrind",
     "examples/airports/make.py": "it needs a file of a package that is not in the repository",
