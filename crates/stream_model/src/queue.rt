@@ -164,6 +164,10 @@ fn held_of<R: Rank, T: Copy, A: Allocator>(entry: Option<Entry<R, T>>) -> Held<R
     }
 }
 
+/// The number of entries that a new heap has room for beside its first one and those that were asked
+/// for. A heap that grows in steps leaves its earlier places unused in an arena.
+const MORE_ROOM: usize = 2;
+
 /// The heap of this entry, if there is one, with room for at least `count` more. `NoMemory` if
 /// memory is refused.
 fn heap_with_room<R: Rank, T: Copy, A: Allocator + Clone>(
@@ -174,7 +178,7 @@ fn heap_with_room<R: Rank, T: Copy, A: Allocator + Clone>(
     ensures entries { IfOk result (λ h. h.entries ≡ offers entry None []) }
     ensures spare { IfOk result (λ h. count ≤ h.spare) }
 {
-    let size = count.checked_add(1).ok_or(NoMemory)?;
+    let size = count.checked_add(1 + MORE_ROOM).ok_or(NoMemory)?;
     let mut entries = Vec::with_capacity(alloc.clone()?, size)?;
     if let Some(entry) = entry {
         entries.push_reserved(entry);

@@ -48,6 +48,7 @@ impl EntryId {
 /// An entry: a value, and the entry that follows it, if that is set.
 #[derive(Drop)]
 pub struct Linked<T> {
-    pub value: T,
+    /// It is beside what the value begins with, since a step reads the two together.
     pub next: Option<EntryId>,
+    pub value: T,
 }

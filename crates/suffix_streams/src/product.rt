@@ -20,7 +20,10 @@ use take2_heap::Entry;
 
 /// The number of solutions that a new product has room for. It is made when a second one is asked
 /// for, and a list that grows in steps leaves its earlier places unused in an arena.
-const FIRST_ROOM: usize = 4;
+const FIRST_SUMS: usize = 8;
+
+/// The same for a row's last product, which keeps no ranks: it finds more, and each takes less room.
+const FIRST_CELLS: usize = 16;
 
 /// The solutions that a product found, in their order.
 #[derive(Drop)]
@@ -39,9 +42,10 @@ enum Sums<R: Rank, A: Allocator> {
 /// ranks of its solutions too.
 #[derive(Drop)]
 pub(crate) struct Product<R: Rank, A: Allocator> {
-    found: Sums<R, A>,
-    /// It is beside `found`, since each step reads both.
     frontier: Queue<R, Cell, A>,
+    /// It is beside `frontier`, since each step reads both, and before the frontier of the row's next
+    /// product, whose steps read it too.
+    found: Sums<R, A>,
 }
 
 impl<R: Rank, A: Allocator> Model for Product<R, A> {
@@ -226,10 +230,10 @@ impl<R: Rank, A: Allocator + Clone> Sums<R, A> {
         ensures ranks { IfOk result (λ s. ranks_of s ≡ cond keeps_ranks (sum.rank ∷ []) []) }
     {
         if keeps_ranks {
-            let sums = list_of(alloc, sum)?;
+            let sums = list_of(alloc, sum, FIRST_SUMS)?;
             Ok(Sums::Ranked(sums))
         } else {
-            let cells = list_of(alloc, sum.tag)?;
+            let cells = list_of(alloc, sum.tag, FIRST_CELLS)?;
             Ok(Sums::Cells(cells))
         }
     }
@@ -297,11 +301,16 @@ impl<R: Rank, A: Allocator> Sums<R, A> {
     }
 }
 
-/// A list of this item alone, with a new product's room. `NoMemory` if memory is refused.
-fn list_of<T: Copy, A: Allocator + Clone>(alloc: &A, item: T) -> Result<Vec<T, A>, NoMemory>
+/// A list of this item alone, with room for so many. `NoMemory` if memory is refused.
+fn list_of<T: Copy, A: Allocator + Clone>(
+    alloc: &A,
+    item: T,
+    room: usize,
+) -> Result<Vec<T, A>, NoMemory>
+    requires { 0 < room }
     ensures { IfOk result (λ list. list.items ≡ item ∷ []) }
 {
-    let mut list = Vec::with_capacity(alloc.clone()?, FIRST_ROOM)?;
+    let mut list = Vec::with_capacity(alloc.clone()?, room)?;
     list.push_reserved(item);
     Ok(list)
 }

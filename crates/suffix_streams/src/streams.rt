@@ -69,6 +69,7 @@ impl<'t, R: Rank, A: Allocator + Clone> Streams<'t, R, A> {
             entries,
             nodes,
             made,
+            ahead: 0,
         };
         Ok(Streams {
             solutions,
