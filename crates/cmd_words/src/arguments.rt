@@ -1,160 +1,199 @@
 //! The options and positional arguments of each command, as `clap` takes them.
 
-ghost use Rattle.std.specs.Prelude.{◌≡◌, false, IfOk, IsOkAnd};
-ghost use Rattle.clap.specs.Simple.{app_of, with_rule};
+ghost use Rattle.std.specs.Prelude.{◌≡◌, false, map, IfOk};
+ghost use Rattle.clap.specs.Simple.{app_of, new_app};
 ghost use Rattle.clap.specs.Walk.{rule_of};
-ghost use Rattle.cmd_words.specs.Arguments.{engine_rule, flag_rule, option_rule, required_rule, query_rule, tables_rule, with_files, with_style, with_answers, run_app, session_app, plan_app, prove_app, verify_app, load_app};
+ghost use Rattle.cmd_words.specs.CommandNames.{app_named};
+ghost use Rattle.cmd_words.specs.TakenRules.{app_taking, rule_taken, with_rules};
 
+use crate::name::{CommandName, FilesName};
 use clap::{Arg, ArgAction, Command as Parser};
 use std::alloc::{AllocError, Global};
 
-/// The option `--engine`.
-fn engine<'a>(alloc: Global) -> Arg<'a>
-    ensures rule { rule_of result ≡ engine_rule }
-    ensures local { result.global ≡ false }
-{
-    Arg::new(alloc, "engine")
-        .long("engine")
-        .action(ArgAction::Set)
-        .default_value("part")
+/// What a command takes.
+#[derive(Clone, Copy, Drop)]
+pub struct Taking<'a> {
+    /// The command's name.
+    pub name: &'a str,
+    /// Its options and positional arguments in their order.
+    pub takes: &'static [Taken],
 }
 
-/// An option without a value.
-fn flag<'a>(alloc: Global, name: &'a str) -> Arg<'a>
-    ensures rule { rule_of result ≡ flag_rule name.entry.now }
-    ensures local { result.global ≡ false }
-{
-    Arg::new(alloc, name).long(name).action(ArgAction::SetTrue)
+/// An option or a positional argument of a command.
+#[derive(Clone, Copy, Drop)]
+pub struct Taken {
+    /// Its name, which is also that of its values.
+    pub name: &'static str,
+    /// What `clap` does where it meets it: `SetTrue` for a flag, `Set` for one value, and `Append`
+    /// for one value or more.
+    pub action: ArgAction,
+    /// Whether it is an option, and what holds if it is not given.
+    pub form: Form,
 }
 
-/// An option with a value.
-fn option<'a>(alloc: Global, name: &'a str) -> Arg<'a>
-    ensures rule { rule_of result ≡ option_rule name.entry.now }
-    ensures local { result.global ≡ false }
-{
-    Arg::new(alloc, name).long(name).action(ArgAction::Set)
+/// Whether it is an option, and what holds if it is not given.
+#[derive(Clone, Copy, Drop)]
+pub enum Form {
+    /// An option.
+    Option,
+    /// An option that has this value if it is not given.
+    Defaulted(&'static str),
+    /// An option that is required.
+    Required,
+    /// A positional argument, which is required.
+    Place,
 }
 
-/// A required option with a value.
-fn required<'a>(alloc: Global, name: &'a str) -> Arg<'a>
-    ensures rule { rule_of result ≡ required_rule name.entry.now }
-    ensures local { result.global ≡ false }
-{
-    Arg::new(alloc, name)
-        .long(name)
-        .required(true)
-        .action(ArgAction::Set)
-}
+/// `--engine E`, which is `part` if it is not given.
+const ENGINE: Taken = Taken {
+    name: "engine",
+    action: ArgAction::Set,
+    form: Form::Defaulted("part"),
+};
 
-/// The argument QUERYFILE.
-fn query<'a>(alloc: Global) -> Arg<'a>
-    ensures rule { rule_of result ≡ query_rule }
-    ensures local { result.global ≡ false }
-{
-    Arg::new(alloc, "query")
-        .required(true)
-        .action(ArgAction::Set)
-}
+/// `--ranks`.
+const RANKS: Taken = Taken {
+    name: "ranks",
+    action: ArgAction::SetTrue,
+    form: Form::Option,
+};
 
-/// The arguments TABLE=FILE, of which there is at least one.
-fn tables<'a>(alloc: Global) -> Arg<'a>
-    ensures rule { rule_of result ≡ tables_rule }
-    ensures local { result.global ≡ false }
-{
-    Arg::new(alloc, "tables")
-        .required(true)
-        .action(ArgAction::Append)
-}
+/// `--rows`.
+const ROWS: Taken = Taken {
+    name: "rows",
+    action: ArgAction::SetTrue,
+    form: Form::Option,
+};
 
-/// The command with one more argument, if memory was not refused before.
-fn with_arg<'a>(
-    command: Result<Parser<'a>, AllocError>,
-    arg: Arg<'a>,
-) -> Result<Parser<'a>, AllocError>
-    requires { arg.global ≡ false }
-    ensures { IfOk result (λ whole. IsOkAnd command.entry
-        (λ c. app_of whole ≡ with_rule (app_of c) (rule_of arg.entry))) }
+/// `--best-of ALIAS`.
+const BEST_OF: Taken = Taken {
+    name: "best-of",
+    action: ArgAction::Set,
+    form: Form::Option,
+};
+
+/// `--script FILE`.
+const SCRIPT: Taken = Taken {
+    name: "script",
+    action: ArgAction::Set,
+    form: Form::Required,
+};
+
+/// `--proof FILE`.
+const PROOF: Taken = Taken {
+    name: "proof",
+    action: ArgAction::Set,
+    form: Form::Required,
+};
+
+/// `--number N` of `load`.
+const NUMBER: Taken = Taken {
+    name: "number",
+    action: ArgAction::Set,
+    form: Form::Required,
+};
+
+/// `--rows N` of `load`.
+const ROWS_OF_TABLES: Taken = Taken {
+    name: "rows",
+    action: ArgAction::Set,
+    form: Form::Required,
+};
+
+/// QUERYFILE.
+const QUERY: Taken = Taken {
+    name: "query",
+    action: ArgAction::Set,
+    form: Form::Place,
+};
+
+/// TABLE=FILE, once or more.
+const TABLES: Taken = Taken {
+    name: "tables",
+    action: ArgAction::Append,
+    form: Form::Place,
+};
+
+/// What `run` takes.
+const RUN: Taking<'static> = Taking {
+    name: "run",
+    takes: &[ENGINE, RANKS, ROWS, BEST_OF, QUERY, TABLES],
+};
+
+/// What `session` takes.
+const SESSION: Taking<'static> = Taking {
+    name: "session",
+    takes: &[ENGINE, RANKS, ROWS, BEST_OF, SCRIPT, QUERY, TABLES],
+};
+
+/// What `plan` takes.
+const PLAN: Taking<'static> = Taking {
+    name: "plan",
+    takes: &[QUERY, TABLES],
+};
+
+/// What `prove` takes.
+const PROVE: Taking<'static> = Taking {
+    name: "prove",
+    takes: &[ENGINE, QUERY, TABLES],
+};
+
+/// What `verify` takes.
+const VERIFY: Taking<'static> = Taking {
+    name: "verify",
+    takes: &[RANKS, ROWS, PROOF, QUERY, TABLES],
+};
+
+/// What `load` takes.
+const LOAD: Taking<'static> = Taking {
+    name: "load",
+    takes: &[ENGINE, NUMBER, ROWS_OF_TABLES],
+};
+
+/// What the command of this name takes.
+fn taken_by<'a>(name: CommandName) -> Taking<'a>
+    ensures { app_taking result ≡ app_named name }
 {
-    match command {
-        Ok(command) => command.arg(arg),
-        Err(refused) => Err(refused),
+    match name {
+        CommandName::OverFiles(FilesName::Run) => RUN,
+        CommandName::OverFiles(FilesName::Session) => SESSION,
+        CommandName::OverFiles(FilesName::Plan) => PLAN,
+        CommandName::OverFiles(FilesName::Prove) => PROVE,
+        CommandName::OverFiles(FilesName::Verify) => VERIFY,
+        CommandName::Load => LOAD,
     }
 }
 
-/// The command with QUERYFILE and TABLE=FILE after its options.
-fn with_files<'a>(
-    alloc: Global,
-    command: Result<Parser<'a>, AllocError>,
-) -> Result<Parser<'a>, AllocError>
-    ensures { IfOk result (λ whole. IsOkAnd command.entry
-        (λ c. app_of whole ≡ with_files (app_of c))) }
+/// The command of this name, as `clap` has it. `AllocError` if memory is refused.
+pub fn parser<'a>(alloc: Global, name: CommandName) -> Result<Parser<'a>, AllocError>
+    ensures { IfOk result (λ parser. app_of parser ≡ app_named name) }
 {
-    let queried = with_arg(command, query(alloc));
-    with_arg(queried, tables(alloc))
+    let taking = taken_by(name);
+    with_args(alloc, taking.name, taking.takes)
 }
 
-/// The command with the flags that say what is printed of an answer.
-fn with_style<'a>(
-    alloc: Global,
-    command: Result<Parser<'a>, AllocError>,
-) -> Result<Parser<'a>, AllocError>
-    ensures { IfOk result (λ whole. IsOkAnd command.entry
-        (λ c. app_of whole ≡ with_style (app_of c))) }
+/// The command that takes these options and arguments. `AllocError` if memory is refused.
+fn with_args<'a>(alloc: Global, name: &'a str, takes: &[Taken]) -> Result<Parser<'a>, AllocError>
+    ensures { IfOk result (λ parser. app_of parser
+        ≡ with_rules (new_app name.entry.now) (map rule_taken takes.now)) }
 {
-    let ranked = with_arg(command, flag(alloc, "ranks"));
-    with_arg(ranked, flag(alloc, "rows"))
+    let mut parser = Parser::new(alloc, name);
+    for taken in takes {
+        parser = parser.arg(arg(alloc, *taken))?;
+    }
+    Ok(parser)
 }
 
-/// The command with the options that say which answers are printed, and how.
-fn with_answers<'a>(alloc: Global, command: Parser<'a>) -> Result<Parser<'a>, AllocError>
-    ensures { IfOk result (λ whole. app_of whole ≡ with_answers (app_of command.entry)) }
+/// The option or argument, as `clap` has it.
+fn arg<'a>(alloc: Global, taken: Taken) -> Arg<'a>
+    ensures rule { rule_of result ≡ rule_taken taken }
+    ensures local { result.global ≡ false }
 {
-    let styled = with_style(alloc, command.arg(engine(alloc)));
-    with_arg(styled, option(alloc, "best-of"))
-}
-
-/// What `run` takes. `AllocError` if memory is refused.
-pub fn run_command<'a>(alloc: Global) -> Result<Parser<'a>, AllocError>
-    ensures { IfOk result (λ command. app_of command ≡ run_app) }
-{
-    with_files(alloc, with_answers(alloc, Parser::new(alloc, "run")))
-}
-
-/// What `session` takes. `AllocError` if memory is refused.
-pub fn session_command<'a>(alloc: Global) -> Result<Parser<'a>, AllocError>
-    ensures { IfOk result (λ command. app_of command ≡ session_app) }
-{
-    let answers = with_answers(alloc, Parser::new(alloc, "session"));
-    with_files(alloc, with_arg(answers, required(alloc, "script")))
-}
-
-/// What `plan` takes. `AllocError` if memory is refused.
-pub fn plan_command<'a>(alloc: Global) -> Result<Parser<'a>, AllocError>
-    ensures { IfOk result (λ command. app_of command ≡ plan_app) }
-{
-    with_files(alloc, Ok(Parser::new(alloc, "plan")))
-}
-
-/// What `prove` takes. `AllocError` if memory is refused.
-pub fn prove_command<'a>(alloc: Global) -> Result<Parser<'a>, AllocError>
-    ensures { IfOk result (λ command. app_of command ≡ prove_app) }
-{
-    with_files(alloc, Parser::new(alloc, "prove").arg(engine(alloc)))
-}
-
-/// What `verify` takes. `AllocError` if memory is refused.
-pub fn verify_command<'a>(alloc: Global) -> Result<Parser<'a>, AllocError>
-    ensures { IfOk result (λ command. app_of command ≡ verify_app) }
-{
-    let styled = with_style(alloc, Ok(Parser::new(alloc, "verify")));
-    with_files(alloc, with_arg(styled, required(alloc, "proof")))
-}
-
-/// What `load` takes. `AllocError` if memory is refused.
-pub fn load_command<'a>(alloc: Global) -> Result<Parser<'a>, AllocError>
-    ensures { IfOk result (λ command. app_of command ≡ load_app) }
-{
-    let engine = Parser::new(alloc, "load").arg(engine(alloc));
-    let numbered = with_arg(engine, required(alloc, "number"));
-    with_arg(numbered, required(alloc, "rows"))
+    let arg = Arg::new(alloc, taken.name).action(taken.action);
+    match taken.form {
+        Form::Option => arg.long(taken.name),
+        Form::Defaulted(value) => arg.long(taken.name).default_value(value),
+        Form::Required => arg.long(taken.name).required(true),
+        Form::Place => arg.required(true),
+    }
 }

@@ -8,6 +8,7 @@
 mod arguments;
 mod command;
 mod fault;
+mod name;
 mod pairs;
 mod parse;
 mod reading;

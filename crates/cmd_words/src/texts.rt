@@ -5,11 +5,14 @@ ghost use Rattle.std.specs.String.{string_bytes};
 ghost use Rattle.clap.specs.Matches.{found_of};
 ghost use Rattle.clap.specs.Walk.{rows_of};
 ghost use Rattle.cmd_words.specs.NamedPairs.{named_pair};
-ghost use Rattle.cmd_words.specs.Numbers.{IsInRange, begins_plainly, number_in};
-ghost use Rattle.cmd_words.specs.ArgumentMeaning.{engine_of, is_set, load_by, load_by_texts, said_by, session_by, arguments_view, words_view, tables_of, texts_of, verify_by};
+ghost use Rattle.cmd_words.specs.Numbers.{begins_plainly, number_in};
+ghost use Rattle.cmd_words.specs.ArgumentMeaning.{engine_of, is_set, said_by, arguments_view, words_view, tables_of, texts_of};
+ghost use Rattle.cmd_words.specs.Commands.{command_view, KeepsRange};
+ghost use Rattle.cmd_words.specs.CommandNames.{load_by_options, said_by_rows, texts_for, words_by};
 
 use crate::WordsFault;
-use crate::command::{Engine, Words};
+use crate::command::{Command, Engine, Words};
+use crate::name::{CommandName, FilesName};
 use crate::pairs::{Named, name_distinct_tables, read_pairs};
 use clap::ArgMatches;
 use std::alloc::{AllocError, Global};
@@ -43,8 +46,45 @@ pub fn texts_of<'m, 'a>(matches: &'m ArgMatches<'a>) -> Texts<'m, 'a>
     }
 }
 
+/// The values that the command of this name has. It has the engine `part` if it has no `--engine`.
+pub fn texts_for<'m, 'a>(name: FilesName, texts: Texts<'m, 'a>) -> Texts<'m, 'a>
+    ensures { arguments_view result ≡ texts_for name (arguments_view texts.entry) }
+{
+    let plain = Texts {
+        engine: Some("part"),
+        ranks: None,
+        rows: None,
+        script: None,
+        proof: None,
+        best_of: None,
+        ..texts
+    };
+    match name {
+        FilesName::Run => Texts {
+            script: None,
+            proof: None,
+            ..texts
+        },
+        FilesName::Session => Texts {
+            proof: None,
+            ..texts
+        },
+        FilesName::Plan => plain,
+        FilesName::Prove => Texts {
+            engine: texts.engine,
+            ..plain
+        },
+        FilesName::Verify => Texts {
+            ranks: texts.ranks,
+            rows: texts.rows,
+            proof: texts.proof,
+            ..plain
+        },
+    }
+}
+
 /// What the values say. `Usage` if they say nothing, and `NoMemory` if memory is refused.
-pub fn read_texts(alloc: Global, texts: Texts<'_, '_>) -> Result<Words, WordsFault>
+fn read_texts(alloc: Global, texts: Texts<'_, '_>) -> Result<Words, WordsFault>
     ensures words { IfOk result
         (λ said. said_by (arguments_view texts.entry) ≡ Some (words_view said)) }
     ensures usage { IsErrOf result WordsFault.Usage → said_by (arguments_view texts.entry) ≡ None }
@@ -72,31 +112,22 @@ pub fn read_texts(alloc: Global, texts: Texts<'_, '_>) -> Result<Words, WordsFau
     })
 }
 
-/// What the values of `session` say, which has a script. `Usage` if they say nothing, and
-/// `NoMemory` if memory is refused.
-pub fn read_session_texts(alloc: Global, texts: Texts<'_, '_>) -> Result<Words, WordsFault>
+/// What the values say to the command of this name: a session has a script, and a verification a
+/// certificate. `Usage` if they say nothing, and `NoMemory` if memory is refused.
+pub fn read_texts_for(
+    alloc: Global,
+    name: FilesName,
+    texts: Texts<'_, '_>,
+) -> Result<Words, WordsFault>
     ensures words { IfOk result
-        (λ said. session_by (arguments_view texts.entry) ≡ Some (words_view said)) }
+        (λ said. words_by name (arguments_view texts.entry) ≡ Some (words_view said)) }
     ensures usage { IsErrOf result WordsFault.Usage
-        → session_by (arguments_view texts.entry) ≡ None }
+        → words_by name (arguments_view texts.entry) ≡ None }
 {
-    match texts.script {
-        Some(_) => read_texts(alloc, texts),
-        None => Err(WordsFault::Usage),
-    }
-}
-
-/// What the values of `verify` say, which has a certificate. `Usage` if they say nothing, and
-/// `NoMemory` if memory is refused.
-pub fn read_verify_texts(alloc: Global, texts: Texts<'_, '_>) -> Result<Words, WordsFault>
-    ensures words { IfOk result
-        (λ said. verify_by (arguments_view texts.entry) ≡ Some (words_view said)) }
-    ensures usage { IsErrOf result WordsFault.Usage
-        → verify_by (arguments_view texts.entry) ≡ None }
-{
-    match texts.proof {
-        Some(_) => read_texts(alloc, texts),
-        None => Err(WordsFault::Usage),
+    match name {
+        FilesName::Session if texts.script.is_none() => Err(WordsFault::Usage),
+        FilesName::Verify if texts.proof.is_none() => Err(WordsFault::Usage),
+        _ => read_texts(alloc, texts),
     }
 }
 
@@ -151,14 +182,15 @@ fn read_engine(text: Option<&str>) -> Option<Engine>
     }
 }
 
-/// What the matches of `load` say: the engine, the generator's number and the rows of each table.
+/// What the matches say to `load`: the engine, the generator's number and the rows of each table.
 /// `Usage` if they say nothing.
-pub fn read_load_texts(matches: &ArgMatches<'_>) -> Result<(Engine, u32, u32), WordsFault>
-    ensures words { IfOk result
-        (λ said. load_by (rows_of (found_of matches.now)) ≡ Some (said.0, said.1, said.2)) }
+pub fn read_load(matches: &ArgMatches<'_>) -> Result<Command, WordsFault>
+    ensures words { IfOk result (λ command.
+        said_by_rows CommandName.Load (rows_of (found_of matches.now))
+        ≡ Some (command_view command)) }
     ensures usage { IsErrOf result WordsFault.Usage
-        → load_by (rows_of (found_of matches.now)) ≡ None }
-    ensures ranges { IfOk result (λ said. IsInRange said.1 said.2) }
+        → said_by_rows CommandName.Load (rows_of (found_of matches.now)) ≡ None }
+    ensures ranges { IfOk result KeepsRange }
 {
     read_load_options(
         matches.get_str("engine"),
@@ -173,15 +205,15 @@ fn read_load_options(
     engine: Option<&str>,
     number: Option<&str>,
     rows: Option<&str>,
-) -> Result<(Engine, u32, u32), WordsFault>
+) -> Result<Command, WordsFault>
     ensures words { IfOk result
-        (λ said. load_by_texts (option_map (λ s. s.now) engine.entry)
+        (λ command. load_by_options (option_map (λ s. s.now) engine.entry)
         (option_map (λ s. s.now) number.entry) (option_map (λ s. s.now) rows.entry)
-        ≡ Some (said.0, said.1, said.2)) }
+        ≡ Some (command_view command)) }
     ensures usage { IsErrOf result WordsFault.Usage
-        → load_by_texts (option_map (λ s. s.now) engine.entry)
+        → load_by_options (option_map (λ s. s.now) engine.entry)
         (option_map (λ s. s.now) number.entry) (option_map (λ s. s.now) rows.entry) ≡ None }
-    ensures ranges { IfOk result (λ said. IsInRange said.1 said.2) }
+    ensures ranges { IfOk result KeepsRange }
 {
     let Some(engine) = read_engine(engine) else {
         return Err(WordsFault::Usage);
@@ -192,7 +224,7 @@ fn read_load_options(
     let Some(rows) = read_number(rows, 1, 100000) else {
         return Err(WordsFault::Usage);
     };
-    Ok((engine, number, rows))
+    Ok(Command::Load(engine, number, rows))
 }
 
 /// The whole number that a text is, if it is from `low` to `high`.

@@ -1,18 +1,16 @@
-use Rattle.std.proofs.Common.{◌≡◌, [], Err, Ok, inl, inr, map, refl, rules, subst, true}
+use Rattle.std.proofs.Common.{◌≡◌, [], ◌∙◌, Err, ap, inl, inr, map, refl, subst, sym}
 use Rattle.std.specs.Prelude.{Result, IsErrOf}
 use Rattle.std.specs.String.{string_bytes}
-use Rattle.std.proofs.lemmas.Result.{IfOk-at_ok}
 use Rattle.clap.specs.Faults.{fault_of, is_simple_and_free}
-use Rattle.clap.specs.Matches.{found_of}
 use Rattle.clap.specs.Simple.{app_of, is_simple, matches_of}
-use Rattle.clap.specs.Walk.{rows_of}
 use Rattle.clap.specs.Kinds.{Kinds, HasKind}
 use Rattle.clap.specs.Values.{kind_of}
 use Rattle.clap.specs.declared.error.Error.{Error}
 use Rattle.clap.specs.declared.error.kind.ErrorKind.TheVariants.{OutOfMemory}
+use Rattle.cmd_words.specs.CommandNames.{app_named}
 use Rattle.cmd_words.specs.declared.fault.WordsFault.{WordsFault}
 use Rattle.cmd_words.specs.declared.fault.WordsFault.TheVariants.{Usage}
-use Rattle.cmd_words.proofs.Taken.{holds_of}
+use Rattle.cmd_words.proofs.Taken.{named_free, named_simple}
 use Rattle.cmd_words.proofs.parse.parsed.Goals as goal
 
 -- an error that has none of the kinds says that memory ran out
@@ -26,19 +24,20 @@ the_fault r fault is usage = cc
 
 pub returns-in-Ok-clause-taken : goal.returns-in-Ok-clause-taken
 returns-in-Ok-clause-taken c =
-    let same : c.args.command ≡ Ok c.in_ok-command.field-0 = search rules in
-    holds_of c.args.command c.in_ok-command.field-0 (λ p. fault_of (app_of p) (map string_bytes c.args.words.now) ≡ []) same
-    (c.in-Ok.ensures.kinds (IfOk-at_ok (λ p. is_simple_and_free (app_of p) ≡ true) same c.requires.free))
+    let same : app_of c.in_ok-parser.field-0 ≡ app_named c.args.name = c.in_ok-parser.ensures in
+    sym (ap (λ a. fault_of a (map string_bytes c.args.words.now)) same)
+    ∙ c.in-Ok.ensures.kinds (ap is_simple_and_free same ∙ named_free c.args.name)
 
 pub returns-in-Ok-clause-matches : goal.returns-in-Ok-clause-matches
 returns-in-Ok-clause-matches c =
-    let same : c.args.command ≡ Ok c.in_ok-command.field-0 = search rules in
-    holds_of c.args.command c.in_ok-command.field-0 (λ p. rows_of (found_of c.in-Ok.matches) ≡ matches_of (app_of p) (map string_bytes c.args.words.now)) same
-    (c.in-Ok.ensures.matches (IfOk-at_ok (λ p. is_simple (app_of p) ≡ true) same c.requires.simple)).0
+    let same : app_of c.in_ok-parser.field-0 ≡ app_named c.args.name = c.in_ok-parser.ensures in
+    (c.in-Ok.ensures.matches (ap is_simple same ∙ named_simple c.args.name)).0
+    ∙ ap (λ a. matches_of a (map string_bytes c.args.words.now)) same
 
 pub returns-in-Err-clause-usage : goal.returns-in-Err-clause-usage
 returns-in-Err-clause-usage c =
-    let same : c.args.command ≡ Ok c.in_ok-command.field-0 = search rules in
-    λ usage. holds_of c.args.command c.in_ok-command.field-0 (λ p. fault_of (app_of p) (map string_bytes c.args.words.now) ≡ [] → ⊥) same (λ none.
+    let same : app_of c.in_ok-parser.field-0 ≡ app_named c.args.name = c.in_ok-parser.ensures in
+    λ usage none.
     c.fault_of_error.ensures (the_fault (Err c.fault_of_error.result) c.fault_of_error.result refl usage)
-    (out_of_memory _ c.in-Err.error none (c.in-Err.ensures.kinds (IfOk-at_ok (λ p. is_simple_and_free (app_of p) ≡ true) same c.requires.free))))
+    (out_of_memory _ c.in-Err.error (ap (λ a. fault_of a (map string_bytes c.args.words.now)) same ∙ none)
+    (c.in-Err.ensures.kinds (ap is_simple_and_free same ∙ named_free c.args.name)))

@@ -3,7 +3,7 @@ use Rattle.std.proofs.lemmas.Result.{IfOk-weaker}
 use Rattle.clap.specs.Matches.{found_of}
 use Rattle.clap.proofs.WalkLemmas.{first_value-rows}
 use Rattle.cmd_words.proofs.Taken.{same_options}
-use Rattle.cmd_words.proofs.texts.read_load_texts.Goals as goal
+use Rattle.cmd_words.proofs.texts.read_load.Goals as goal
 
 pub returns-clause-words : goal.returns-clause-words
 returns-clause-words c =
