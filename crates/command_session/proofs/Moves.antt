@@ -1,5 +1,5 @@
 -- Cursors that are opened, moved and closed.
-use Rattle.std.proofs.Common.{◌≡◌, ◌≢◌, ◌<◌, ℕ, List, Bool, true, false, cond, Option, Some, None, IsSome, option_map, is_none, length, set, get_or, not, zero, suc, [], ◌∷◌, ◌+◌, nat_lt, refl, sym, ap, subst, ◌∙◌, inl, inr, ◌⊎◌, arith}
+use Rattle.std.proofs.Common.{◌≡◌, ◌≢◌, ◌<◌, ℕ, List, Bool, true, false, cond, Option, Some, None, IsSome, map, option_map, is_none, length, set, get_or, not, zero, suc, [], ◌∷◌, ◌+◌, nat_lt, refl, sym, ap, subst, ◌∙◌, inl, inr, ◌⊎◌, arith}
 use Rattle.std.specs.Prelude.{position}
 use Rattle.std.specs.List.{position_or_len}
 use Rattle.std.specs.Str.{bytes_eq}
@@ -220,12 +220,17 @@ number_below cursors number name long e = let within = (found_named cursors numb
 pub no_cursor : {A : Type 0} (cursors : List Cursor) (number : ℕ) (name : List ℕ) → Some number ≡ position (is_named name) cursors → get_or cursors number None ≡ None → A
 no_cursor cursors number name e none = none_some (sym none ∙ (found_named cursors number name e).1.at)
 
+-- its place in the set is its own place
+pub same_place : (in_set : List (Option ℕ)) (cursors : List Cursor) (number : ℕ) (name : List ℕ) (place : ℕ) → in_set ≡ map place_of_cursor cursors
+    → Found cursors number name place → get_or in_set number None ≡ Some place
+same_place in_set cursors number name place same found =
+    ap (λ (l : List (Option ℕ)). get_or l number None) same ∙ get_or-map place_of_cursor cursors number None None found.within
+    ∙ ap place_of_cursor found.at ∙ ap Some found.there
+
 module _ (old new : CursorSet) (cursors : List Cursor) (places : Places) (number : ℕ) (name : List ℕ) (place : ℕ) (held : IsHeld old cursors places)
     (found : Found cursors number name place) where
-  -- its place in the set is its own place
   pub place_held : get_or old.places number None ≡ Some place
-  place_held = ap (λ (l : List (Option ℕ)). get_or l number None) held.same ∙ get_or-map place_of_cursor cursors number None None found.within
-      ∙ ap place_of_cursor found.at ∙ ap Some found.there
+  place_held = same_place old.places cursors number name place held.same found
 
   pub place_named : places name ≡ Some place
   place_named = ap places (sym found.is) ∙ held.placed number found.cursor found.at ∙ ap Some found.there

@@ -66,7 +66,14 @@ pub(crate) fn print_next<'a, E: Ranked, S: Sink, L: Ledger>(
         let Some(answer) = next_member(set, id, place, listing.query.limit(), steps)? else {
             return print_end(listing.alloc, name, out);
         };
-        print_answer(records, listing.query, listing.tables, &named, &answer.rows, out)?;
+        print_answer(
+            records,
+            listing.query,
+            listing.tables,
+            &named,
+            &answer.rows,
+            out,
+        )?;
     }
     Ok(())
 }

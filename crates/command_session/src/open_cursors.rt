@@ -51,7 +51,7 @@ fn is_named(cursor: &Option<OpenCursor<'_>>, name: &[u8]) -> bool
 }
 
 /// Takes a step that prints nothing: it opens, moves or closes a cursor. `NoMemory` if no more can
-/// be opened.
+/// be opened. `next` is no such step, and does nothing here.
 pub(crate) fn move_cursor<'s, E: Ranked>(
     set: &mut Cursors<E>,
     cursors: &mut OpenCursors<'s>,

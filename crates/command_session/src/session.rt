@@ -104,7 +104,14 @@ fn print_steps<'a, E: Ranked, S: Sink, L: Ledger>(
         rows: listing.style.rows,
         cursor: Some(b""),
     };
-    print_header(listing.alloc, records, listing.query, listing.tables, &titled, out)?;
+    print_header(
+        listing.alloc,
+        records,
+        listing.query,
+        listing.tables,
+        &titled,
+        out,
+    )?;
     let mut cursors = [None; MAX_OPEN];
     for step in script {
         take_step(records, listing, set, &mut cursors, step, out, steps)?;
@@ -150,8 +157,9 @@ fn take_step<'a, 's, E: Ranked, S: Sink, L: Ledger>(
             let Some((id, mut place)) = cursor_of(cursors, name) else {
                 return Ok(());
             };
-            let printed =
-                print_next(records, listing, name, set, id, &mut place, *count, out, steps);
+            let printed = print_next(
+                records, listing, name, set, id, &mut place, *count, out, steps,
+            );
             cursors[id.number] = Some(OpenCursor { name, place });
             printed
         }

@@ -75,12 +75,6 @@ loop-given-init g c =
 pub next_member-requires : goal.next_member-requires
 next_member-requires g c = c.loop-given.invariant.here
 
-pub returns-in_err-answer-clause-printed : goal.returns-in_err-answer-clause-printed
-returns-in_err-answer-clause-printed g c =
-    let loop = (goal.at.returns-in_err-answer-clause-printed g c).At-loop-given in
-    let e : c.from_residual.result ≡ Err refusal.NoMemory = search rules in
-    rw e (left_unprinted (whole g loop) (left g loop) _ _ c.loop-given.invariant.left)
-
 pub returns-in_default-clause-printed : goal.returns-in_default-clause-printed
 returns-in_default-clause-printed g c =
     let loop = (goal.at.returns-in_default-clause-printed g c).At-loop-given in
@@ -120,15 +114,6 @@ print_answer-requires-clause-rows g c =
     let at_place = rw c.loop-given.invariant.answers at found.2 in
     told_all (λ (a : AnswerView). IsCombination (row_counts query.items c.args.listing.now.tables.now) (take (length query.items) a.rows)) c.args.set.now.answers
     c.loop-given.place _ c.requires.rows at_place
-
-pub returns-in_err-print_answer-clause-printed : goal.returns-in_err-print_answer-clause-printed
-returns-in_err-print_answer-clause-printed g c =
-    let loop = (goal.at.returns-in_err-print_answer-clause-printed g c).At-loop-given in
-    let found = at_some _ _ _ c.in-Some.is c.in_ok-answer.ensures.some in
-    let split = answer_given (rows_of g loop) c.args.listing.now.query.now.query.limit c.args.set.now.answers c.args.place.now c.loop-given._given c.loop-given.place
-    c.loop-given.invariant.place (line g loop) (ending g loop) c.args.count _ c.loop-given-test.true (rw c.limit.ensures at found.0) (rw c.loop-given.invariant.answers at found.2) in
-    let e : c.from_residual-in_err-print_answer.result ≡ Err c.in_err-print_answer.field-0.0 = search rules in
-    rw e (left_stopped (whole g loop) (left g loop) _ _ _ c.loop-given.invariant.left _ _ c.in_err-print_answer.field-0.0 split c.in_err-print_answer.ensures)
 
 pub loop-given-preserved : goal.loop-given-preserved
 loop-given-preserved g c =
@@ -170,26 +155,10 @@ returns-clause-moved g c =
     let all = given_all (members g loop) c.args.place.now c.loop-given._given c.args.count c.loop-given.invariant.within (omega arith) in
     omega (arith, c.loop-given.invariant.place, all)
 
-pub returns-in_err-answer-clause-paid : goal.returns-in_err-answer-clause-paid
-returns-in_err-answer-clause-paid g c =
-    let loop = (goal.at.returns-in_err-answer-clause-paid g c).At-loop-given in
-    let e : c.from_residual.result ≡ Err refusal.NoMemory = search rules in
-    rw e (record {
-      spent = tt;
-      within = given_within (given g loop) c.next_member.new.steps c.loop-given-test.true (rw c.limit.ensures at c.in_err-answer.ensures.paid.within);
-    })
-
 pub returns-in_default-clause-paid : goal.returns-in_default-clause-paid
 returns-in_default-clause-paid g c =
     let loop = (goal.at.returns-in_default-clause-paid g c).At-loop-given in
     paid_spent g.E.Ranked.share g.met.E.Ranked.share_rises c.args.set.now c.next_member.new.set _ _ c.args.steps.now c.next_member.new.steps c.print_end.result
-    (given_spent (given g loop) c.next_member.new.set c.next_member.new.steps c.loop-given-test.true (rw c.limit.ensures at c.in_ok-answer.ensures.paid.spent))
-
-pub returns-in_err-print_answer-clause-paid : goal.returns-in_err-print_answer-clause-paid
-returns-in_err-print_answer-clause-paid g c =
-    let loop = (goal.at.returns-in_err-print_answer-clause-paid g c).At-loop-given in
-    paid_spent g.E.Ranked.share g.met.E.Ranked.share_rises c.args.set.now c.next_member.new.set _ _ c.args.steps.now c.next_member.new.steps
-    c.from_residual-in_err-print_answer.result
     (given_spent (given g loop) c.next_member.new.set c.next_member.new.steps c.loop-given-test.true (rw c.limit.ensures at c.in_ok-answer.ensures.paid.spent))
 
 pub returns-clause-paid : goal.returns-clause-paid
@@ -206,3 +175,35 @@ returns-clause-places g c = c.loop-given.invariant.places
 
 pub returns-clause-kept : goal.returns-clause-kept
 returns-clause-kept g c = c.loop-given.invariant.answers
+
+pub returns-in_err-answer : goal.returns-in_err-answer
+returns-in_err-answer g c =
+    let loop = (goal.at.returns-in_err-answer g c).At-loop-given in
+    let e : c.from_residual.result ≡ Err refusal.NoMemory = search rules in
+    rw e (record {
+      printed = left_unprinted (whole g loop) (left g loop) _ _ c.loop-given.invariant.left;
+      moved = tt;
+      places = tt;
+      kept = tt;
+      paid = record {
+        spent = tt;
+        within = given_within (given g loop) c.next_member.new.steps c.loop-given-test.true (rw c.limit.ensures at c.in_err-answer.ensures.paid.within);
+      };
+    })
+
+pub returns-in_err-print_answer : goal.returns-in_err-print_answer
+returns-in_err-print_answer g c =
+    let loop = (goal.at.returns-in_err-print_answer g c).At-loop-given in
+    let found = at_some _ _ _ c.in-Some.is c.in_ok-answer.ensures.some in
+    let split = answer_given (rows_of g loop) c.args.listing.now.query.now.query.limit c.args.set.now.answers c.args.place.now c.loop-given._given c.loop-given.place
+    c.loop-given.invariant.place (line g loop) (ending g loop) c.args.count _ c.loop-given-test.true (rw c.limit.ensures at found.0) (rw c.loop-given.invariant.answers at found.2) in
+    let e : c.from_residual-in_err-print_answer.result ≡ Err c.in_err-print_answer.field-0.0 = search rules in
+    rw e (record {
+      printed = left_stopped (whole g loop) (left g loop) _ _ _ c.loop-given.invariant.left _ _ c.in_err-print_answer.field-0.0 split c.in_err-print_answer.ensures;
+      moved = tt;
+      places = tt;
+      kept = tt;
+      paid = paid_spent g.E.Ranked.share g.met.E.Ranked.share_rises c.args.set.now c.next_member.new.set _ _ c.args.steps.now c.next_member.new.steps
+          (Err c.in_err-print_answer.field-0.0)
+          (given_spent (given g loop) c.next_member.new.set c.next_member.new.steps c.loop-given-test.true (rw c.limit.ensures at c.in_ok-answer.ensures.paid.spent));
+    })

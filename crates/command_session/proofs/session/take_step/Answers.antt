@@ -1,6 +1,7 @@
-use Rattle.std.proofs.Common.{Ok, ap, refl}
+use Rattle.std.proofs.Common.{◌≡◌, Err, Ok, ap, refl, rules}
 use Rattle.cursor_set.specs.CursorSet.{CursorSet}
-use Rattle.command_session.proofs.Moves.{unknown_closed}
+use Rattle.refusal_lines.specs.declared.refusal.Refusal.TheVariants as refusal
+use Rattle.command_session.proofs.Moves.{same_place, unknown_closed}
 use Rattle.command_session.proofs.Run.{is_quiet, next_taken, quiet_taken}
 use Rattle.command_session.proofs.session.take_step.Goals as goal
 
@@ -25,3 +26,25 @@ returns-in_ok-move_cursor-in_default-clause-taken g c = λ places held can.
 
 pub returns-in_ok-move_cursor-in_default-clause-kept : goal.returns-in_ok-move_cursor-in_default-clause-kept
 returns-in_ok-move_cursor-in_default-clause-kept g c = ap (λ (s : CursorSet). s.answers) c.move_cursor.ensures.only
+
+pub returns-in_err-move_cursor-in_default : goal.returns-in_err-move_cursor-in_default
+returns-in_err-move_cursor-in_default g c =
+    let e : c.from_residual.result ≡ Err refusal.NoMemory = search rules in
+    rw e (record {
+      taken = λ places held can. quiet_taken g.E.Ranked.share g.met.E.Ranked.share_rises _ _ _ places c.args.step.now c.args.set.now c.move_cursor.new.set c.args.cursors.now
+          c.move_cursor.new.cursors _ c.args.steps.now (Err refusal.NoMemory) (is_quiet c.args.step.now c.in_default.not-Next) c.move_cursor.ensures.only refl tt;
+      kept = tt;
+    })
+
+pub print_next-printed-requires-clause-fits : goal.print_next-printed-requires-clause-fits
+print_next-printed-requires-clause-fits g c = c.requires.fits
+
+pub print_next-printed-requires-clause-rows : goal.print_next-printed-requires-clause-rows
+print_next-printed-requires-clause-rows g c = c.requires.rows
+
+pub print_next-printed-requires-clause-here : goal.print_next-printed-requires-clause-here
+print_next-printed-requires-clause-here g c =
+    same_place c.args.set.now.places c.args.cursors.now c.in-Some.id.number c.bytes-name.result.now c.in-Some.place c.requires.same c.in-Some.ensures.found
+
+pub returns-in-Some-clause-kept : goal.returns-in-Some-clause-kept
+returns-in-Some-clause-kept g c = c.print_next-printed.ensures.kept
