@@ -5,3 +5,4 @@ pub mod Follows
 pub mod Steps
 pub mod Costs
 pub mod Reach
+pub mod Run

@@ -1,5 +1,5 @@
 -- Cursors that are opened, moved and closed.
-use Rattle.std.proofs.Common.{◌≡◌, ◌≢◌, ◌<◌, ℕ, List, Bool, true, false, cond, Option, Some, None, IsSome, option_map, is_none, length, set, get_or, not, zero, suc, [], ◌∷◌, ◌+◌, nat_lt, refl, sym, ap, subst, ◌∙◌, inl, inr, ◌⊎◌, arith}
+use Rattle.std.proofs.Common.{◌≡◌, ◌≢◌, ◌<◌, ℕ, List, Bool, true, false, cond, Option, Some, None, IsSome, map, option_map, is_none, length, set, get_or, not, zero, suc, [], ◌∷◌, ◌+◌, nat_lt, refl, sym, ap, subst, ◌∙◌, inl, inr, ◌⊎◌, arith}
 use Rattle.std.specs.Prelude.{position}
 use Rattle.std.specs.List.{position_or_len}
 use Rattle.std.specs.Str.{bytes_eq}
@@ -10,7 +10,7 @@ use Rattle.std.proofs.lemmas.List.Quantifiers.{position-Some}
 use Rattle.cursor_set.specs.CursorSet.{CursorSet}
 use Rattle.verdict.specs.Session.{Places, with_cursor}
 use Rattle.command_session.specs.declared.open_cursors.OpenCursor.{OpenCursor}
-use Rattle.command_session.specs.OpenCursors.{IsAt, IsHeld, is_named}
+use Rattle.command_session.specs.OpenCursors.{Found, IsAt, IsHeld, is_named}
 use Rattle.command_session.proofs.Names.{name_differs, name_same, same_name}
 
 abbrev pub Cursor : Type 0
@@ -186,7 +186,7 @@ named_is : (name : List ℕ) (c : OpenCursor) → c.name.now ≡ name → is_nam
 named_is name c is = name_same c.name.now name is
 
 -- if no cursor has the name, it is not open
-pub unknown_closed : {A : Type 0} (set : CursorSet) (cursors : List Cursor) (places : Places) (name : List ℕ) → None ≡ position (is_named name) cursors
+pub unknown_closed : {A : Type 0} (set : CursorSet) (cursors : List Cursor) (places : Places) (name : List ℕ) → position (is_named name) cursors ≡ None
     → IsHeld set cursors places → IsSome (places name) → A
 unknown_closed {A} s cursors places name none held opened = by (places name) refl opened
   where
@@ -195,42 +195,66 @@ unknown_closed {A} s cursors places name none held opened = by (places name) ref
     by (Some place) e h =
         let (number, c, at, is) = held.known name place e in
         absurd (not_none (is_named name) cursors
-        (passes_before (is_named name) cursors number (inside_at cursors number c at) (ap (is_named name) at ∙ named_is name c is)) (sym none))
+        (passes_before (is_named name) cursors number (inside_at cursors number c at) (ap (is_named name) at ∙ named_is name c is)) none)
 
--- the cursor that was found has the name
-pub record Found (cursors : List Cursor) (number : ℕ) (name : List ℕ) : Type 0 where
-  pub cursor : OpenCursor
-  pub at : IsAt cursors number cursor
-  pub is : cursor.name.now ≡ name
-  pub within : number < length cursors
-
-pub found_named : (cursors : List Cursor) (number : ℕ) (name : List ℕ) → Some number ≡ position (is_named name) cursors → Found cursors number name
+-- a cursor that was found by its name
+found_named : (cursors : List Cursor) (number : ℕ) (name : List ℕ) → Some number ≡ position (is_named name) cursors
+    → (c : OpenCursor) × Found cursors number name c.place
 found_named cursors number name e =
     let h = position-Some (is_named name) cursors number None (sym e) in by (get_or cursors number None) refl h.1 h.0
   where
-    by : (o : Cursor) → get_or cursors number None ≡ o → is_named name o ≡ true → number < length cursors → Found cursors number name
+    by : (o : Cursor) → get_or cursors number None ≡ o → is_named name o ≡ true → number < length cursors → (c : OpenCursor) × Found cursors number name c.place
     by None at passes within = let t : false ≡ true = passes in cc
-    by (Some c) at passes within = record { cursor = c; at = at; is = same_name c.name.now name passes; within = within }
+    by (Some c) at passes within = (c, record { cursor = c; at = at; is = same_name c.name.now name passes; there = refl; within = within })
+
+pub found_at : (cursors : List Cursor) (number : ℕ) (name : List ℕ) (c : OpenCursor) → Some number ≡ position (is_named name) cursors → IsAt cursors number c
+    → Found cursors number name c.place
+found_at cursors number name c e at =
+    let (d, found) = found_named cursors number name e in
+    record { cursor = c; at = at; is = ap (λ (o : OpenCursor). o.name.now) (some_same (sym at ∙ found.at)) ∙ found.is; there = refl; within = found.within }
 
 -- the number of a cursor that was found is one of the 64
 pub number_below : (cursors : List Cursor) (number : ℕ) (name : List ℕ) → length cursors ≡ 64 → Some number ≡ position (is_named name) cursors → number < 64
-number_below cursors number name long e = let found = found_named cursors number name e in omega (arith, long, found.within)
+number_below cursors number name long e = let within = (found_named cursors number name e).1.within in omega (arith, long, within)
 
 pub no_cursor : {A : Type 0} (cursors : List Cursor) (number : ℕ) (name : List ℕ) → Some number ≡ position (is_named name) cursors → get_or cursors number None ≡ None → A
-no_cursor cursors number name e none = let f = found_named cursors number name e in none_some (sym none ∙ f.at)
+no_cursor cursors number name e none = none_some (sym none ∙ (found_named cursors number name e).1.at)
 
-module _ (old new : CursorSet) (cursors : List Cursor) (places : Places) (number : ℕ) (name : List ℕ) (c : OpenCursor) (held : IsHeld old cursors places)
-    (within : number < length cursors) (at : IsAt cursors number c) (is : c.name.now ≡ name) where
-  -- its place in the set is its own place
-  pub place_held : get_or old.places number None ≡ Some c.place
-  place_held = ap (λ (l : List (Option ℕ)). get_or l number None) held.same ∙ get_or-map place_of_cursor cursors number None None within ∙ ap place_of_cursor at
+-- its place in the set is its own place
+pub same_place : (in_set : List (Option ℕ)) (cursors : List Cursor) (number : ℕ) (name : List ℕ) (place : ℕ) → in_set ≡ map place_of_cursor cursors
+    → Found cursors number name place → get_or in_set number None ≡ Some place
+same_place in_set cursors number name place same found =
+    ap (λ (l : List (Option ℕ)). get_or l number None) same ∙ get_or-map place_of_cursor cursors number None None found.within
+    ∙ ap place_of_cursor found.at ∙ ap Some found.there
 
-  pub place_named : places name ≡ Some c.place
-  place_named = ap places (sym is) ∙ held.placed number c at
+module _ (old new : CursorSet) (cursors : List Cursor) (places : Places) (number : ℕ) (name : List ℕ) (place : ℕ) (held : IsHeld old cursors places)
+    (found : Found cursors number name place) where
+  pub place_held : get_or old.places number None ≡ Some place
+  place_held = same_place old.places cursors number name place held.same found
 
-  pub held_moved : (now : Cursor) → ((d : OpenCursor) → Is now (Some d) → d.name.now ≡ name) → new.places ≡ set old.places number (place_of_cursor now)
+  pub place_named : places name ≡ Some place
+  place_named = ap places (sym found.is) ∙ held.placed number found.cursor found.at ∙ ap Some found.there
+
+  held_moved : (now : Cursor) → ((d : OpenCursor) → Is now (Some d) → d.name.now ≡ name) → new.places ≡ set old.places number (place_of_cursor now)
       → IsHeld new (set cursors number now) (with_cursor places name (place_of_cursor now))
   held_moved now named moved =
-      held_put old new cursors places number name now held within
-      (λ j d dt same. held.distinct j number d c dt at (same ∙ sym is))
-      (λ d dt. ap (λ (e : OpenCursor). e.name.now) (some_same (sym dt ∙ at)) ∙ is) named moved
+      held_put old new cursors places number name now held found.within
+      (λ j d dt same. held.distinct j number d found.cursor dt found.at (same ∙ sym found.is))
+      (λ d dt. ap (λ (e : OpenCursor). e.name.now) (some_same (sym dt ∙ found.at)) ∙ found.is) named moved
+
+  -- it gets another place, or is closed
+  pub held_at : (now : OpenCursor) → now.name.now ≡ name → new.places ≡ set old.places number (Some now.place)
+      → IsHeld new (set cursors number (Some now)) (with_cursor places name (Some now.place))
+  held_at now is moved = held_moved (Some now) (λ d same. ap (λ (e : OpenCursor). e.name.now) (sym (some_same same)) ∙ is) moved
+
+  pub held_closed : new.places ≡ set old.places number None → IsHeld new (set cursors number None) (with_cursor places name None)
+  held_closed moved = held_moved None (λ d same. none_some same) moved
+
+  -- a new cursor gets its place
+  pub held_forked : (copy : ℕ) (now : OpenCursor) → position is_none old.places ≡ Some copy → places now.name.now ≡ None → now.place ≡ place
+      → new.places ≡ set old.places copy (get_or old.places number None) → IsHeld new (set cursors copy (Some now)) (with_cursor places now.name.now (places name))
+  held_forked copy now free closed there moved =
+      let P : Option ℕ → Type 0 = λ p. IsHeld new (set cursors copy (Some now)) (with_cursor places now.name.now p) in
+      let here : ◌≡◌ {A = Option ℕ} (Some place) (Some now.place) = ap Some (sym there) in
+      subst P (sym (place_named ∙ here))
+      (held_new old new cursors places copy held free now closed (moved ∙ ap (λ (p : Option ℕ). set old.places copy p) (place_held ∙ here)))

@@ -6,15 +6,12 @@ use Rattle.std.proofs.lemmas.Bool.Decides.{nat_tests}
 use Rattle.std.proofs.lemmas.List.{drop_more, length-drop, length-take-le}
 use Rattle.anyk_model.specs.Output.{cut}
 use Rattle.cursor_set.specs.CursorSet.{CursorSet}
-use Rattle.refusal_lines.specs.SinkState.{SinkState}
 use Rattle.session_script.specs.declared.step.Step.{Step}
 use Rattle.session_script.specs.declared.step.Step.TheVariants.{Next}
 use Rattle.verdict.specs.Session.{Places, no_cursors, place_in, places_after}
 use Rattle.verdict.specs.SessionCalls.{calls_among, calls_of_step, calls_of_steps, ends_by_itself, reach_of_step, reach_of_steps}
 use Rattle.command_session.specs.Costs.{IsWithin, Spent, calls_at}
 use Rattle.command_session.proofs.Costs.{spent_places, spent_then, spent_wider, within_spent, within_then}
-use Rattle.command_session.proofs.Moves.{Cursor}
-use Rattle.command_session.proofs.Steps.{HasTaken}
 
 -- ---- the calls of one step
 
@@ -197,10 +194,3 @@ module _ (share : List ℕ → ℕ → ℕ) (rises : (s : List ℕ) (c d : ℕ) 
       let calls = calls_of_steps ends members no_cursors script in
       within_spent share rises old now reach calls before spent
       (spent_wider share rises old now h.reach reach h.calls calls before spent (omega (arith, far)) (omega (arith, many)) h.paid)
-
--- this many steps were taken, what the other steps print is left, and the cost is known
-pub record HasRun (line : List ℕ → List ℕ → List ℕ) (members : List (List ℕ)) (script : List Step) (i : ℕ) (set : CursorSet) (cursors : List Cursor)
-    (old now : SinkState) (share : List ℕ → ℕ → ℕ) (ends : Bool) (first : CursorSet) (started spent : ℕ) : Type 0 where
-  pub places : Places
-  pub taken : HasTaken line members script i places set cursors old now
-  pub paid : HasPaid share ends members script i places first set started spent

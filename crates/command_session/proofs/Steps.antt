@@ -1,7 +1,7 @@
 -- Steps that were taken one by one.
 use Rattle.std.proofs.Common.{◌≡◌, ◌+◌, ◌<◌, ◌≤◌, ℕ, List, [], ◌∷◌, ◌++◌, Option, Some, None, Ok, Err, map, length, drop, get_or, unwrap_or, replicate, sym, ap, subst, ◌∙◌, arith}
 use Rattle.std.specs.Prelude.{take}
-use Rattle.std.proofs.lemmas.List.{drop_all, drop_more, get_or-map, get_or-replicate, length-replicate}
+use Rattle.std.proofs.lemmas.List.{drop_all, drop_more, get_or-replicate, length-replicate}
 use Rattle.cursor_set.specs.CursorSet.{CursorSet}
 use Rattle.refusal_lines.specs.declared.refusal.Refusal.{Refusal}
 use Rattle.refusal_lines.specs.Printing.{Printed}
@@ -80,20 +80,13 @@ taken_all line members script i places set cursors old now end t =
 
 -- ---- the step `next`
 
--- the place of an open cursor is its place in the set
-pub same_place : (set : CursorSet) (cursors : List Cursor) (number : ℕ) (c : OpenCursor) → set.places ≡ map place_of_cursor cursors → IsAt cursors number c
-    → get_or set.places number None ≡ Some c.place
-same_place set cursors number c same at =
-    ap (λ (l : List (Option ℕ)). get_or l number None) same ∙ get_or-map place_of_cursor cursors number None None (inside_at cursors number c at) ∙ ap place_of_cursor at
-
--- what it prints, by the cursor's own name and place
-pub next_told : (P : List ℕ → Type 0) (line : List ℕ → List ℕ → List ℕ) (members : List (List ℕ)) (places : Places) (name : List ℕ) (place count : ℕ) (own : List ℕ)
-    → own ≡ name → places name ≡ Some place → P (next_text (line own) (own ++ 10 ∷ []) (drop place members) count) → P (step_text line members places (Next name count))
-next_told P line members places name place count own is at h =
-    let A : List ℕ → Type 0 = λ n. P (next_text (line n) (n ++ 10 ∷ []) (drop place members) count) in
+-- what it prints, by its cursor's place
+pub next_told : (P : List ℕ → Type 0) (line : List ℕ → List ℕ → List ℕ) (members : List (List ℕ)) (places : Places) (name : List ℕ) (place count : ℕ)
+    → places name ≡ Some place → P (next_text (line name) (name ++ 10 ∷ []) (drop place members) count) → P (step_text line members places (Next name count))
+next_told P line members places name place count at h =
     let B : ℕ → Type 0 = λ p. P (next_text (line name) (name ++ 10 ∷ []) (drop p members) count) in
     let there : place ≡ place_in places name = ap (λ (o : Option ℕ). unwrap_or o 0) (sym at) in
-    subst B there (subst A is h)
+    subst B there h
 
 -- the places of the cursors after it
 pub next_after : (P : Places → Type 0) (members : List (List ℕ)) (places : Places) (name : List ℕ) (place now count : ℕ) → places name ≡ Some place

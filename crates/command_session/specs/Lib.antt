@@ -1,3 +1,5 @@
 pub mod OpenCursors
 pub mod Rules
 pub mod Costs
+pub mod Listing
+pub mod Taken

@@ -1,5 +1,5 @@
 -- The open cursors by name, and the cursor set that moves them.
-use Rattle.std.specs.Prelude.{◌≡◌, ℕ, Bool, false, List, Option, Some, None, map, option_map, slice_index_or}
+use Rattle.std.specs.Prelude.{◌≡◌, ◌<◌, ℕ, Bool, false, List, Option, Some, None, length, map, option_map, slice_index_or}
 use Rattle.std.specs.Str.{bytes_eq}
 use Rattle.cursor_set.specs.CursorSet.{CursorSet}
 use Rattle.verdict.specs.Session.{Places}
@@ -12,6 +12,15 @@ is_named name (Some cursor) = bytes_eq cursor.name.now name
 
 abbrev pub IsAt : List (Option OpenCursor) → ℕ → OpenCursor → Type 0
 IsAt cursors number cursor = slice_index_or cursors number None ≡ Some cursor
+
+-- the cursor with this number has this name and this place
+pub record Found (cursors : List (Option OpenCursor)) (number : ℕ) (name : List ℕ)
+    (place : ℕ) : Type 0 where
+  pub cursor : OpenCursor
+  pub at : IsAt cursors number cursor
+  pub is : cursor.name.now ≡ name
+  pub there : cursor.place ≡ place
+  pub within : number < length cursors
 
 -- The open cursors have these places by name, and the same places in the set. Each has a name of
 -- its own.

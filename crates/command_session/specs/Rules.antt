@@ -17,3 +17,11 @@ abbrev pub CanFollow : List (List ℕ) → Places → List Step → Type 0
 CanFollow members places [] = Unit {0}
 CanFollow members places (step ∷ steps) = CanStep places step
     × CanFollow members (places_after members places step) steps
+
+-- the step only opens, moves or closes a cursor
+abbrev pub PrintsNothing : Step → Type 0
+PrintsNothing (Open name) = Unit {0}
+PrintsNothing (Next name count) = ⊥
+PrintsNothing (Fork name new) = Unit {0}
+PrintsNothing (Rewind name) = Unit {0}
+PrintsNothing (Close name) = Unit {0}

@@ -2,6 +2,7 @@
 //! cursors that share one engine of ranked enumeration.
 #![tactic(auto)]
 
+mod listing;
 mod moving;
 mod open_cursors;
 mod session;

@@ -1,20 +1,19 @@
 //! The step `next`: members from a cursor's place.
 ghost use Rattle.std.specs.Prelude.{◌≡◌, ◌≤◌, ◌<◌, ◌+◌, ◌++◌, IfNone, IfOk, IfSome, IsSomeAnd, IsTrue, OnOk, Some, false, codes, drop, length, slice_get, take};
-ghost use Rattle.anyk_model.specs.Output.{cut, line_text};
-ghost use Rattle.answer_print.specs.StyleView.{style_view};
+ghost use Rattle.anyk_model.specs.Output.{cut};
 ghost use Rattle.cursor_set.specs.CursorSet.{place_of, with_place};
 ghost use Rattle.bound_query.specs.WeighedQuery.{Fits};
 ghost use Rattle.refusal_lines.specs.Printing.{Printed};
 ghost use Rattle.refusal_lines.specs.SinkState.{state_of};
 ghost use Rattle.tdp_model.specs.KeyNumbers.{numbers};
-ghost use Rattle.verdict.specs.Session.{next_text, with_name};
-ghost use Rattle.verdict.specs.SessionCalls.{calls_among, ends_by_itself};
-ghost use Rattle.witness_key.specs.WitnessKey.{AreCombinations, combinations_in};
+ghost use Rattle.verdict.specs.Session.{next_text};
+ghost use Rattle.verdict.specs.SessionCalls.{calls_among};
+ghost use Rattle.witness_key.specs.WitnessKey.{AreCombinations};
 ghost use Rattle.command_session.specs.Costs.{Paid, calls_at};
+ghost use Rattle.command_session.specs.Listing.{ends_in, line_in, members_in};
 
-use crate::open_cursors::OpenCursor;
+use crate::listing::Listing;
 use answer_print::{Style, print_answer};
-use bound_query::Query;
 use csv_tables::RecordWriter;
 use cursor_set::{CursorId, Cursors};
 use outer_io::Sink;
@@ -22,84 +21,77 @@ use refusal_lines::{Refusal, print};
 use std::alloc::Global;
 use std::sync::ledger::Ledger;
 use step_counter::{NoMemory, Steps};
-use table_store::Tables;
 use tdp_core::{Answer, Ranked};
 
-/// Prints at most `count` members from the cursor's place, and the cursor's name alone if the list
-/// ends before that. The list is the combinations that the set's answers stand for, cut to the
-/// limit.
+/// Prints at most `count` members from the place of the cursor `id`, and the cursor's name alone if
+/// the list ends before that. The list is the combinations that the set's answers stand for, cut to
+/// the limit.
 pub(crate) fn print_next<'a, E: Ranked, S: Sink, L: Ledger>(
-    alloc: Global,
     records: &mut RecordWriter,
-    query: &Query,
-    tables: &Tables,
-    style: &Style<'_>,
+    listing: &Listing<'_>,
+    name: &[u8],
     set: &mut Cursors<E>,
     id: CursorId,
-    cursor: &mut OpenCursor<'_>,
+    place: &mut u64,
     count: u64,
     out: &mut S,
     steps: &mut Steps<L>,
 ) -> Result<(), Refusal<'a>>
-    requires fits { Fits query.now tables.now }
-    requires rows { AreCombinations query.now.query tables.now set.old.answers }
-    requires place { place_of set.old id.number ≡ Some cursor.old.place }
+    requires fits { Fits listing.now.query.now listing.now.tables.now }
+    requires rows { AreCombinations listing.now.query.now.query listing.now.tables.now
+        set.old.answers }
+    requires here { place_of set.old id.number ≡ Some place.old }
     ensures printed { Printed (state_of S.Sink out.old) (state_of S.Sink out.new)
-        (next_text (line_text query.now.query tables.now
-        (with_name (style_view style.now) cursor.old.name.now)) (cursor.old.name.now ++ codes "\n")
-        (drop cursor.old.place
-        (cut query.now.query.limit
-        (combinations_in query.now.query set.old.answers))) count) result }
-    ensures name { OnOk result (cursor.new.name.now ≡ cursor.old.name.now) }
-    ensures moved { OnOk result
-        (cursor.new.place ≡ cursor.old.place
-        + length (take count
-        (drop cursor.old.place
-        (cut query.now.query.limit (combinations_in query.now.query set.old.answers))))) }
+        (next_text (line_in listing.now name.now) (name.now ++ codes "\n")
+        (drop place.old (members_in listing.now set.old.answers)) count) result }
+    ensures moved { OnOk result (place.new
+        ≡ place.old
+        + length (take count (drop place.old (members_in listing.now set.old.answers)))) }
     ensures places { OnOk result
-        (set.new.places ≡ (with_place set.old id.number (Some cursor.new.place)).places) }
+        (set.new.places ≡ (with_place set.old id.number (Some place.new)).places) }
     ensures kept { OnOk result (set.new.answers ≡ set.old.answers) }
     ensures paid { Paid E.share set.old set.new
-        (cursor.old.place + calls_among
-        (ends_by_itself query.now.query.limit (combinations_in query.now.query set.old.answers))
-        (length (drop cursor.old.place
-        (cut query.now.query.limit (combinations_in query.now.query set.old.answers)))) count)
-        (calls_among (ends_by_itself query.now.query.limit
-        (combinations_in query.now.query set.old.answers))
-        (length (drop cursor.old.place
-        (cut query.now.query.limit (combinations_in query.now.query set.old.answers)))) count)
-        steps.old steps.new result }
+        (place.old + calls_among (ends_in listing.now set.old.answers)
+        (length (drop place.old (members_in listing.now set.old.answers))) count)
+        (calls_among (ends_in listing.now set.old.answers)
+        (length (drop place.old (members_in listing.now set.old.answers))) count) steps.old
+        steps.new result }
 {
-    let _items = query.items();
     let named = Style {
-        ranks: style.ranks,
-        rows: style.rows,
-        cursor: Some(cursor.name),
+        ranks: listing.style.ranks,
+        rows: listing.style.rows,
+        cursor: Some(name),
     };
     for _given in 0..count {
-        let Some(answer) = next_member(set, id, cursor, query.limit(), steps)? else {
-            return print_end(alloc, cursor.name, out);
+        let Some(answer) = next_member(set, id, place, listing.query.limit(), steps)? else {
+            return print_end(listing.alloc, name, out);
         };
-        print_answer(records, query, tables, &named, &answer.rows, out)?;
+        print_answer(
+            records,
+            listing.query,
+            listing.tables,
+            &named,
+            &answer.rows,
+            out,
+        )?;
     }
     Ok(())
 }
 
-/// The member at the cursor's place, which then moves on by one, or `None` at the end. The set is
-/// not called at the limit.
+/// The member at the place of the cursor `id`, which then moves on by one, or `None` at the end.
+/// The set is not called at the limit.
 fn next_member<E: Ranked, L: Ledger>(
     set: &mut Cursors<E>,
     id: CursorId,
-    cursor: &mut OpenCursor<'_>,
+    place: &mut u64,
     limit: Option<u64>,
     steps: &mut Steps<L>,
 ) -> Result<Option<Answer<E::Key>>, NoMemory>
-    requires place { place_of set.old id.number ≡ Some cursor.old.place }
+    requires { place_of set.old id.number ≡ Some place.old }
     ensures some { IfOk result
         (λ found. IfSome found
-        (λ answer. IfSome limit (λ n. cursor.old.place < n)
-        × (cursor.new.place ≡ cursor.old.place + 1)
-        × (slice_get set.old.answers cursor.old.place
+        (λ answer. IfSome limit (λ n. place.old < n) × (place.new ≡ place.old + 1)
+        × (slice_get set.old.answers place.old
         ≡ Some (record {
           rows = answer.rows;
           key = numbers E.Key.KEYS 16
@@ -107,24 +99,21 @@ fn next_member<E: Ranked, L: Ledger>(
         })))) }
     ensures end { IfOk result
         (λ found. IfNone found
-        ((cursor.new.place ≡ cursor.old.place)
-        × (length (cut limit set.old.answers) ≤ cursor.old.place))) }
-    ensures name { cursor.new.name.now ≡ cursor.old.name.now }
-    ensures places { set.new.places
-        ≡ (with_place set.old id.number (Some cursor.new.place)).places }
+        ((place.new ≡ place.old) × (length (cut limit set.old.answers) ≤ place.old))) }
+    ensures places { set.new.places ≡ (with_place set.old id.number (Some place.new)).places }
     ensures kept { set.new.answers ≡ set.old.answers }
-    ensures paid { Paid E.share set.old set.new (cursor.old.place + calls_at limit cursor.old.place)
-        (calls_at limit cursor.old.place) steps.old steps.new result }
+    ensures paid { Paid E.share set.old set.new (place.old + calls_at limit place.old)
+        (calls_at limit place.old) steps.old steps.new result }
 {
-    if is_reached(limit, cursor.place) {
+    if is_reached(limit, *place) {
         return Ok(None);
     }
-    let Some(place) = cursor.place.checked_add(1) else {
+    let Some(after) = place.checked_add(1) else {
         return Err(NoMemory);
     };
     match set.next(id, steps) {
         Ok(Some(answer)) => {
-            cursor.place = place;
+            *place = after;
             Ok(Some(answer))
         }
         Ok(None) => Ok(None),

@@ -1,12 +1,12 @@
-//! The open cursors by name.
-ghost use Rattle.std.specs.Prelude.{◌≡◌, IfErr, IsSome, None, OnOk, Some, position};
-ghost use Rattle.refusal_lines.specs.Reason as reason;
-ghost use Rattle.refusal_lines.specs.RefusalReasons.{reason_of};
-ghost use Rattle.verdict.specs.Session.{Places, with_cursor};
-ghost use Rattle.command_session.specs.OpenCursors.{IsHeld, is_named};
+//! The open cursors by name, and the steps that open, move and close them.
+ghost use Rattle.std.specs.Prelude.{◌≡◌, ℕ, IfNone, IfSome, IsSome, List, None, OnOk, Some, position};
+ghost use Rattle.verdict.specs.Session.{Places, places_after, with_cursor};
+ghost use Rattle.command_session.specs.OpenCursors.{Found, IsHeld, is_named};
+ghost use Rattle.command_session.specs.Rules.{CanStep, PrintsNothing};
 
 use cursor_set::{CursorId, Cursors, MAX_OPEN};
-use refusal_lines::Refusal;
+use session_script::Step;
+use step_counter::NoMemory;
 use tdp_core::Ranked;
 
 /// An open cursor: its name, and its place in the list, from 0.
@@ -19,8 +19,22 @@ pub(crate) struct OpenCursor<'s> {
 /// The open cursors. The index of each is its number in the set.
 pub(crate) type OpenCursors<'s> = [Option<OpenCursor<'s>>; MAX_OPEN];
 
+/// The cursor with this name and its place, or `None` if none is open under it.
+pub(crate) fn cursor_of(cursors: &OpenCursors<'_>, name: &[u8]) -> Option<(CursorId, u64)>
+    ensures found { IfSome result (λ found. Found cursors.now found.0.number name.now found.1) }
+    ensures unknown { IfNone result (position (is_named name.now) cursors.now ≡ None) }
+{
+    let Some(number) = number_of(cursors, name) else {
+        return None;
+    };
+    let Some(cursor) = cursors[number] else {
+        return None;
+    };
+    Some((CursorId { number }, cursor.place))
+}
+
 /// The number of the cursor with this name, from 0, or `None` if none is open under it.
-pub(crate) fn number_of(cursors: &OpenCursors<'_>, name: &[u8]) -> Option<usize>
+fn number_of(cursors: &OpenCursors<'_>, name: &[u8]) -> Option<usize>
     ensures { result ≡ position (is_named name.now) cursors.now }
 {
     cursors.iter().position(|cursor| is_named(cursor, name))
@@ -36,21 +50,40 @@ fn is_named(cursor: &Option<OpenCursor<'_>>, name: &[u8]) -> bool
     }
 }
 
+/// Takes a step that prints nothing: it opens, moves or closes a cursor. `NoMemory` if no more can
+/// be opened. `next` is no such step, and does nothing here.
+pub(crate) fn move_cursor<'s, E: Ranked>(
+    set: &mut Cursors<E>,
+    cursors: &mut OpenCursors<'s>,
+    step: &'s Step,
+) -> Result<(), NoMemory>
+    ensures held { (members : List (List ℕ)) → (places : Places)
+        → IsHeld set.old cursors.old places → CanStep places step.now → PrintsNothing step.now
+        → OnOk result (IsHeld set.new cursors.new (places_after members places step.now)) }
+    ensures only { set.new ≡ record set.old { places = set.new.places } }
+{
+    match step {
+        Step::Open(name) => open(set, cursors, name.bytes()),
+        Step::Fork(name, new) => fork(set, cursors, name.bytes(), new.bytes()),
+        Step::Rewind(name) => rewind(set, cursors, name.bytes()),
+        Step::Close(name) => close(set, cursors, name.bytes()),
+        Step::Next(_, _) => Ok(()),
+    }
+}
+
 /// Opens a cursor with a new name at the start of the list. `NoMemory` if no more can be opened.
-pub(crate) fn open<'a, 's, E: Ranked>(
+fn open<'s, E: Ranked>(
     set: &mut Cursors<E>,
     cursors: &mut OpenCursors<'s>,
     name: &'s [u8],
-) -> Result<(), Refusal<'a>>
+) -> Result<(), NoMemory>
     ensures held { (places : Places) → IsHeld set.old cursors.old places
         → places name.entry.now ≡ None
         → OnOk result (IsHeld set.new cursors.new (with_cursor places name.entry.now (Some 0))) }
-    ensures memory { IfErr result (λ refusal. reason_of refusal ≡ reason.NoMemory) }
-    ensures answers { set.new.answers ≡ set.old.answers }
     ensures only { set.new ≡ record set.old { places = set.new.places } }
 {
     let Ok(id) = set.open() else {
-        return Err(Refusal::NoMemory);
+        return Err(NoMemory);
     };
     cursors[id.number] = Some(OpenCursor { name, place: 0 });
     Ok(())
@@ -58,82 +91,65 @@ pub(crate) fn open<'a, 's, E: Ranked>(
 
 /// Opens a cursor with a new name at the place of another cursor. `NoMemory` if no more can be
 /// opened.
-pub(crate) fn fork<'a, 's, E: Ranked>(
+fn fork<'s, E: Ranked>(
     set: &mut Cursors<E>,
     cursors: &mut OpenCursors<'s>,
     name: &[u8],
     new: &'s [u8],
-) -> Result<(), Refusal<'a>>
+) -> Result<(), NoMemory>
     ensures held { (places : Places) → IsHeld set.old cursors.old places → IsSome (places name.now)
         → places new.entry.now ≡ None
         → OnOk result (IsHeld set.new cursors.new
         (with_cursor places new.entry.now (places name.now))) }
-    ensures memory { IfErr result (λ refusal. reason_of refusal ≡ reason.NoMemory) }
-    ensures answers { set.new.answers ≡ set.old.answers }
     ensures only { set.new ≡ record set.old { places = set.new.places } }
 {
-    let Some(number) = number_of(cursors, name) else {
+    let Some((id, place)) = cursor_of(cursors, name) else {
         return Ok(());
     };
-    let Some(cursor) = cursors[number] else {
-        return Ok(());
+    let Ok(copy) = set.fork(id) else {
+        return Err(NoMemory);
     };
-    let Ok(id) = set.fork(CursorId { number }) else {
-        return Err(Refusal::NoMemory);
-    };
-    cursors[id.number] = Some(OpenCursor {
-        name: new,
-        place: cursor.place,
-    });
+    cursors[copy.number] = Some(OpenCursor { name: new, place });
     Ok(())
 }
 
 /// Moves a cursor back to the start of the list.
-pub(crate) fn rewind<'a, E: Ranked>(
+fn rewind<'s, E: Ranked>(
     set: &mut Cursors<E>,
-    cursors: &mut OpenCursors<'_>,
-    name: &[u8],
-) -> Result<(), Refusal<'a>>
-    ensures held { (places : Places) → IsHeld set.old cursors.old places → IsSome (places name.now)
-        → OnOk result (IsHeld set.new cursors.new (with_cursor places name.now (Some 0))) }
-    ensures memory { IfErr result (λ refusal. reason_of refusal ≡ reason.NoMemory) }
-    ensures answers { set.new.answers ≡ set.old.answers }
+    cursors: &mut OpenCursors<'s>,
+    name: &'s [u8],
+) -> Result<(), NoMemory>
+    ensures held { (places : Places) → IsHeld set.old cursors.old places
+        → IsSome (places name.entry.now)
+        → OnOk result (IsHeld set.new cursors.new (with_cursor places name.entry.now (Some 0))) }
     ensures only { set.new ≡ record set.old { places = set.new.places } }
 {
-    let Some(number) = number_of(cursors, name) else {
+    let Some((id, _)) = cursor_of(cursors, name) else {
         return Ok(());
     };
-    let Some(cursor) = cursors[number] else {
+    let Ok(()) = set.rewind(id) else {
         return Ok(());
     };
-    let Ok(()) = set.rewind(CursorId { number }) else {
-        return Ok(());
-    };
-    cursors[number] = Some(OpenCursor {
-        name: cursor.name,
-        place: 0,
-    });
+    cursors[id.number] = Some(OpenCursor { name, place: 0 });
     Ok(())
 }
 
 /// Closes a cursor.
-pub(crate) fn close<'a, E: Ranked>(
+fn close<E: Ranked>(
     set: &mut Cursors<E>,
     cursors: &mut OpenCursors<'_>,
     name: &[u8],
-) -> Result<(), Refusal<'a>>
+) -> Result<(), NoMemory>
     ensures held { (places : Places) → IsHeld set.old cursors.old places → IsSome (places name.now)
         → OnOk result (IsHeld set.new cursors.new (with_cursor places name.now None)) }
-    ensures memory { IfErr result (λ refusal. reason_of refusal ≡ reason.NoMemory) }
-    ensures answers { set.new.answers ≡ set.old.answers }
     ensures only { set.new ≡ record set.old { places = set.new.places } }
 {
-    let Some(number) = number_of(cursors, name) else {
+    let Some((id, _)) = cursor_of(cursors, name) else {
         return Ok(());
     };
-    let Ok(()) = set.close(CursorId { number }) else {
+    let Ok(()) = set.close(id) else {
         return Ok(());
     };
-    cursors[number] = None;
+    cursors[id.number] = None;
     Ok(())
 }

@@ -1,26 +1,28 @@
 //! A session, one step after another.
-ghost use Rattle.std.specs.Prelude.{◌≡◌, ◌≤◌, ◌+◌, ◌*◌, [], IsSome, None, OnOk, map, option_map, replicate};
-ghost use Rattle.anyk_model.specs.Output.{cut, line_text};
+ghost use Rattle.std.specs.Prelude.{◌≡◌, ◌≤◌, ◌+◌, ◌*◌, [], None, OnOk, map, option_map, replicate};
+ghost use Rattle.anyk_model.specs.Output.{cut};
 ghost use Rattle.answer_print.specs.StyleView.{style_view};
 ghost use Rattle.bound_query.specs.WeighedQuery.{Fits};
 ghost use Rattle.refusal_lines.specs.Printing.{Printed};
 ghost use Rattle.refusal_lines.specs.SinkState.{state_of};
-ghost use Rattle.session_script.specs.declared.step.Step.TheVariants.{Next};
 ghost use Rattle.session_script.specs.Script.{KeepsRules};
-ghost use Rattle.verdict.specs.Session.{Places, no_cursors, places_after, session_text, step_text, steps_text, with_name};
-ghost use Rattle.verdict.specs.SessionCalls.{calls_of_step, calls_of_steps, ends_by_itself, reach_of_step, reach_of_steps};
+ghost use Rattle.verdict.specs.Session.{Places, no_cursors, session_text};
+ghost use Rattle.verdict.specs.SessionCalls.{calls_of_steps, ends_by_itself, reach_of_steps};
 ghost use Rattle.step_bounds.specs.Steps.{steps_for};
 ghost use Rattle.witness_key.specs.WitnessKey.{AreCombinations, combinations_in};
 ghost use Rattle.command_session.specs.OpenCursors.{IsHeld};
-ghost use Rattle.command_session.specs.Rules.{CanFollow, CanStep};
-ghost use Rattle.command_session.specs.Costs.{IsWithin, Paid};
+ghost use Rattle.command_session.specs.Rules.{CanStep};
+ghost use Rattle.command_session.specs.Costs.{IsWithin};
+ghost use Rattle.command_session.specs.Listing.{ends_in, line_in, members_in};
+ghost use Rattle.command_session.specs.Taken.{IsTaken};
 
+use crate::listing::Listing;
 use crate::moving::print_next;
-use crate::open_cursors::{OpenCursors, close, fork, number_of, open, rewind};
+use crate::open_cursors::{OpenCursor, OpenCursors, cursor_of, move_cursor};
 use answer_print::{Style, print_header};
 use bound_query::Query;
 use csv_tables::RecordWriter;
-use cursor_set::{CursorId, Cursors, MAX_OPEN};
+use cursor_set::{Cursors, MAX_OPEN};
 use outer_io::Sink;
 use refusal_lines::Refusal;
 use session_script::Step;
@@ -62,73 +64,57 @@ pub fn print_session<'a, E: Ranked + Drop, S: Sink, L: Ledger>(
         (cut query.now.query.limit (combinations_in query.now.query (E.rest engine))) no_cursors
         script.now }
 {
-    let titled = Style {
-        ranks: style.ranks,
-        rows: style.rows,
-        cursor: Some(b""),
-    };
-    let mut records = RecordWriter::new(alloc);
-    print_header(alloc, &mut records, query, tables, &titled, out)?;
-    let mut set = Cursors::new(alloc, engine);
-    print_steps(
+    let listing = Listing {
         alloc,
-        &mut records,
         query,
         tables,
         style,
-        &mut set,
-        script,
-        out,
-        steps,
-    )
+    };
+    let mut records = RecordWriter::new(alloc);
+    let mut set = Cursors::new(alloc, engine);
+    print_steps(&mut records, &listing, &mut set, script, out, steps)
 }
 
-/// Prints what the steps print, over a set without an open cursor.
+/// Prints the header and what the steps print, over a set without an open cursor.
 fn print_steps<'a, E: Ranked, S: Sink, L: Ledger>(
-    alloc: Global,
     records: &mut RecordWriter,
-    query: &Query,
-    tables: &Tables,
-    style: &Style<'_>,
+    listing: &Listing<'_>,
     set: &mut Cursors<E>,
     script: &[Step],
     out: &mut S,
     steps: &mut Steps<L>,
 ) -> Result<(), Refusal<'a>>
-    requires fits { Fits query.now tables.now }
-    requires rows { AreCombinations query.now.query tables.now set.old.answers }
+    requires fits { Fits listing.now.query.now listing.now.tables.now }
+    requires rows { AreCombinations listing.now.query.now.query listing.now.tables.now
+        set.old.answers }
     requires places { set.old.places ≡ replicate 64 None }
     requires rules { KeepsRules [] script.now }
     ensures printed { Printed (state_of S.Sink out.old) (state_of S.Sink out.new)
-        (steps_text (λ name. line_text query.now.query tables.now
-        (with_name (style_view style.now) name))
-        (cut query.now.query.limit
-        (combinations_in query.now.query set.old.answers)) no_cursors script.now) result }
+        (session_text listing.now.query.now.query listing.now.tables.now
+        (style_view listing.now.style.now) (members_in listing.now set.old.answers) script.now)
+        result }
     ensures within { IsWithin E.share set.old
-        (reach_of_steps (ends_by_itself query.now.query.limit
-        (combinations_in query.now.query set.old.answers))
-        (cut query.now.query.limit
-        (combinations_in query.now.query set.old.answers)) no_cursors script.now)
-        (calls_of_steps (ends_by_itself query.now.query.limit
-        (combinations_in query.now.query set.old.answers))
-        (cut query.now.query.limit
-        (combinations_in query.now.query set.old.answers)) no_cursors script.now) steps.old
-        steps.new }
+        (reach_of_steps (ends_in listing.now set.old.answers)
+        (members_in listing.now set.old.answers) no_cursors script.now)
+        (calls_of_steps (ends_in listing.now set.old.answers)
+        (members_in listing.now set.old.answers) no_cursors script.now) steps.old steps.new }
 {
+    let titled = Style {
+        ranks: listing.style.ranks,
+        rows: listing.style.rows,
+        cursor: Some(b""),
+    };
+    print_header(
+        listing.alloc,
+        records,
+        listing.query,
+        listing.tables,
+        &titled,
+        out,
+    )?;
     let mut cursors = [None; MAX_OPEN];
     for step in script {
-        take_step(
-            alloc,
-            records,
-            query,
-            tables,
-            style,
-            set,
-            &mut cursors,
-            step,
-            out,
-            steps,
-        )?;
+        take_step(records, listing, set, &mut cursors, step, out, steps)?;
     }
     Ok(())
 }
@@ -136,125 +122,47 @@ fn print_steps<'a, E: Ranked, S: Sink, L: Ledger>(
 /// Takes one step of the script, and prints what it gives. An error if a write failed or memory is
 /// refused.
 fn take_step<'a, 's, E: Ranked, S: Sink, L: Ledger>(
-    alloc: Global,
     records: &mut RecordWriter,
-    query: &Query,
-    tables: &Tables,
-    style: &Style<'_>,
+    listing: &Listing<'_>,
     set: &mut Cursors<E>,
     cursors: &mut OpenCursors<'s>,
     step: &'s Step,
     out: &mut S,
     steps: &mut Steps<L>,
 ) -> Result<(), Refusal<'a>>
-    requires fits { Fits query.now tables.now }
-    requires rows { AreCombinations query.now.query tables.now set.old.answers }
+    requires fits { Fits listing.now.query.now listing.now.tables.now }
+    requires rows { AreCombinations listing.now.query.now.query listing.now.tables.now
+        set.old.answers }
     requires same { set.old.places ≡ map (option_map (λ cursor. cursor.place)) cursors.old }
-    ensures printed { (places : Places) → IsHeld set.old cursors.old places
-        → CanStep places step.now
-        → Printed (state_of S.Sink out.old) (state_of S.Sink out.new)
-        (step_text (λ name. line_text query.now.query tables.now
-        (with_name (style_view style.now) name))
-        (cut query.now.query.limit
-        (combinations_in query.now.query set.old.answers)) places step.now) result }
-    ensures held { (places : Places) → IsHeld set.old cursors.old places → CanStep places step.now
-        → OnOk result (IsHeld set.new cursors.new
-        (places_after (cut query.now.query.limit
-        (combinations_in query.now.query set.old.answers)) places step.now)) }
+    ensures taken { (places : Places) → IsHeld set.old cursors.old places → CanStep places step.now
+        → IsTaken E.share (line_in listing.now) (ends_in listing.now set.old.answers)
+        (members_in listing.now set.old.answers) places step.now
+        (record {
+          set = set.old;
+          cursors = cursors.old;
+          sink = state_of S.Sink out.old;
+          steps = steps.old;
+        })
+        (record {
+          set = set.new;
+          cursors = cursors.new;
+          sink = state_of S.Sink out.new;
+          steps = steps.new;
+        }) result }
     ensures kept { OnOk result (set.new.answers ≡ set.old.answers) }
-    ensures paid { (places : Places) → IsHeld set.old cursors.old places → CanStep places step.now
-        → Paid E.share set.old set.new
-        (reach_of_step (ends_by_itself query.now.query.limit
-        (combinations_in query.now.query set.old.answers))
-        (cut query.now.query.limit
-        (combinations_in query.now.query set.old.answers)) places step.now)
-        (calls_of_step (ends_by_itself query.now.query.limit
-        (combinations_in query.now.query set.old.answers))
-        (cut query.now.query.limit
-        (combinations_in query.now.query set.old.answers)) places step.now) steps.old steps.new
-        result }
 {
     match step {
-        Step::Open(name) => open(set, cursors, name.bytes()),
-        Step::Next(name, count) => take_next(
-            alloc,
-            records,
-            query,
-            tables,
-            style,
-            set,
-            cursors,
-            name.bytes(),
-            *count,
-            out,
-            steps,
-        ),
-        Step::Fork(name, new) => fork(set, cursors, name.bytes(), new.bytes()),
-        Step::Rewind(name) => rewind(set, cursors, name.bytes()),
-        Step::Close(name) => close(set, cursors, name.bytes()),
+        Step::Next(name, count) => {
+            let name = name.bytes();
+            let Some((id, mut place)) = cursor_of(cursors, name) else {
+                return Ok(());
+            };
+            let printed = print_next(
+                records, listing, name, set, id, &mut place, *count, out, steps,
+            );
+            cursors[id.number] = Some(OpenCursor { name, place });
+            printed
+        }
+        _ => Ok(move_cursor(set, cursors, step)?),
     }
-}
-
-/// Takes the step `next` of the cursor with this name.
-fn take_next<'a, E: Ranked, S: Sink, L: Ledger>(
-    alloc: Global,
-    records: &mut RecordWriter,
-    query: &Query,
-    tables: &Tables,
-    style: &Style<'_>,
-    set: &mut Cursors<E>,
-    cursors: &mut OpenCursors<'_>,
-    name: &[u8],
-    count: u64,
-    out: &mut S,
-    steps: &mut Steps<L>,
-) -> Result<(), Refusal<'a>>
-    requires fits { Fits query.now tables.now }
-    requires rows { AreCombinations query.now.query tables.now set.old.answers }
-    requires same { set.old.places ≡ map (option_map (λ cursor. cursor.place)) cursors.old }
-    ensures printed { (places : Places) → IsHeld set.old cursors.old places
-        → IsSome (places name.now)
-        → Printed (state_of S.Sink out.old) (state_of S.Sink out.new)
-        (step_text (λ name. line_text query.now.query tables.now
-        (with_name (style_view style.now) name))
-        (cut query.now.query.limit (combinations_in query.now.query set.old.answers)) places
-        (Next name.now count)) result }
-    ensures held { (places : Places) → IsHeld set.old cursors.old places → IsSome (places name.now)
-        → OnOk result (IsHeld set.new cursors.new
-        (places_after (cut query.now.query.limit
-        (combinations_in query.now.query set.old.answers)) places (Next name.now count))) }
-    ensures kept { OnOk result (set.new.answers ≡ set.old.answers) }
-    ensures paid { (places : Places) → IsHeld set.old cursors.old places → IsSome (places name.now)
-        → Paid E.share set.old set.new
-        (reach_of_step (ends_by_itself query.now.query.limit
-        (combinations_in query.now.query set.old.answers))
-        (cut query.now.query.limit (combinations_in query.now.query set.old.answers)) places
-        (Next name.now count))
-        (calls_of_step (ends_by_itself query.now.query.limit
-        (combinations_in query.now.query set.old.answers))
-        (cut query.now.query.limit (combinations_in query.now.query set.old.answers)) places
-        (Next name.now count)) steps.old steps.new result }
-{
-    let Some(number) = number_of(cursors, name) else {
-        return Ok(());
-    };
-    let Some(mut cursor) = cursors[number] else {
-        return Ok(());
-    };
-    let id = CursorId { number };
-    let printed = print_next(
-        alloc,
-        records,
-        query,
-        tables,
-        style,
-        set,
-        id,
-        &mut cursor,
-        count,
-        out,
-        steps,
-    );
-    cursors[number] = Some(cursor);
-    printed
 }

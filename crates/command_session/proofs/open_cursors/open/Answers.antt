@@ -8,17 +8,8 @@ returns-clause-held g c = λ places held closed.
     held_new c.args.set.now c.open.new.self c.args.cursors.now places c.in-Ok.id.number held c.in-Ok.ensures.opened.0 (record { name = c.args.name; place = 0 }) closed
     (ap (λ (s : CursorSet). s.places) c.in-Ok.ensures.opened.1)
 
-pub returns-in_default-clause-held : goal.returns-in_default-clause-held
-returns-in_default-clause-held g c = λ places held closed. tt
-
-pub returns-clause-answers : goal.returns-clause-answers
-returns-clause-answers g c = ap (λ (s : CursorSet). s.answers) c.in-Ok.ensures.opened.1
-
 pub returns-clause-only : goal.returns-clause-only
 returns-clause-only g c = only_places c.args.set.now c.open.new.self _ c.in-Ok.ensures.opened.1
-
-pub returns-in_default-clause-answers : goal.returns-in_default-clause-answers
-returns-in_default-clause-answers g c = ap (λ (s : CursorSet). s.answers) c.in_default.ensures.refused.2
 
 pub returns-in_default-clause-only : goal.returns-in_default-clause-only
 returns-in_default-clause-only g c = only_places c.args.set.now c.open.new.self c.args.set.now.places c.in_default.ensures.refused.2

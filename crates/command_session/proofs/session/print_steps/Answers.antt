@@ -1,118 +1,63 @@
-use Rattle.std.proofs.Common.{◌≡◌, ℕ, List, [], Err, subst, sym, refl, ◌∙◌, ◌<◌, length, get_or, arith, rules}
-use Rattle.anyk_model.specs.Output.{cut, line_text}
-use Rattle.answer_print.specs.StyleView.{style_view}
-use Rattle.refusal_lines.specs.SinkState.{state_of}
-use Rattle.verdict.specs.Session.{no_cursors, places_after, steps_text, with_name}
-use Rattle.verdict.specs.SessionCalls.{calls_of_step, ends_by_itself, reach_of_step}
-use Rattle.witness_key.specs.WitnessKey.{AreCombinations, combinations_in}
-use Rattle.command_session.specs.Costs.{IsWithin, Spent}
-use Rattle.command_session.proofs.Left.{left_whole}
-use Rattle.command_session.proofs.Reach.{paid_all, paid_more, paid_start, paid_stopped}
-use Rattle.command_session.proofs.Names.{can_follow}
-use Rattle.command_session.proofs.Steps.{can_step, none_held, taken_all, taken_more, taken_stopped}
+use Rattle.std.proofs.Common.{◌≡◌, ◌<◌, Err, get_or, length, refl, subst, sym, ◌∙◌, arith, rules}
+use Rattle.refusal_lines.proofs.Prints.{printed_stopped, printed_then}
+use Rattle.witness_key.specs.WitnessKey.{AreCombinations}
+use Rattle.command_session.proofs.Run.{run_all, run_cost, run_more, run_start, run_stopped, run_within}
 use Rattle.command_session.proofs.session.print_steps.Goals as goal
 
+pub returns-in_err-print_header-clause-printed : goal.returns-in_err-print_header-clause-printed
+returns-in_err-print_header-clause-printed g c =
+    let e : c.from_residual.result ≡ Err c.in_err-print_header.field-0.0 = search rules in
+    rw e (printed_stopped _ _ _ _ c.in_err-print_header.field-0.0 c.in_err-print_header.ensures)
+
 pub loop-step-init : goal.loop-step-init
-loop-step-init g c =
-    let query = c.args.query.now.query in
-    let line : List ℕ → List ℕ → List ℕ = λ name. line_text query c.args.tables.now (with_name (style_view c.args.style.now) name) in
-    let members = cut query.limit (combinations_in query c.args.set.now.answers) in
-    record {
-      answers = refl;
-      run = record {
-        places = no_cursors;
-        taken = record {
-          held = none_held c.args.set.now _ refl c.requires.places;
-          rules = can_follow members no_cursors [] c.args.script.now (λ name. refl) c.requires.rules;
-          left = left_whole (steps_text line members no_cursors c.args.script.now) (state_of g.S.Sink c.args.out.now);
-        };
-        paid = paid_start g.E.Ranked.share g.met.E.Ranked.share_rises (ends_by_itself query.limit (combinations_in query c.args.set.now.answers)) members c.args.script.now c.args.set.now c.args.steps.now;
-      };
-    }
-
-pub take_step-requires-clause-rows : goal.take_step-requires-clause-rows
-take_step-requires-clause-rows g c =
-    subst (AreCombinations c.args.query.now.query c.args.tables.now) (sym c.loop-step.invariant.answers) c.requires.rows
-
-pub returns-in_err-take_step-clause-printed : goal.returns-in_err-take_step-clause-printed
-returns-in_err-take_step-clause-printed g c =
-    let query = c.args.query.now.query in
-    let line : List ℕ → List ℕ → List ℕ = λ name. line_text query c.args.tables.now (with_name (style_view c.args.style.now) name) in
-    let members = cut query.limit (combinations_in query c.args.set.now.answers) in
-    let script = c.args.script.now in
-    let i = c.loop-step.step-index in
-    let step = c.step-item.result in
-    let inside : i < length script = omega arith in
-    let here : get_or script i step ≡ step = sym c.step-item.is in
-    let run = c.loop-step.invariant.run in
-    let can = can_step line members script i step inside here run.places run.taken.rules in
-    let e : c.from_residual.result ≡ Err c.in_err-take_step.field-0.0 = search rules in
-    rw e (taken_stopped line members script i step inside here run.places c.loop-step.set c.loop-step.cursors _ _ _ c.in_err-take_step.field-0.0 run.taken
-    (rw c.loop-step.invariant.answers at (c.in_err-take_step.ensures.printed run.places run.taken.held can.0)))
-
-pub loop-step-preserved : goal.loop-step-preserved
-loop-step-preserved g c =
-    let query = c.args.query.now.query in
-    let line : List ℕ → List ℕ → List ℕ = λ name. line_text query c.args.tables.now (with_name (style_view c.args.style.now) name) in
-    let members = cut query.limit (combinations_in query c.args.set.now.answers) in
-    let script = c.args.script.now in
-    let i = c.loop-step.step-index in
-    let step = c.step-item.result in
-    let inside : i < length script = omega arith in
-    let here : get_or script i step ≡ step = sym c.step-item.is in
-    let run = c.loop-step.invariant.run in
-    let can = can_step line members script i step inside here run.places run.taken.rules in
-    record {
-      answers = c.in_ok-take_step.ensures.kept ∙ c.loop-step.invariant.answers;
-      run = record {
-        places = places_after members run.places step;
-        taken = taken_more line members script i step inside here run.places c.loop-step.set c.take_step.new.set c.loop-step.cursors _ _ _ _ run.taken
-            (rw c.loop-step.invariant.answers at (c.in_ok-take_step.ensures.held run.places run.taken.held can.0)) (rw c.loop-step.invariant.answers at (c.in_ok-take_step.ensures.printed run.places run.taken.held can.0));
-        paid = paid_more g.E.Ranked.share g.met.E.Ranked.share_rises (ends_by_itself query.limit (combinations_in query c.args.set.now.answers)) members script i step inside here run.places
-            c.args.set.now c.loop-step.set c.args.steps.now c.loop-step.steps c.take_step.new.steps run.paid c.take_step.new.set
-            (subst (λ answers. Spent g.E.Ranked.share c.loop-step.set c.take_step.new.set
-            (reach_of_step (ends_by_itself query.limit (combinations_in query answers)) (cut query.limit (combinations_in query answers)) run.places step)
-            (calls_of_step (ends_by_itself query.limit (combinations_in query answers)) (cut query.limit (combinations_in query answers)) run.places step)
-            c.loop-step.steps c.take_step.new.steps) c.loop-step.invariant.answers (c.in_ok-take_step.ensures.paid run.places run.taken.held can.0).spent);
-      };
-    }
-
-pub returns-in_err-take_step-clause-within : goal.returns-in_err-take_step-clause-within
-returns-in_err-take_step-clause-within g c =
-    let query = c.args.query.now.query in
-    let line : List ℕ → List ℕ → List ℕ = λ name. line_text query c.args.tables.now (with_name (style_view c.args.style.now) name) in
-    let members = cut query.limit (combinations_in query c.args.set.now.answers) in
-    let script = c.args.script.now in
-    let i = c.loop-step.step-index in
-    let step = c.step-item.result in
-    let inside : i < length script = omega arith in
-    let here : get_or script i step ≡ step = sym c.step-item.is in
-    let run = c.loop-step.invariant.run in
-    let can = can_step line members script i step inside here run.places run.taken.rules in
-    paid_stopped g.E.Ranked.share g.met.E.Ranked.share_rises (ends_by_itself query.limit (combinations_in query c.args.set.now.answers)) members script i step inside here run.places
-    c.args.set.now c.loop-step.set c.args.steps.now c.loop-step.steps c.take_step.new.steps run.paid
-    (subst (λ answers. IsWithin g.E.Ranked.share c.loop-step.set
-    (reach_of_step (ends_by_itself query.limit (combinations_in query answers)) (cut query.limit (combinations_in query answers)) run.places step)
-    (calls_of_step (ends_by_itself query.limit (combinations_in query answers)) (cut query.limit (combinations_in query answers)) run.places step)
-    c.loop-step.steps c.take_step.new.steps) c.loop-step.invariant.answers (c.in_err-take_step.ensures.paid run.places run.taken.held can.0).within)
-
-pub returns-clause-within : goal.returns-clause-within
-returns-clause-within g c =
-    let query = c.args.query.now.query in
-    let members = cut query.limit (combinations_in query c.args.set.now.answers) in
-    paid_all g.E.Ranked.share g.met.E.Ranked.share_rises (ends_by_itself query.limit (combinations_in query c.args.set.now.answers)) members c.args.script.now c.loop-step.step-index
-    c.loop-step.invariant.run.places c.args.set.now c.loop-step.set c.args.steps.now c.loop-step.steps c.loop-step.invariant.run.paid
-
-pub returns-clause-printed : goal.returns-clause-printed
-returns-clause-printed g c =
-    let query = c.args.query.now.query in
-    let line : List ℕ → List ℕ → List ℕ = λ name. line_text query c.args.tables.now (with_name (style_view c.args.style.now) name) in
-    let run = c.loop-step.invariant.run in
-    taken_all line (cut query.limit (combinations_in query c.args.set.now.answers)) c.args.script.now c.loop-step.step-index run.places c.loop-step.set c.loop-step.cursors _ _ (omega arith)
-    run.taken
+loop-step-init g c = record {
+  answers = refl;
+  run = run_start g.E.Ranked.share g.met.E.Ranked.share_rises c.args.listing.now c.args.set.now.answers c.args.script.now _ refl c.requires.places c.requires.rules;
+}
 
 pub take_step-requires-clause-fits : goal.take_step-requires-clause-fits
 take_step-requires-clause-fits g c = c.requires.fits
 
+pub take_step-requires-clause-rows : goal.take_step-requires-clause-rows
+take_step-requires-clause-rows g c =
+    subst (AreCombinations c.args.listing.now.query.now.query c.args.listing.now.tables.now) (sym c.loop-step.invariant.answers) c.requires.rows
+
 pub take_step-requires-clause-same : goal.take_step-requires-clause-same
 take_step-requires-clause-same g c = c.loop-step.invariant.run.taken.held.same
+
+pub loop-step-preserved : goal.loop-step-preserved
+loop-step-preserved g c =
+    let inside : c.loop-step.step-index < length c.args.script.now = omega arith in
+    let here : get_or c.args.script.now c.loop-step.step-index c.step-item.result ≡ c.step-item.result = sym c.step-item.is in
+    record {
+      answers = c.in_ok-take_step.ensures.kept ∙ c.loop-step.invariant.answers;
+      run = run_more g.E.Ranked.share g.met.E.Ranked.share_rises c.args.listing.now c.args.set.now.answers c.args.script.now c.loop-step.step-index c.step-item.result inside here
+          _ _ _ _ _ c.loop-step.invariant.run c.loop-step.invariant.answers c.in_ok-take_step.ensures.taken;
+    }
+
+pub returns-in_err-take_step-clause-printed : goal.returns-in_err-take_step-clause-printed
+returns-in_err-take_step-clause-printed g c =
+    let inside : c.loop-step.step-index < length c.args.script.now = omega arith in
+    let here : get_or c.args.script.now c.loop-step.step-index c.step-item.result ≡ c.step-item.result = sym c.step-item.is in
+    let head = c.in_ok-print_header.ensures in
+    let e : c.from_residual-in_err-take_step.result ≡ Err c.in_err-take_step.field-0.0 = search rules in
+    rw e (printed_then _ _ _ _ _ _ head.whole head.later
+    (run_stopped g.E.Ranked.share g.met.E.Ranked.share_rises c.args.listing.now c.args.set.now.answers c.args.script.now c.loop-step.step-index c.step-item.result inside here
+    _ _ _ _ _ c.loop-step.invariant.run c.loop-step.invariant.answers c.in_err-take_step.field-0.0 c.in_err-take_step.ensures.taken))
+
+pub returns-in_err-take_step-clause-within : goal.returns-in_err-take_step-clause-within
+returns-in_err-take_step-clause-within g c =
+    let inside : c.loop-step.step-index < length c.args.script.now = omega arith in
+    let here : get_or c.args.script.now c.loop-step.step-index c.step-item.result ≡ c.step-item.result = sym c.step-item.is in
+    run_within g.E.Ranked.share g.met.E.Ranked.share_rises c.args.listing.now c.args.set.now.answers c.args.script.now c.loop-step.step-index c.step-item.result inside here
+    _ _ _ _ _ c.loop-step.invariant.run c.loop-step.invariant.answers _ c.in_err-take_step.ensures.taken
+
+pub returns-clause-printed : goal.returns-clause-printed
+returns-clause-printed g c =
+    let head = c.in_ok-print_header.ensures in
+    printed_then _ _ _ _ _ _ head.whole head.later
+    (run_all g.E.Ranked.share g.met.E.Ranked.share_rises c.args.listing.now c.args.set.now.answers c.args.script.now c.loop-step.step-index _ _ _ _ c.loop-step.invariant.run (omega arith))
+
+pub returns-clause-within : goal.returns-clause-within
+returns-clause-within g c =
+    run_cost g.E.Ranked.share g.met.E.Ranked.share_rises c.args.listing.now c.args.set.now.answers c.args.script.now c.loop-step.step-index _ _ _ _ c.loop-step.invariant.run

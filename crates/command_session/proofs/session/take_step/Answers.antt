@@ -1,91 +1,50 @@
-use Rattle.command_session.proofs.Costs.{paid_places}
-use Rattle.command_session.proofs.Follows.{always}
-use Rattle.command_session.proofs.Left.{printed_nothing}
+use Rattle.std.proofs.Common.{◌≡◌, Err, Ok, ap, refl, rules}
+use Rattle.cursor_set.specs.CursorSet.{CursorSet}
+use Rattle.refusal_lines.specs.declared.refusal.Refusal.TheVariants as refusal
+use Rattle.command_session.proofs.Moves.{same_place, unknown_closed}
+use Rattle.command_session.proofs.Run.{is_quiet, next_taken, quiet_taken}
 use Rattle.command_session.proofs.session.take_step.Goals as goal
 
-pub returns-in-Open-clause-printed : goal.returns-in-Open-clause-printed
-returns-in-Open-clause-printed g c = λ places held can. rw c.in-Open.is (printed_nothing _ _ c.open.ensures.memory)
+pub returns-in_default-cursor_of-clause-taken : goal.returns-in_default-cursor_of-clause-taken
+returns-in_default-cursor_of-clause-taken g c = λ places held can.
+    unknown_closed c.args.set.now c.args.cursors.now places c.bytes-name.result.now c.in_default-cursor_of.ensures.unknown held
+    (rw (c.in-Next.is, ← c.bytes-name.ensures.value) at can)
 
-pub returns-in-Fork-clause-printed : goal.returns-in-Fork-clause-printed
-returns-in-Fork-clause-printed g c = λ places held can. rw c.in-Fork.is (printed_nothing _ _ c.fork.ensures.memory)
+pub returns-in-Some-clause-taken : goal.returns-in-Some-clause-taken
+returns-in-Some-clause-taken g c = λ places held can.
+    let told = c.print_next-printed.ensures in
+    rw (c.in-Next.is, ← c.bytes-name.ensures.value)
+    (next_taken g.E.Ranked.share _ _ _ places c.in-Some.id.number c.bytes-name.result.now c.in-Some.place c.in-Next.count
+    _ c.print_next-printed.new.set (record { name = c.bytes-name.result; place = c.print_next-printed.new.place }) _ c.print_next-printed.new.steps c.print_next-printed.result
+    held c.in-Some.ensures.found refl told.printed told.moved told.places told.paid)
 
-pub returns-in-Rewind-clause-printed : goal.returns-in-Rewind-clause-printed
-returns-in-Rewind-clause-printed g c = λ places held can. rw c.in-Rewind.is (printed_nothing _ _ c.rewind.ensures.memory)
+pub returns-in_ok-move_cursor-in_default-clause-taken : goal.returns-in_ok-move_cursor-in_default-clause-taken
+returns-in_ok-move_cursor-in_default-clause-taken g c = λ places held can.
+    let quiet = is_quiet c.args.step.now c.in_default.not-Next in
+    quiet_taken g.E.Ranked.share g.met.E.Ranked.share_rises _ _ _ places c.args.step.now c.args.set.now c.move_cursor.new.set c.args.cursors.now c.move_cursor.new.cursors _
+    c.args.steps.now (Ok tt) quiet c.move_cursor.ensures.only tt (c.in_ok-move_cursor-in_default.ensures.held _ places held can quiet)
 
-pub returns-in-Close-clause-printed : goal.returns-in-Close-clause-printed
-returns-in-Close-clause-printed g c = λ places held can. rw c.in-Close.is (printed_nothing _ _ c.close.ensures.memory)
+pub returns-in_ok-move_cursor-in_default-clause-kept : goal.returns-in_ok-move_cursor-in_default-clause-kept
+returns-in_ok-move_cursor-in_default-clause-kept g c = ap (λ (s : CursorSet). s.answers) c.move_cursor.ensures.only
 
-pub returns-in-Open-clause-paid : goal.returns-in-Open-clause-paid
-returns-in-Open-clause-paid g c = λ places held can.
-    rw c.in-Open.is (paid_places g.E.Ranked.share g.met.E.Ranked.share_rises c.args.set.now c.open.new.set c.args.steps.now c.open.result c.open.ensures.only)
+pub returns-in_err-move_cursor-in_default : goal.returns-in_err-move_cursor-in_default
+returns-in_err-move_cursor-in_default g c =
+    let e : c.from_residual.result ≡ Err refusal.NoMemory = search rules in
+    rw e (record {
+      taken = λ places held can. quiet_taken g.E.Ranked.share g.met.E.Ranked.share_rises _ _ _ places c.args.step.now c.args.set.now c.move_cursor.new.set c.args.cursors.now
+          c.move_cursor.new.cursors _ c.args.steps.now (Err refusal.NoMemory) (is_quiet c.args.step.now c.in_default.not-Next) c.move_cursor.ensures.only refl tt;
+      kept = tt;
+    })
 
-pub returns-in-Fork-clause-paid : goal.returns-in-Fork-clause-paid
-returns-in-Fork-clause-paid g c = λ places held can.
-    rw c.in-Fork.is (paid_places g.E.Ranked.share g.met.E.Ranked.share_rises c.args.set.now c.fork.new.set c.args.steps.now c.fork.result c.fork.ensures.only)
+pub print_next-printed-requires-clause-fits : goal.print_next-printed-requires-clause-fits
+print_next-printed-requires-clause-fits g c = c.requires.fits
 
-pub returns-in-Rewind-clause-paid : goal.returns-in-Rewind-clause-paid
-returns-in-Rewind-clause-paid g c = λ places held can.
-    rw c.in-Rewind.is (paid_places g.E.Ranked.share g.met.E.Ranked.share_rises c.args.set.now c.rewind.new.set c.args.steps.now c.rewind.result c.rewind.ensures.only)
+pub print_next-printed-requires-clause-rows : goal.print_next-printed-requires-clause-rows
+print_next-printed-requires-clause-rows g c = c.requires.rows
 
-pub returns-in-Close-clause-paid : goal.returns-in-Close-clause-paid
-returns-in-Close-clause-paid g c = λ places held can.
-    rw c.in-Close.is (paid_places g.E.Ranked.share g.met.E.Ranked.share_rises c.args.set.now c.close.new.set c.args.steps.now c.close.result c.close.ensures.only)
+pub print_next-printed-requires-clause-here : goal.print_next-printed-requires-clause-here
+print_next-printed-requires-clause-here g c =
+    same_place c.args.set.now.places c.args.cursors.now c.in-Some.id.number c.bytes-name.result.now c.in-Some.place c.requires.same c.in-Some.ensures.found
 
-pub returns-in-Open-clause-held : goal.returns-in-Open-clause-held
-returns-in-Open-clause-held g c = λ places held can.
-    let may = rw (c.in-Open.is, ← c.bytes.ensures.value) at can in
-    rw (c.in-Open.is, ← c.bytes.ensures.value) (c.open.ensures.held places held may)
-
-pub returns-in-Open-clause-kept : goal.returns-in-Open-clause-kept
-returns-in-Open-clause-kept g c = always c.open.result c.open.ensures.answers
-
-pub returns-in-Fork-clause-held : goal.returns-in-Fork-clause-held
-returns-in-Fork-clause-held g c = λ places held can.
-    let may = rw (c.in-Fork.is, ← c.bytes-in-Fork.ensures.value, ← c.bytes-in-Fork-2.ensures.value) at can in
-    rw (c.in-Fork.is, ← c.bytes-in-Fork.ensures.value, ← c.bytes-in-Fork-2.ensures.value) (c.fork.ensures.held places held may.0 may.1)
-
-pub returns-in-Fork-clause-kept : goal.returns-in-Fork-clause-kept
-returns-in-Fork-clause-kept g c = always c.fork.result c.fork.ensures.answers
-
-pub returns-in-Rewind-clause-held : goal.returns-in-Rewind-clause-held
-returns-in-Rewind-clause-held g c = λ places held can.
-    let may = rw (c.in-Rewind.is, ← c.bytes-in-Rewind.ensures.value) at can in
-    rw (c.in-Rewind.is, ← c.bytes-in-Rewind.ensures.value) (c.rewind.ensures.held places held may)
-
-pub returns-in-Rewind-clause-kept : goal.returns-in-Rewind-clause-kept
-returns-in-Rewind-clause-kept g c = always c.rewind.result c.rewind.ensures.answers
-
-pub returns-in-Close-clause-held : goal.returns-in-Close-clause-held
-returns-in-Close-clause-held g c = λ places held can.
-    let may = rw (c.in-Close.is, ← c.bytes-in-Close.ensures.value) at can in
-    rw (c.in-Close.is, ← c.bytes-in-Close.ensures.value) (c.close.ensures.held places held may)
-
-pub returns-in-Close-clause-kept : goal.returns-in-Close-clause-kept
-returns-in-Close-clause-kept g c = always c.close.result c.close.ensures.answers
-
-pub returns-in-Next-clause-printed : goal.returns-in-Next-clause-printed
-returns-in-Next-clause-printed g c = λ places held can.
-    let may = rw (c.in-Next.is, ← c.bytes-in-Next.ensures.value) at can in
-    rw (c.in-Next.is, ← c.bytes-in-Next.ensures.value) (c.take_next.ensures.printed places held may)
-
-pub returns-in-Next-clause-held : goal.returns-in-Next-clause-held
-returns-in-Next-clause-held g c = λ places held can.
-    let may = rw (c.in-Next.is, ← c.bytes-in-Next.ensures.value) at can in
-    rw (c.in-Next.is, ← c.bytes-in-Next.ensures.value) (c.take_next.ensures.held places held may)
-
-pub returns-in-Next-clause-paid : goal.returns-in-Next-clause-paid
-returns-in-Next-clause-paid g c = λ places held can.
-    let may = rw (c.in-Next.is, ← c.bytes-in-Next.ensures.value) at can in
-    rw (c.in-Next.is, ← c.bytes-in-Next.ensures.value) (c.take_next.ensures.paid places held may)
-
-pub returns-in-Next-clause-kept : goal.returns-in-Next-clause-kept
-returns-in-Next-clause-kept g c = c.take_next.ensures.kept
-
-pub take_next-requires-clause-fits : goal.take_next-requires-clause-fits
-take_next-requires-clause-fits g c = c.requires.fits
-
-pub take_next-requires-clause-rows : goal.take_next-requires-clause-rows
-take_next-requires-clause-rows g c = c.requires.rows
-
-pub take_next-requires-clause-same : goal.take_next-requires-clause-same
-take_next-requires-clause-same g c = c.requires.same
+pub returns-in-Some-clause-kept : goal.returns-in-Some-clause-kept
+returns-in-Some-clause-kept g c = c.print_next-printed.ensures.kept
