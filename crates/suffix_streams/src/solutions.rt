@@ -37,8 +37,6 @@ pub(crate) struct Solutions<'t, R: Rank, A: Allocator + Clone> {
     pub(crate) nodes: Vec<NodeStreams<R, A>, A>,
     /// The products of one row, while they are made. Its room serves one row after another.
     pub(crate) made: Vec<Product<R, A>, A>,
-    /// What was read ahead when the last entry was found. Nothing depends on it.
-    pub(crate) ahead: u32,
 }
 
 impl<'t, R: Rank, A: Allocator + Clone> Solutions<'t, R, A> {
@@ -399,7 +397,6 @@ impl<'t, R: Rank, A: Allocator + Clone> Solutions<'t, R, A> {
             steps,
         );
         let top = self.nodes[node as usize].top(group)?;
-        self.ahead = read_ahead(self.nodes.as_slice(), node, top.tag.row);
         let next = self.entries.push_reserved(
             Found {
                 node,
@@ -410,27 +407,6 @@ impl<'t, R: Rank, A: Allocator + Clone> Solutions<'t, R, A> {
         );
         self.entries.set_next(last, next, steps);
         Some(next)
-    }
-}
-
-/// A part of the last sum that the last product of a row of the root found, or 0 if there is none.
-/// The call for the answer after the row's last one begins with that sum. It is read before the
-/// rows of the answer are, so that its memory is on its way while they are read from other memory.
-/// No result depends on it.
-fn read_ahead<R: Rank, A: Allocator>(nodes: &[NodeStreams<R, A>], node: u32, row: u32) -> u32
-    requires { node < length nodes.now }
-{
-    if node > 0 {
-        return 0;
-    }
-    let lists = &nodes[node as usize];
-    let count = lists.product_count(row);
-    if count == 0 {
-        return 0;
-    }
-    match lists.product_top(row, count - 1) {
-        Some(top) => top.tag.left,
-        None => 0,
     }
 }
 

@@ -69,7 +69,6 @@ impl<'t, R: Rank, A: Allocator + Clone> Streams<'t, R, A> {
             entries,
             nodes,
             made,
-            ahead: 0,
         };
         Ok(Streams {
             solutions,

@@ -242,13 +242,6 @@ index-requires g c =
     let long = set_length c.args.self.now.nodes.items c.args.node (with_queue (lists_of c.args.self.now.nodes.items c.args.node) c.args.group (stream_of c.pass_last.new.nodes.items c.args.node c.args.group).queue (stream_of c.pass_last.new.nodes.items c.args.node c.args.group).room) in
     omega (arith, o.in_nodes, ap length c.pass_last.ensures.changed, long)
 
-pub read_ahead-self-requires : goal.read_ahead-self-requires
-read_ahead-self-requires g c =
-    let at = goal.at.read_ahead-self-requires g c in
-    let o = top_of g at.After-as_slice in
-    let long = set_length c.args.self.now.nodes.items c.args.node (with_queue (lists_of c.args.self.now.nodes.items c.args.node) c.args.group (stream_of c.pass_last.new.nodes.items c.args.node c.args.group).queue (stream_of c.pass_last.new.nodes.items c.args.node c.args.group).room) in
-    omega (arith, o.in_nodes, ap length c.pass_last.ensures.changed, long, ap length c.as_slice-2.ensures.value)
-
 pub returns-in_err-top-clause-tree : goal.returns-in_err-top-clause-tree
 returns-in_err-top-clause-tree g c = refl
 
