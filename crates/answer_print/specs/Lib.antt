@@ -1,1 +1,2 @@
+pub mod FirstSums
 pub mod StyleView

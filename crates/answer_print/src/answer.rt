@@ -1,5 +1,5 @@
 //! The record of an answer.
-ghost use Rattle.std.specs.Prelude.{◌≡◌, ◌<◌, ◌≤◌, ◌-◌, ◌++◌, ◌∷◌, [], List, ℕ, if◌then◌else◌, length, map, take, OnOk};
+ghost use Rattle.std.specs.Prelude.{◌≡◌, ◌<◌, ◌≤◌, ◌-◌, ◌++◌, ◌∷◌, [], List, ℕ, if◌then◌else◌, length, map, take, IfSome, OnOk};
 ghost use Rattle.std.specs.Fmt.{decimal, signed_decimal};
 ghost use Rattle.anyk_model.specs.Output.{line_text};
 ghost use Rattle.anyk_model.specs.Query.{IsCombination, row_counts, sum_of, term_value, value_of};
@@ -9,6 +9,7 @@ ghost use Rattle.bound_query.specs.Inside.{TermInside};
 ghost use Rattle.bound_query.specs.StoredParts.{term_view};
 ghost use Rattle.bound_query.specs.Weights.{column_size, key_at, most_sum};
 ghost use Rattle.csv_tables.specs.WrittenRecords.{HasFields};
+ghost use Rattle.answer_print.specs.FirstSums.{IsFirstSum};
 ghost use Rattle.answer_print.specs.StyleView.{style_view};
 
 use crate::fields::{push_number, push_optional, push_signed};
@@ -36,11 +37,28 @@ pub fn write_line(
         (records.new.text ≡ line_text query.now.query tables.now (style_view style.now)
         (take (length query.now.query.items) rows.now)) }
 {
+    let first = first_sum(query, tables, rows, style);
     records.begin();
     push_optional(records, style.cursor)?;
     push_values(records, query, tables, rows)?;
-    push_shown(records, query, tables, rows, style)?;
+    push_shown(records, query, tables, rows, style, first)?;
     records.end()
+}
+
+/// The sum of the first order key, if sums are shown. It is computed before the first field is
+/// written, so that the rows of all items are read one right after the other: a processor then waits
+/// once for those that its caches lack, and not for each when a field of it is written.
+fn first_sum(query: &Query, tables: &Tables, rows: &[u32; 16], style: &Style<'_>) -> Option<i128>
+    requires fits { Fits query.now tables.now }
+    requires rows { IsCombination (row_counts query.now.query.items tables.now)
+        (take (length query.now.query.items) rows.now) }
+    ensures { IfSome result (IsFirstSum query.now.query tables.now
+        (take (length query.now.query.items) rows.now)) }
+{
+    if !style.ranks || query.keys() == 0 {
+        return None;
+    }
+    Some(key_sum(query, tables, rows, 0))
 }
 
 /// Writes the selected columns of the rows, one row for each item, counted from 1. `NoMemory` if
@@ -89,17 +107,21 @@ fn push_value(
     }
 }
 
-/// Writes the numbers that the style shows, in decimal. `NoMemory` if memory is refused.
+/// Writes the numbers that the style shows, in decimal. `first` is the first sum, if it is known.
+/// `NoMemory` if memory is refused.
 fn push_shown(
     records: &mut RecordWriter,
     query: &Query,
     tables: &Tables,
     rows: &[u32; 16],
     style: &Style<'_>,
+    first: Option<i128>,
 ) -> Result<(), NoMemory>
     requires fits { Fits query.now tables.now }
     requires rows { IsCombination (row_counts query.now.query.items tables.now)
         (take (length query.now.query.items) rows.now) }
+    requires first { IfSome first (IsFirstSum query.now.query tables.now
+        (take (length query.now.query.items) rows.now)) }
     ensures { let chosen = take (length query.now.query.items) rows.now in
         (fields : List (List ℕ)) → HasFields fields records.old.begun → OnOk result
         (HasFields (fields ++ ((if style.now.ranks then map
@@ -108,7 +130,7 @@ fn push_shown(
         ++ (if style.now.rows then map decimal chosen else []))) records.new.begun) }
 {
     if style.ranks {
-        push_sums(records, query, tables, rows)?;
+        push_each_sum(records, query, tables, rows, first)?;
     }
     if style.rows {
         push_rows(records, query, rows)?;
@@ -132,11 +154,49 @@ pub fn push_sums(
         (HasFields (fields ++ map (λ k. signed_decimal
         (sum_of query.now.query tables.now chosen k)) query.now.query.order) records.new.begun) }
 {
+    push_each_sum(records, query, tables, rows, None)
+}
+
+/// Writes the sums of the order keys, as `push_sums` does, of which the first may be known.
+fn push_each_sum(
+    records: &mut RecordWriter,
+    query: &Query,
+    tables: &Tables,
+    rows: &[u32; 16],
+    first: Option<i128>,
+) -> Result<(), NoMemory>
+    requires fits { Fits query.now tables.now }
+    requires rows { IsCombination (row_counts query.now.query.items tables.now)
+        (take (length query.now.query.items) rows.now) }
+    requires first { IfSome first (IsFirstSum query.now.query tables.now
+        (take (length query.now.query.items) rows.now)) }
+    ensures { let chosen = take (length query.now.query.items) rows.now in
+        (fields : List (List ℕ)) → HasFields fields records.old.begun → OnOk result
+        (HasFields (fields ++ map (λ k. signed_decimal
+        (sum_of query.now.query tables.now chosen k)) query.now.query.order) records.new.begun) }
+{
     for key in 0..query.keys() {
-        let sum = key_sum(query, tables, rows, key);
+        let sum = sum_at(query, tables, rows, first, key);
         push_signed(records, sum)?;
     }
     Ok(())
+}
+
+/// The sum of an order key, as `key_sum` returns it. `first` is that of the first key, if it is known.
+fn sum_at(query: &Query, tables: &Tables, rows: &[u32; 16], first: Option<i128>, key: u32) -> i128
+    requires fits { Fits query.now tables.now }
+    requires rows { IsCombination (row_counts query.now.query.items tables.now)
+        (take (length query.now.query.items) rows.now) }
+    requires first { IfSome first (IsFirstSum query.now.query tables.now
+        (take (length query.now.query.items) rows.now)) }
+    requires key { key < length query.now.query.order }
+    ensures { result ≡ sum_of query.now.query tables.now
+        (take (length query.now.query.items) rows.now) (key_at query.now.query.order key) }
+{
+    match first {
+        Some(sum) if key == 0 => sum,
+        _ => key_sum(query, tables, rows, key),
+    }
 }
 
 /// Writes the row numbers of the items, counted from 1. `NoMemory` if memory is refused.

@@ -2,7 +2,7 @@ use Rattle.std.proofs.Common.{◌++◌, ℕ, List, length, map, take}
 use Rattle.std.specs.Fmt.{signed_decimal}
 use Rattle.anyk_model.specs.Query.{OrderKey, sum_of}
 use Rattle.csv_tables.specs.WrittenRecords.{HasFields}
-use Rattle.answer_print.proofs.answer.push_sums.Given as goal
+use Rattle.answer_print.proofs.answer.push_each_sum.Given as goal
 
 abbrev pub invariant-loop-key : goal.invariant-loop-key
 invariant-loop-key l =
