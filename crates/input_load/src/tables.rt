@@ -1,5 +1,5 @@
 //! Reading the tables that the query uses.
-ghost use Rattle.std.specs.Prelude.{◌≡◌, ◌≤◌, ◌<◌, ◌+◌, IfOk, OnOk, List, ℕ, length, map};
+ghost use Rattle.std.specs.Prelude.{◌≡◌, ◌≤◌, ◌<◌, ◌+◌, [], IfOk, OnOk, List, ℕ, length, map};
 ghost use Rattle.std.specs.List.{AllByRecursion};
 ghost use Rattle.std.specs.String.{string_bytes};
 ghost use Rattle.cmd_words.specs.NamedPairs.{named_pair};
@@ -37,10 +37,30 @@ pub(crate) fn read_tables<'a, F: Shelf>(
     ensures count { IfOk result (λ tables. length tables ≡ length entries.now) }
 {
     let mut reader = TableReader::with_keys(alloc, keys);
+    let read = read_each(alloc, entries, shelf, &mut reader);
+    read.and(Ok(reader.into_tables()))
+}
+
+/// Reads the tables of these entries, of which none was read yet.
+fn read_each<'a, F: Shelf>(
+    alloc: Global,
+    entries: &[&'a Named],
+    shelf: &mut F,
+    reader: &mut TableReader,
+) -> Result<(), Refusal<'a>>
+    requires few { length entries.now ≤ 16 }
+    requires none { reader.old ≡ [] }
+    ensures staged { let words = map (λ e. named_pair e.now) entries.now in
+        (named : List (List ℕ × List ℕ)) → AllByRecursion (IsEntryOf named) words
+        → Staged (λ files. Is (tables_in files named (tables_of words)))
+        (λ files file. IsMember file (files_read files named (tables_of words)))
+        (shelved F.Shelf shelf.old) (shelved F.Shelf shelf.new) (said_as reader.new result) }
+    ensures count { OnOk result (length reader.new ≡ length entries.now) }
+{
     for entry in entries {
-        read_table(alloc, entry, shelf, &mut reader)?;
+        read_table(alloc, entry, shelf, reader)?;
     }
-    Ok(reader.into_tables())
+    Ok(())
 }
 
 /// Reads one more table.
