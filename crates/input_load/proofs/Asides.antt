@@ -27,13 +27,13 @@ module _ {A : Type 0} (with : A → Beside) where
 -- ---- the file, and then what its bytes say
 
 -- none is named
-pub beside_none : (aside : Aside) (s : Shelved) (r : Result Beside Reason) → None ≡ aside_name aside → Pure (Is (beside_said aside [])) r
+pub beside_none : (aside : Aside) (bytes : List ℕ) (s : Shelved) (r : Result Beside Reason) → None ≡ aside_name aside → Pure (Is (beside_said aside bytes)) r
     → Staged (λ files. Is (beside_in files aside)) (λ files file. aside_name aside ≡ Some file) s s r
-beside_none nothing s r none h =
+beside_none nothing bytes s r none h =
     wider_staged (λ files. Is (Ok (with_steps []))) (λ files. Is (Ok (with_steps []))) NoTurn (λ files file. None ≡ Some file) s s r
     (λ files given. given) (λ files file no_turn. absurd no_turn) (pure_staged (Is (Ok (with_steps []))) s r h)
-beside_none (script name) s r none h = cc
-beside_none (certificate name) s r none h = cc
+beside_none (script name) bytes s r none h = cc
+beside_none (certificate name) bytes s r none h = cc
 
 said_after : (aside : Aside) (name : List ℕ) → Some name ≡ aside_name aside → (files : Files) → beside_in files aside ≡ then_by (file_in files name) (beside_said aside)
 said_after nothing name is files = cc

@@ -58,28 +58,10 @@ fn read_each<'a, F: Shelf>(
     ensures count { OnOk result (length reader.new ≡ length entries.now) }
 {
     for entry in entries {
-        read_table(alloc, entry, shelf, reader)?;
+        let bytes = load(alloc, shelf, entry.file.as_str())?;
+        add_table(entry.table.as_bytes(), &bytes, reader)?;
     }
     Ok(())
-}
-
-/// Reads one more table.
-fn read_table<'a, F: Shelf>(
-    alloc: Global,
-    entry: &'a Named,
-    shelf: &mut F,
-    reader: &mut TableReader,
-) -> Result<(), Refusal<'a>>
-    requires { length reader.old < 16 }
-    ensures longer { OnOk result (length reader.new ≡ length reader.old + 1) }
-    ensures staged { (named : List (List ℕ × List ℕ)) → IsEntryOf named (named_pair entry.now)
-        → Staged (λ files. Is
-        (table_after reader.old (table_in files named (string_bytes entry.now.table))))
-        (λ files file. file ≡ string_bytes entry.now.file)
-        (shelved F.Shelf shelf.old) (shelved F.Shelf shelf.new) (said_as reader.new result) }
-{
-    let bytes = load(alloc, shelf, entry.file.as_str())?;
-    add_table(entry.table.as_bytes(), &bytes, reader)
 }
 
 /// Adds the table of these bytes. The error is the refusal for its first flaw.

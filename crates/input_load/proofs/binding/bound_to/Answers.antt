@@ -1,4 +1,5 @@
 use Rattle.std.proofs.Common.{◌≡◌, Err, rules, arith}
+use Rattle.std.proofs.lemmas.Result.{IfOk-from_err}
 use Rattle.refusal_lines.specs.RefusalReasons.{reason_of}
 use Rattle.verdict.specs.AcceptedInput.{queries_in}
 use Rattle.verdict.specs.Loading.{bound_in, loaded_in}
@@ -45,3 +46,46 @@ returns-clause-whole c = λ steps proof kept.
       item = rw c.deref.ensures.value at c.in_ok-best.ensures.item;
       rules = kept;
     }
+
+pub returns-in_err-queries-clause-whole : goal.returns-in_err-queries-clause-whole
+returns-in_err-queries-clause-whole c = IfOk-from_err c.from_residual.result _ c.from_residual.ensures.0
+
+pub returns-in_err-queries-clause-branches : goal.returns-in_err-queries-clause-branches
+returns-in_err-queries-clause-branches c = IfOk-from_err c.from_residual.result _ c.from_residual.ensures.0
+
+pub returns-in_err-queries-clause-unnamed : goal.returns-in_err-queries-clause-unnamed
+returns-in_err-queries-clause-unnamed c = λ _. IfOk-from_err c.from_residual.result _ c.from_residual.ensures.0
+
+pub returns-in_err-best-clause-whole : goal.returns-in_err-best-clause-whole
+returns-in_err-best-clause-whole c = IfOk-from_err c.from_residual-in_err-best.result _ c.from_residual-in_err-best.ensures.0
+
+pub returns-in_err-best-clause-branches : goal.returns-in_err-best-clause-branches
+returns-in_err-best-clause-branches c = IfOk-from_err c.from_residual-in_err-best.result _ c.from_residual-in_err-best.ensures.0
+
+pub returns-in_err-best-clause-unnamed : goal.returns-in_err-best-clause-unnamed
+returns-in_err-best-clause-unnamed c = λ _. IfOk-from_err c.from_residual-in_err-best.result _ c.from_residual-in_err-best.ensures.0
+
+pub bind_queries-requires-clause-limits : goal.bind_queries-requires-clause-limits
+bind_queries-requires-clause-limits c = c.requires.limits
+
+pub bind_queries-requires-clause-numbers : goal.bind_queries-requires-clause-numbers
+bind_queries-requires-clause-numbers c = c.requires.numbers
+
+pub bind_queries-requires-clause-known : goal.bind_queries-requires-clause-known
+bind_queries-requires-clause-known c = c.requires.known
+
+pub best_item-requires-clause-some : goal.best_item-requires-clause-some
+best_item-requires-clause-some c =
+    let as_many = c.in_ok-queries.ensures.count in
+    let some = c.requires.limits.some in rw c.deref.ensures.value (omega (arith, as_many, some))
+
+pub best_item-requires-clause-few : goal.best_item-requires-clause-few
+best_item-requires-clause-few c =
+    let as_many = c.in_ok-queries.ensures.count in
+    let few = c.requires.limits.few in rw c.deref.ensures.value (omega (arith, as_many, few))
+
+pub returns-clause-branches : goal.returns-clause-branches
+returns-clause-branches c = c.in_ok-queries.ensures.count
+
+pub returns-clause-unnamed : goal.returns-clause-unnamed
+returns-clause-unnamed c = c.in_ok-best.ensures.unnamed

@@ -1,4 +1,5 @@
 use Rattle.std.proofs.Common.{◌≡◌, ◌∙◌, None, Option, map, option_map, sym, ap, rules, arith}
+use Rattle.std.proofs.lemmas.List.{length-map}
 use Rattle.cmd_words.specs.NamedPairs.{named_pair}
 use Rattle.refusal_lines.specs.Reason.{Reason}
 use Rattle.session_script.specs.Script.{unless}
@@ -36,3 +37,11 @@ returns-clause-known c =
 pub returns-clause-used : goal.returns-clause-used
 returns-clause-used c =
     items_used (map named_pair c.args.named.now) c.args.items.now c.loop-item.item-index _ _ _ _ (omega (arith, c.loop-item-test.false)) c.loop-item.invariant
+
+pub number_of-requires : goal.number_of-requires
+number_of-requires c =
+    let few = c.loop-item.invariant.few in
+    let before = length-map c.args.uses.now.firsts.items (λ e. named_pair e.now) in
+    let now = length-map c.loop-item.uses.firsts.items (λ e. named_pair e.now) in
+    let room = c.requires in
+    omega (arith, few, before, now, room, c.loop-item-test.true)
