@@ -70,7 +70,7 @@ fn select_input<'a, F: Shelf>(
     })
 }
 
-/// The stages after the script or the certificate was read, which is no matter to them.
+/// The stages after the script or the certificate was read, on which they do not depend.
 fn load_bound<'a, F: Shelf>(
     alloc: Global,
     sought: &Sought<'a>,
