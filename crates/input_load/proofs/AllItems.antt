@@ -1,19 +1,20 @@
 -- The items of all selects, one select after another, and the first of them whose table no entry names.
-use Rattle.std.proofs.Common.{◌≡◌, ◌+◌, ◌<◌, ◌≤◌, ◌∷◌, ◌++◌, [], ℕ, List, length, drop, take, get_or, Option, Some, None, Result, Ok, Err, refl, sym, ap, ◌∙◌}
-use Rattle.std.proofs.lemmas.List.{append-nil, drop_all, drop_more, map-append, take_more}
+use Rattle.std.proofs.Common.{◌≡◌, ◌+◌, ◌<◌, ◌≤◌, ◌∷◌, ◌++◌, [], ℕ, List, length, drop, take, get_or, Option, Some, None, Result, Ok, Err, refl, sym, ap, ◌∙◌, subst, arith}
+use Rattle.std.proofs.lemmas.List.{append-nil, drop_all, drop_more, length-append, take-append-drop, take_all, take_more}
 use Rattle.std.proofs.lemmas.Grind.{flat_map-append}
 use Rattle.std.specs.Option.{option_or}
-use Rattle.std.specs.List.{AllByRecursion, flat_map}
+use Rattle.std.specs.List.{flat_map}
 use Rattle.outer_io.specs.Files.{bytes_of}
 use Rattle.query_select.specs.declared.select.ItemRef.{ItemRef}
 use Rattle.query_select.specs.declared.select.Select.{Select}
 use Rattle.refusal_lines.specs.Reason as reason
 use Rattle.refusal_lines.specs.Reason.{Reason, UnknownTable}
-use Rattle.verdict.specs.Loading.{all_items, table_names, unknown_table, unknown_with}
+use Rattle.verdict.specs.Loading.{all_items, unknown_table, unknown_with}
 use Rattle.verdict.specs.StageResults.{Pure}
 use Rattle.session_script.specs.Script.{unless}
 use Rattle.verdict.specs.Stages.{Is}
-use Rattle.input_load.specs.Entries.{HasAdded, IsEntryOf, tables_of}
+use Rattle.input_load.specs.Entries.{HasUses}
+use Rattle.input_load.proofs.FirstUses.{few_uses, no_uses}
 
 pub all_items_flat : (selects : List Select) → all_items selects ≡ flat_map (λ (s : Select). s.items) selects
 all_items_flat [] = refl
@@ -73,29 +74,42 @@ some_unless : {A : Type 0} (o : Option Reason) (e : Reason) (b : A) → Err e �
 some_unless None e b h = cc
 some_unless (Some x) e b h = let same : e ≡ x = cc in ap Some (sym same)
 
--- the items of the selects up to i have tables that entries name, and these are the entries
-pub record HasAllEntries (named : List (List ℕ × List ℕ)) (selects : List Select) (i : ℕ) (words : List (List ℕ × List ℕ)) : Type 0 where
+-- the items of the selects up to i have tables that entries name, and these are their uses
+pub record HasAllUses (named : List (List ℕ × List ℕ)) (selects : List Select) (i : ℕ) (firsts : List (List ℕ × List ℕ)) (numbers : List ℕ) : Type 0 where
   pub known : unknown_table named (all_items (drop i selects)) ≡ unknown_table named (all_items selects)
-  pub tables : tables_of words ≡ table_names (all_items (take i selects))
-  pub entries : AllByRecursion (IsEntryOf named) words
+  pub uses : HasUses named (all_items (take i selects)) firsts numbers
 
-module _ (named : List (List ℕ × List ℕ)) (selects : List Select) (i : ℕ) (select : Select) (words : List (List ℕ × List ℕ))
-    (inside : i < length selects) (is : select ≡ get_or selects i select) (so_far : HasAllEntries named selects i words) where
+pub all_begun : (named : List (List ℕ × List ℕ)) (selects : List Select) → HasAllUses named selects 0 [] []
+all_begun named selects = record { known = refl; uses = no_uses named }
+
+module _ (named : List (List ℕ × List ℕ)) (selects : List Select) (i : ℕ) (select : Select) (firsts : List (List ℕ × List ℕ)) (numbers : List ℕ)
+    (inside : i < length selects) (is : select ≡ get_or selects i select) (so_far : HasAllUses named selects i firsts numbers) where
   here_unknown : option_or (unknown_table named select.items) (unknown_table named (all_items (drop (i + 1) selects))) ≡ unknown_table named (all_items selects)
   here_unknown =
       sym (ap (unknown_table named) (items_left selects i select inside is) ∙ unknown_append named select.items (all_items (drop (i + 1) selects)))
       ∙ so_far.known
 
+  -- there is room for what the items of the select at i use
+  pub all_room : length (all_items selects) ≤ 16 → length firsts + length select.items ≤ 16
+  all_room limit =
+      let few = few_uses named (all_items (take i selects)) firsts numbers so_far.uses in
+      let whole : length (all_items selects) ≡ length (all_items (take i selects) ++ all_items (drop i selects)) =
+      ap (λ (l : List Select). length (all_items l)) (sym (take-append-drop i selects)) ∙ ap length (all_items_append (take i selects) (drop i selects)) in
+      let parts = length-append (all_items (take i selects)) (all_items (drop i selects)) in
+      let left : length (all_items (drop i selects)) ≡ length (select.items ++ all_items (drop (i + 1) selects)) = ap length (items_left selects i select inside is) in
+      let own = length-append select.items (all_items (drop (i + 1) selects)) in
+      omega (arith, few, whole, parts, left, own, limit)
+
   -- the items of the select at i have such tables too
-  pub all_more : (now : List (List ℕ × List ℕ)) → Ok select.items ≡ unless (unknown_table named select.items) select.items
-      → HasAdded named select.items words now → HasAllEntries named selects (i + 1) now
-  all_more now known added = record {
-    known = sym (ap (λ (o : Option Reason). option_or o (unknown_table named (all_items (drop (i + 1) selects)))) (none_unless _ _ _ known)) ∙ here_unknown;
-    tables = added.tables ∙ ap (λ (l : List (List ℕ)). l ++ table_names select.items) so_far.tables
-        ∙ sym (ap table_names (items_done selects i select inside is)
-        ∙ map-append (λ (x : ItemRef). x.table) (all_items (take i selects)) select.items);
-    entries = added.entries so_far.entries;
-  }
+  pub all_more : (now : List (List ℕ × List ℕ)) (counted : List ℕ) → Ok select.items ≡ unless (unknown_table named select.items) select.items
+      → ((earlier : List ItemRef) → HasUses named earlier firsts numbers → HasUses named (earlier ++ select.items) now counted)
+      → HasAllUses named selects (i + 1) now counted
+  all_more now counted known uses =
+      let P : List ItemRef → Type 0 = λ l. HasUses named l now counted in
+      record {
+        known = sym (ap (λ (o : Option Reason). option_or o (unknown_table named (all_items (drop (i + 1) selects)))) (none_unless _ _ _ known)) ∙ here_unknown;
+        uses = subst P (sym (items_done selects i select inside is)) (uses (all_items (take i selects)) so_far.uses);
+      }
 
   -- one of them has not
   pub all_refused : {A : Type 0} (a : A) (e : Reason) → Pure (Is (unless (unknown_table named select.items) select.items)) (Err e)
@@ -108,9 +122,13 @@ module _ (named : List (List ℕ × List ℕ)) (selects : List Select) (i : ℕ)
       sym (ap (λ (o : Option Reason). unless o a) all))
 
 -- all selects were gone over
-pub all_known : {A : Type 0} (named : List (List ℕ × List ℕ)) (selects : List Select) (i : ℕ) (words : List (List ℕ × List ℕ)) (a : A) → length selects ≤ i
-    → HasAllEntries named selects i words → Is (unless (unknown_table named (all_items selects)) a) (Ok a)
-all_known named selects i words a end h =
-    let none : unknown_table named (all_items selects) ≡ None =
-    sym h.known ∙ ap (λ (l : List Select). unknown_table named (all_items l)) (drop_all i selects end) in
-    sym (ap (λ (o : Option Reason). unless o a) none)
+module _ (named : List (List ℕ × List ℕ)) (selects : List Select) (i : ℕ) (firsts : List (List ℕ × List ℕ)) (numbers : List ℕ) (end : length selects ≤ i)
+    (h : HasAllUses named selects i firsts numbers) where
+  pub all_known : {A : Type 0} (a : A) → Is (unless (unknown_table named (all_items selects)) a) (Ok a)
+  all_known a =
+      let none : unknown_table named (all_items selects) ≡ None =
+      sym h.known ∙ ap (λ (l : List Select). unknown_table named (all_items l)) (drop_all i selects end) in
+      sym (ap (λ (o : Option Reason). unless o a) none)
+
+  pub all_used : HasUses named (all_items selects) firsts numbers
+  all_used = let P : List Select → Type 0 = λ l. HasUses named (all_items l) firsts numbers in subst P (take_all i selects end) h.uses

@@ -1,31 +1,14 @@
 -- The script or the certificate, if there is one.
-use Rattle.std.proofs.Common.{◌≡◌, ℕ, List, [], Option, Some, None, Result, Ok, Err, refl, sym, ap, ◌∙◌, arith}
+use Rattle.std.proofs.Common.{◌≡◌, ℕ, List, [], Some, None, Result, Ok, Err, refl, sym, ap, ◌∙◌}
 use Rattle.outer_io.specs.Files.{Files}
 use Rattle.refusal_lines.specs.Reason as reason
 use Rattle.refusal_lines.specs.Reason.{Reason}
-use Rattle.proof_text.specs.Certificate.{Certificate}
-use Rattle.session_script.specs.declared.step.Step.{Step}
-use Rattle.verdict.specs.Loading.{Beside, beside_in, file_in, no_certificate}
-use Rattle.verdict.specs.StageResults.{Fits, NoTurn, Pure, Shelved, Staged}
+use Rattle.verdict.specs.Loading.{Beside, beside_in, file_in, proof_said, steps_said, with_proof, with_steps}
+use Rattle.verdict.specs.StageResults.{NoTurn, Pure, Shelved, Staged}
 use Rattle.verdict.specs.Stages.{Is, then_by}
-use Rattle.verdict.specs.Words.{nothing}
-use Rattle.verdict.proofs.Staging.{found_within, pure_staged, refusal_within}
-
--- if no file is named nothing is read
-pub nothing_beside : (T : Files → List ℕ → Type 0) (s : Shelved) (steps : List Step) (proof : Certificate) → steps ≡ [] → proof ≡ no_certificate
-    → Staged (λ files. Is (beside_in files nothing)) T s s (Ok (record { steps = steps; proof = proof }))
-nothing_beside T s steps proof empty none = record {
-  fits = by s.files;
-  caused = tt;
-  files = refl;
-  misses = omega arith;
-  faults = omega arith;
-  taken = omega arith;
-}
-  where
-    by : (told : Option Files) → Fits (λ files. Is (beside_in files nothing)) T told (Ok (record { steps = steps; proof = proof }))
-    by None = tt
-    by (Some files) = λ i. Ok (record { steps = empty i; proof = none i })
+use Rattle.verdict.specs.Words.{Aside, aside_name, certificate, nothing, script}
+use Rattle.verdict.proofs.Staging.{found_within, pure_staged, refusal_within, wider_staged}
+use Rattle.input_load.specs.Sought.{beside_said}
 
 -- what a part says, and what is known then
 module _ {A : Type 0} (with : A → Beside) where
@@ -41,28 +24,49 @@ module _ {A : Type 0} (with : A → Beside) where
   pub said_found : (x : Result A Reason) (a : A) → Is x (Ok a) → Is (then_by x (λ a. Ok (with a))) (Ok (with a))
   said_found x a h = ap (λ (r : Result A Reason). then_by r (λ a. Ok (with a))) h
 
--- the file of this name, what its bytes say, and what is known then
-module _ {A : Type 0} (said : List ℕ → Result A Reason) (with : A → Beside) (name : List ℕ) where
-  abbrev read : Files → Result Beside Reason
-  read files = then_by (then_by (file_in files name) said) (λ a. Ok (with a))
+-- ---- the file, and then what its bytes say
 
-  abbrev IsName : Files → List ℕ → Type 0
-  IsName files file = Some name ≡ Some file
+-- none is named
+pub beside_none : (aside : Aside) (bytes : List ℕ) (s : Shelved) (r : Result Beside Reason) → None ≡ aside_name aside → Pure (Is (beside_said aside bytes)) r
+    → Staged (λ files. Is (beside_in files aside)) (λ files file. aside_name aside ≡ Some file) s s r
+beside_none nothing bytes s r none h =
+    wider_staged (λ files. Is (Ok (with_steps []))) (λ files. Is (Ok (with_steps []))) NoTurn (λ files file. None ≡ Some file) s s r
+    (λ files given. given) (λ files file no_turn. absurd no_turn) (pure_staged (Is (Ok (with_steps []))) s r h)
+beside_none (script name) bytes s r none h = cc
+beside_none (certificate name) bytes s r none h = cc
+
+said_after : (aside : Aside) (name : List ℕ) → Some name ≡ aside_name aside → (files : Files) → beside_in files aside ≡ then_by (file_in files name) (beside_said aside)
+said_after nothing name is files = cc
+said_after (script file) name is files = let same : name ≡ file = cc in by (file_in files file) ∙ sym (ap (λ (n : List ℕ). then_by (file_in files n) (beside_said (script file))) same)
+  where
+    by : (r : Result (List ℕ) Reason) → then_by (then_by r steps_said) (λ steps. Ok (with_steps steps)) ≡ then_by r (beside_said (script file))
+    by (Ok bytes) = refl
+    by (Err e) = refl
+said_after (certificate file) name is files = let same : name ≡ file = cc in by (file_in files file) ∙ sym (ap (λ (n : List ℕ). then_by (file_in files n) (beside_said (certificate file))) same)
+  where
+    by : (r : Result (List ℕ) Reason) → then_by (then_by r proof_said) (λ proof. Ok (with_proof proof)) ≡ then_by r (beside_said (certificate file))
+    by (Ok bytes) = refl
+    by (Err e) = refl
+
+module _ (aside : Aside) (name : List ℕ) (is : Some name ≡ aside_name aside) where
+  abbrev IsAside : Files → List ℕ → Type 0
+  IsAside files file = aside_name aside ≡ Some file
 
   -- its file was refused
-  pub aside_unread : (old new : Shelved) (e : Reason) → Staged (λ files. Is (file_in files name)) (λ files file. file ≡ name) old new (Err e)
-      → Staged (λ files. Is (read files)) IsName old new (Err e)
-  aside_unread old new e s =
-      refusal_within (λ files. Is (file_in files name)) (λ files file. file ≡ name) (λ files. Is (read files)) IsName old new e
-      (λ files h. ap (λ (r : Result (List ℕ) Reason). then_by (then_by r said) (λ a. Ok (with a))) h) (λ files file is. ap Some (sym is)) s
+  pub beside_unread : (old new : Shelved) (e : Reason) → Staged (λ files. Is (file_in files name)) (λ files file. file ≡ name) old new (Err e)
+      → Staged (λ files. Is (beside_in files aside)) IsAside old new (Err e)
+  beside_unread old new e s =
+      refusal_within (λ files. Is (file_in files name)) (λ files file. file ≡ name) (λ files. Is (beside_in files aside)) IsAside old new e
+      (λ files h. ap (λ (r : Result (List ℕ) Reason). then_by r (beside_said aside)) h ∙ sym (said_after aside name is files))
+      (λ files file same. sym is ∙ ap Some (sym same)) s
 
   -- its file was read
-  pub aside_read : (bytes : List ℕ) (old new : Shelved) (r : Result Beside Reason)
+  pub beside_read : (bytes : List ℕ) (old new : Shelved) (r : Result Beside Reason)
       → Staged (λ files. Is (file_in files name)) (λ files file. file ≡ name) old new (Ok bytes)
-      → Pure (Is (then_by (said bytes) (λ a. Ok (with a)))) r → Staged (λ files. Is (read files)) IsName old new r
-  aside_read bytes old new r s is =
-      found_within (λ files. Is (file_in files name)) (λ files file. file ≡ name) (λ files. Is (then_by (said bytes) (λ a. Ok (with a)))) NoTurn
-      (λ files. Is (read files)) IsName old new new bytes r
-      (λ files given is. is ∙ ap (λ (x : Result (List ℕ) Reason). then_by (then_by x said) (λ a. Ok (with a))) given)
+      → Pure (Is (beside_said aside bytes)) r → Staged (λ files. Is (beside_in files aside)) IsAside old new r
+  beside_read bytes old new r s said =
+      found_within (λ files. Is (file_in files name)) (λ files file. file ≡ name) (λ files. Is (beside_said aside bytes)) NoTurn
+      (λ files. Is (beside_in files aside)) IsAside old new new bytes r
+      (λ files given h. h ∙ ap (λ (x : Result (List ℕ) Reason). then_by x (beside_said aside)) given ∙ sym (said_after aside name is files))
       (λ files file given no_turn. absurd no_turn) s
-      (pure_staged (Is (then_by (said bytes) (λ a. Ok (with a)))) new r is)
+      (pure_staged (Is (beside_said aside bytes)) new r said)

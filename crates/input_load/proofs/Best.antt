@@ -5,12 +5,13 @@ use Rattle.std.specs.Str.{bytes_eq}
 use Rattle.anyk_model.specs.Query.{Item, Query}
 use Rattle.anyk_model.specs.Table.{Table}
 use Rattle.bound_query.specs.WeighedQuery.{BoundQuery}
-use Rattle.refusal_lines.specs.Reason.{BranchShape, Reason, UnionBest, UnknownBest}
+use Rattle.refusal_lines.specs.Reason.{BranchShape, Reason, UnionBest}
 use Rattle.verdict.specs.Loading.{Beside, Loaded, best_in, known_item, loaded_in, odd_branch}
 use Rattle.verdict.specs.StageResults.{Pure}
 use Rattle.session_script.specs.Script.{unless}
 use Rattle.verdict.specs.Stages.{Is, then_by}
 use Rattle.verdict.specs.AcceptedInput.{queries_in}
+use Rattle.input_load.proofs.AllItems.{pure_as}
 
 -- ---- the item that has the alias
 
@@ -35,44 +36,52 @@ one_within (first ∷ []) query item some one is inside =
     (omega (arith, inside, same), tt)
 one_within (first ∷ other ∷ queries) query item some one is inside = absurd (omega arith)
 
+-- ---- the item among queries of one shape
+
+abbrev shaped_best : Option (List ℕ) → List Query → Result (Option ℕ) Reason
+shaped_best alias queries = then_by (unless (odd_branch queries) queries) (best_in alias)
+
+-- a branch is not of the first one's shape
+pub shape_refused : (alias : Option (List ℕ)) (queries : List Query) (branch : ℕ) → Some (BranchShape branch) ≡ odd_branch queries
+    → Pure (Is (shaped_best alias queries)) (Err (BranchShape branch))
+shape_refused alias queries branch h =
+    let P : Option Reason → Type 0 = λ o. Pure (Is (then_by (unless o queries) (best_in alias))) (Err (BranchShape branch)) in
+    subst P h refl
+
+-- all branches are of its shape
+pub shaped : (alias : Option (List ℕ)) (queries : List Query) (r : Result (Option ℕ) Reason) → None ≡ odd_branch queries → r ≡ best_in alias queries
+    → r ≡ shaped_best alias queries
+shaped alias queries r one h = h ∙ ap (λ (o : Option Reason). then_by (unless o queries) (best_in alias)) one
+
 -- ---- what was loaded
 
-module _ (queries : List Query) (tables : List Table) (beside : Beside) where
-  abbrev loaded_with : Option ℕ → Result Loaded Reason
-  loaded_with best = Ok (record { queries = queries; tables = tables; best = best; steps = beside.steps; proof = beside.proof })
+module _ (queries : List Query) (tables : List Table) (beside : Beside) (alias : Option (List ℕ)) where
+  abbrev loaded_with : List Query → Option ℕ → Result Loaded Reason
+  loaded_with qs best = Ok (record { queries = qs; tables = tables; best = best; steps = beside.steps; proof = beside.proof })
 
-  abbrev loaded_after : Option (List ℕ) → List Query → Result Loaded Reason
-  loaded_after alias qs = then_by (best_in alias qs) (λ best. Ok (record { queries = qs; tables = tables; best = best; steps = beside.steps; proof = beside.proof }))
+  abbrev loaded_after : Option Reason → Result Loaded Reason
+  loaded_after o = then_by (unless o queries) (λ qs. then_by (best_in alias qs) (loaded_with qs))
 
-  -- a branch is not of the first one's shape
-  pub shape_refused : (alias : Option (List ℕ)) (branch : ℕ) → Some (BranchShape branch) ≡ odd_branch queries
-      → Pure (Is (loaded_in alias queries tables beside)) (Err (BranchShape branch))
-  shape_refused alias branch h =
-      let P : Option Reason → Type 0 = λ o. Pure (Is (then_by (unless o queries) (loaded_after alias))) (Err (BranchShape branch)) in
-      subst P h refl
-
-  shaped : (alias : Option (List ℕ)) → None ≡ odd_branch queries → loaded_in alias queries tables beside ≡ then_by (best_in alias queries) loaded_with
-  shaped alias h = ap (λ (o : Option Reason). then_by (unless o queries) (loaded_after alias)) (sym h)
-
-  best_refused : (alias : Option (List ℕ)) (qs : List Query) (e : Reason) → Err e ≡ best_in alias qs → Pure (Is (then_by (best_in alias qs) loaded_with)) (Err e)
-  best_refused None qs e h = cc
-  best_refused (Some alias) [] e h = let same : e ≡ UnknownBest = cc in rw same refl
-  best_refused (Some alias) (query ∷ other ∷ qs) e h = let same : e ≡ UnionBest = cc in rw same refl
-  best_refused (Some alias) (query ∷ []) e h = by (position (λ (item : Item). bytes_eq item.alias alias) query.items) h
+  -- no item has the alias, or there are several branches, or they are not of one shape
+  pub item_refused : (e : Reason) → Pure (Is (shaped_best alias queries)) (Err e) → Pure (Is (loaded_in alias queries tables beside)) (Err e)
+  item_refused e = pure_as (Is (shaped_best alias queries)) (Is (loaded_in alias queries tables beside)) e (by (odd_branch queries))
     where
-      by : (o : Option ℕ) → Err e ≡ known_item o → Pure (Is (then_by (known_item o) loaded_with)) (Err e)
-      by None h = let same : e ≡ UnknownBest = cc in rw same refl
-      by (Some item) h = cc
-
-  -- no item has the alias, or there are several branches
-  pub item_refused : (alias : Option (List ℕ)) (e : Reason) → None ≡ odd_branch queries → Err e ≡ best_in alias queries
-      → Pure (Is (loaded_in alias queries tables beside)) (Err e)
-  item_refused alias e one h =
-      let P : Result Loaded Reason → Type 0 = λ r. Pure (Is r) (Err e) in
-      subst P (sym (shaped alias one)) (best_refused alias queries e h)
+      by : (o : Option Reason) → Err e ≡ then_by (unless o queries) (best_in alias) → Err e ≡ loaded_after o
+      by None h = ap (λ (r : Result (Option ℕ) Reason). then_by r (loaded_with queries)) h
+      by (Some x) h = let same : e ≡ x = cc in ap Err same
 
   -- an item has it, or no alias is named
-  pub item_found : (alias : Option (List ℕ)) (best : Option ℕ) → None ≡ odd_branch queries → Ok best ≡ best_in alias queries
-      → Is (loaded_in alias queries tables beside) (loaded_with best)
-  item_found alias best one h =
-      ap (λ (r : Result (Option ℕ) Reason). then_by r loaded_with) h ∙ sym (shaped alias one)
+  pub item_found : (best : Option ℕ) → Ok best ≡ shaped_best alias queries → Is (loaded_in alias queries tables beside) (loaded_with queries best)
+  item_found best = by (odd_branch queries)
+    where
+      by : (o : Option Reason) → Ok best ≡ then_by (unless o queries) (best_in alias) → loaded_with queries best ≡ loaded_after o
+      by None h = ap (λ (r : Result (Option ℕ) Reason). then_by r (loaded_with queries)) h
+      by (Some x) h = cc
+
+-- the branches are of one shape if an item was found
+pub found_shaped : (alias : Option (List ℕ)) (queries : List Query) (best : Option ℕ) → Ok best ≡ shaped_best alias queries → odd_branch queries ≡ None
+found_shaped alias queries best = by (odd_branch queries)
+  where
+    by : (o : Option Reason) → Ok best ≡ then_by (unless o queries) (best_in alias) → o ≡ None
+    by None h = refl
+    by (Some x) h = cc

@@ -62,9 +62,6 @@ parse_all_told bytes parse.NoMemory h = tt
 pub one_refused : (bytes : List ℕ) (fault : ParseFault) → Parses bytes (Err fault) → Pure (IsReading false bytes) (Err (of_parse fault))
 one_refused bytes fault h = pure_refused (IsParse bytes) (λ select. Is (Ok (select ∷ []))) (of_parse fault) (parse_told bytes fault h)
 
-pub one_read : (bytes : List ℕ) (select : Select) (selects : List Select) → Parses bytes (Ok select) → selects ≡ select ∷ [] → IsReading false bytes (Ok selects)
-one_read bytes select selects h is = followed {a = select} h (ap Ok is)
-
 pub branches_refused : (bytes : List ℕ) (fault : ParseFault) → ParsesAll bytes (Err fault) → Pure (IsReading true bytes) (Err (of_parse fault))
 branches_refused bytes fault h = pure_refused (IsParseAll bytes) (λ all. Is (Ok (branches_of all))) (of_parse fault) (parse_all_told bytes fault h)
 

@@ -8,5 +8,6 @@ pub mod FirstUses
 pub mod MadeShelf
 pub mod NoneRefused
 pub mod Reading
+pub mod Selected
 pub mod Shapes
 pub mod Seeking

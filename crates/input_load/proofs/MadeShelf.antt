@@ -3,7 +3,6 @@ use Rattle.std.proofs.Common.{◌≡◌, ◌∷◌, ◌++◌, [], ℕ, List, Vec
 use Rattle.std.specs.Global.{Global}
 use Rattle.std.specs.List.{list_any, zip}
 use Rattle.std.specs.Str.{bytes_eq}
-use Rattle.std.proofs.lemmas.List.{map-append}
 use Rattle.cmd_words.specs.declared.pairs.Named.{Named}
 use Rattle.cmd_words.specs.NamedPairs.{named_pair, are_distinct as have_distinct_names}
 use Rattle.make_input.specs.Input.{files, load_query, query_file, table_files}
@@ -22,13 +21,12 @@ its_files [] = refl
 its_files (n ∷ named) = ap (λ (l : List (List ℕ)). string_bytes n.file ∷ l) (its_files named)
 
 -- the query's file, and those of the tables
-pub files_first : (held : List MemFile) (file : MemFile) (named : List Named) (tables : List (Vec ℕ Global)) (number rows : ℕ)
-    → held ≡ [] ++ file ∷ [] → string_bytes file.name ≡ query_file → file.bytes.items ≡ load_query
+pub files_first : (held : List (List ℕ × List ℕ)) (bytes : List ℕ) (named : List Named) (tables : List (Vec ℕ Global)) (number rows : ℕ)
+    → held ≡ (query_file, bytes) ∷ [] → bytes ≡ load_query
     → map named_pair named ≡ table_files → map (λ (t : Vec ℕ Global). t.items) tables ≡ files number rows
-    → map entry_of held ++ files_of named tables ≡ made_files number rows
-files_first held file named tables number rows is name bytes names texts =
-    let first : map entry_of held ≡ (query_file, load_query) ∷ [] =
-    ap (map entry_of) is ∙ ap (λ (n : List ℕ). (n, file.bytes.items) ∷ []) name ∙ ap (λ (b : List ℕ). (query_file, b) ∷ []) bytes in
+    → held ++ files_of named tables ≡ made_files number rows
+files_first held bytes named tables number rows is text names texts =
+    let first : held ≡ (query_file, load_query) ∷ [] = is ∙ ap (λ (b : List ℕ). (query_file, b) ∷ []) text in
     let named_files : map (λ (n : Named). string_bytes n.file) named ≡ map (λ (t : List ℕ × List ℕ). t.1) table_files =
     its_files named ∙ ap (map (λ (t : List ℕ × List ℕ). t.1)) names in
     ap (λ (l : List (List ℕ × List ℕ)). l ++ files_of named tables) first
@@ -36,18 +34,14 @@ files_first held file named tables number rows is name bytes names texts =
     ∙ ap (λ (l : List (List ℕ)). (query_file, load_query) ∷ zip (map (λ (t : List ℕ × List ℕ). t.1) table_files) l) texts
 
 -- one file more
-pub files_more : (held now : List MemFile) (file : MemFile) (n : Named) (table : Vec ℕ Global) (named later : List Named) (tables others : List (Vec ℕ Global)) (all : List (List ℕ × List ℕ))
-    → map entry_of held ++ files_of named tables ≡ all → named ≡ n ∷ later → tables ≡ table ∷ others
-    → now ≡ held ++ file ∷ [] → string_bytes file.name ≡ string_bytes n.file → file.bytes ≡ table
-    → map entry_of now ++ files_of later others ≡ all
-files_more held now file n table named later tables others all before is also pushed name bytes =
-    let entry : entry_of file ≡ (string_bytes n.file, table.items) = ap (λ (x : List ℕ). (x, file.bytes.items)) name ∙ ap (λ (b : Vec ℕ Global). (string_bytes n.file, b.items)) bytes in
-    ap (λ (l : List MemFile). map entry_of l ++ files_of later others) pushed
-    ∙ ap (λ (l : List (List ℕ × List ℕ)). l ++ files_of later others) (map-append entry_of held (file ∷ []))
-    ∙ append_assoc (map entry_of held) (entry_of file ∷ []) (files_of later others)
-    ∙ ap (λ (e : List ℕ × List ℕ). map entry_of held ++ (e ∷ files_of later others)) entry
-    ∙ ap (λ (l : List Named). map entry_of held ++ files_of l (table ∷ others)) (sym is)
-    ∙ ap (λ (l : List (Vec ℕ Global)). map entry_of held ++ files_of named l) (sym also) ∙ before
+pub files_more : (held now : List (List ℕ × List ℕ)) (n : Named) (table : Vec ℕ Global) (named later : List Named) (tables others : List (Vec ℕ Global)) (all : List (List ℕ × List ℕ))
+    → held ++ files_of named tables ≡ all → named ≡ n ∷ later → tables ≡ table ∷ others
+    → now ≡ held ++ (string_bytes n.file, table.items) ∷ [] → now ++ files_of later others ≡ all
+files_more held now n table named later tables others all before is also pushed =
+    ap (λ (l : List (List ℕ × List ℕ)). l ++ files_of later others) pushed
+    ∙ append_assoc held ((string_bytes n.file, table.items) ∷ []) (files_of later others)
+    ∙ ap (λ (l : List Named). held ++ files_of l (table ∷ others)) (sym is)
+    ∙ ap (λ (l : List (Vec ℕ Global)). held ++ files_of named l) (sym also) ∙ before
 
 -- all files, when no name or no table is left
 pub files_all : (held : List MemFile) (named : List Named) (tables : List (Vec ℕ Global)) (all : List (List ℕ × List ℕ))

@@ -1,15 +1,18 @@
 -- Tables that are read one after another.
-use Rattle.std.proofs.Common.{◌≡◌, ◌+◌, ◌<◌, ◌≤◌, ◌∷◌, ◌++◌, [], ℕ, List, length, drop, get_or, unwrap_or, Option, Some, None, Result, Ok, Err, refl, sym, ap, subst, ◌∙◌, arith, inl, inr}
+use Rattle.std.proofs.Common.{◌≡◌, ◌+◌, ◌<◌, ◌≤◌, ◌∷◌, ◌++◌, [], ℕ, List, length, drop, get_or, unwrap_or, Option, Some, None, Result, Ok, Err, refl, sym, ap, subst, ◌∙◌, arith, inl, inr, IfOk, OnOk}
 use Rattle.std.proofs.lemmas.List.{append_assoc, append-nil, drop_all, drop_more}
 use Rattle.outer_io.specs.Files.{Files}
 use Rattle.anyk_model.specs.Table.{Table}
 use Rattle.rankings.specs.Order.{IsMember}
+use Rattle.std.specs.Result.{result_and}
+use Rattle.refusal_lines.specs.declared.refusal.Refusal.{Refusal}
 use Rattle.refusal_lines.specs.Reason.{Reason}
 use Rattle.verdict.specs.Loading.{file_in, files_read, go_on, known_file, sound_table, table_in, tables_in}
 use Rattle.verdict.specs.StageResults.{Fits, Pure, Shelved, Staged, NoTurn}
 use Rattle.verdict.specs.Stages.{Is, then_by}
 use Rattle.verdict.proofs.Staging.{found_within, pure_staged, refusal_within, wider_staged}
 use Rattle.input_load.specs.Entries.{IsEntryOf, table_after, tables_of}
+use Rattle.input_load.specs.StageViews.{said_as, tables_result_view}
 
 -- ---- one table
 
@@ -156,3 +159,12 @@ reached_none named all s = record {
     by : (told : Option Files) → Fits (IsReached named all 0) (λ files file. IsMember file (files_read files named (tables_of all))) told (Ok [])
     by None = tt
     by (Some files) = (none files, λ file m. m)
+
+-- the tables are handed on if none was refused
+pub handed_tables : {U : Type 0} (r : Result U Refusal) (tables : List Table) → tables_result_view (result_and r (Ok tables)) ≡ said_as tables r
+handed_tables (Ok u) tables = refl
+handed_tables (Err refusal) tables = refl
+
+pub handed_count : {U : Type 0} (r : Result U Refusal) (tables : List Table) (n : ℕ) → OnOk r (length tables ≡ n) → IfOk (result_and r (Ok tables)) (λ (t : List Table). length t ≡ n)
+handed_count (Ok u) tables n h = h
+handed_count (Err refusal) tables n h = tt

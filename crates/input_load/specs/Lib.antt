@@ -4,3 +4,4 @@ pub mod Limits
 pub mod StageViews
 pub mod Sought
 pub mod Turns
+pub mod Wholes

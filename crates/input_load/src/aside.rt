@@ -1,15 +1,15 @@
 //! The script or the certificate, if there is one.
-ghost use Rattle.std.specs.Prelude.{◌≡◌, [], IfOk, Ok, Some};
+ghost use Rattle.std.specs.Prelude.{◌≡◌, [], IfOk, Some, option_map};
 ghost use Rattle.refusal_lines.specs.RefusalReasons.{reason_of};
 ghost use Rattle.proof_text.specs.ProofView.{proof_view};
 ghost use Rattle.session_script.specs.Script.{KeepsRules};
 ghost use Rattle.verdict.specs.Faults.{of_proof, of_script};
-ghost use Rattle.verdict.specs.Loading.{beside_in, no_certificate, proof_said, steps_said, with_proof, with_steps};
-ghost use Rattle.verdict.specs.Stages.{Is, then_by};
+ghost use Rattle.verdict.specs.Loading.{beside_in, no_certificate};
+ghost use Rattle.verdict.specs.Stages.{Is};
 ghost use Rattle.verdict.specs.StageResults.{Pure, Staged, shelved};
-ghost use Rattle.verdict.specs.Words.{aside_name, certificate, script};
+ghost use Rattle.verdict.specs.Words.{aside_name};
 ghost use Rattle.input_load.specs.StageViews.{beside_result_view};
-ghost use Rattle.input_load.specs.Sought.{aside_view};
+ghost use Rattle.input_load.specs.Sought.{aside_view, beside_said};
 
 use crate::file::load;
 use crate::sought::Aside;
@@ -40,44 +40,22 @@ pub(crate) fn load_beside<'a, F: Shelf>(
         (shelved F.Shelf shelf.old) (shelved F.Shelf shelf.new) (beside_result_view result) }
     ensures rules { IfOk result (λ beside. KeepsRules [] beside.script.items) }
 {
+    let Some(name) = name_of(aside) else {
+        return said_beside(alloc, aside, &[]);
+    };
+    let bytes = load(alloc, shelf, name)?;
+    said_beside(alloc, aside, &bytes)
+}
+
+/// The name of the file, if there is one.
+fn name_of<'a>(aside: Aside<'a>) -> Option<&'a str>
+    ensures { option_map (λ name. name.now) result ≡ aside_name (aside_view aside.entry) }
+{
     match aside {
-        Aside::Nothing => Ok(Beside {
-            script: Vec::new(alloc),
-            proof: no_proof(alloc),
-        }),
-        Aside::Script(name) => load_script(alloc, name, shelf),
-        Aside::Certificate(name) => load_proof(alloc, name, shelf),
+        Aside::Nothing => None,
+        Aside::Script(name) => Some(name),
+        Aside::Certificate(name) => Some(name),
     }
-}
-
-/// The script in the file of this name.
-fn load_script<'a, F: Shelf>(
-    alloc: Global,
-    name: &'a str,
-    shelf: &mut F,
-) -> Result<Beside, Refusal<'a>>
-    ensures staged { let asked = script name.now in
-        Staged (λ files. Is (beside_in files asked)) (λ files file. aside_name asked ≡ Some file)
-        (shelved F.Shelf shelf.old) (shelved F.Shelf shelf.new) (beside_result_view result) }
-    ensures rules { IfOk result (λ beside. KeepsRules [] beside.script.items) }
-{
-    let bytes = load(alloc, shelf, name)?;
-    script_of(alloc, &bytes)
-}
-
-/// The certificate in the file of this name.
-fn load_proof<'a, F: Shelf>(
-    alloc: Global,
-    name: &'a str,
-    shelf: &mut F,
-) -> Result<Beside, Refusal<'a>>
-    ensures staged { let asked = certificate name.now in
-        Staged (λ files. Is (beside_in files asked)) (λ files file. aside_name asked ≡ Some file)
-        (shelved F.Shelf shelf.old) (shelved F.Shelf shelf.new) (beside_result_view result) }
-    ensures rules { IfOk result (λ beside. KeepsRules [] beside.script.items) }
-{
-    let bytes = load(alloc, shelf, name)?;
-    proof_of(alloc, &bytes)
 }
 
 /// The empty certificate.
@@ -91,18 +69,32 @@ fn no_proof(alloc: Global) -> Proof
     }
 }
 
-/// The steps that these bytes write, or the refusal for the script's fault.
-fn script_of<'a>(alloc: Global, bytes: &[u8]) -> Result<Beside, Refusal<'a>>
-    ensures said { Pure (Is (then_by (steps_said bytes.now) (λ steps. Ok (with_steps steps))))
+/// The steps or the certificate that the bytes of the file are, or the refusal for their fault. If
+/// there is no file there are neither.
+fn said_beside<'a>(alloc: Global, aside: Aside<'_>, bytes: &[u8]) -> Result<Beside, Refusal<'a>>
+    ensures said { Pure (Is (beside_said (aside_view aside.entry) bytes.now))
         (beside_result_view result) }
     ensures rules { IfOk result (λ beside. KeepsRules [] beside.script.items) }
 {
-    match read_script(alloc, bytes) {
-        Ok(script) => Ok(Beside {
-            script,
+    match aside {
+        Aside::Nothing => Ok(Beside {
+            script: Vec::new(alloc),
             proof: no_proof(alloc),
         }),
-        Err(fault) => Err(script_refusal(fault)),
+        Aside::Script(_) => match read_script(alloc, bytes) {
+            Ok(script) => Ok(Beside {
+                script,
+                proof: no_proof(alloc),
+            }),
+            Err(fault) => Err(script_refusal(fault)),
+        },
+        Aside::Certificate(_) => match read_proof(alloc, bytes) {
+            Ok(proof) => Ok(Beside {
+                script: Vec::new(alloc),
+                proof,
+            }),
+            Err(fault) => Err(proof_refusal(fault)),
+        },
     }
 }
 
@@ -117,21 +109,6 @@ fn script_refusal<'a>(fault: ScriptFault) -> Refusal<'a>
         ScriptFault::CursorExists(line) => Refusal::CursorExists(line),
         ScriptFault::TooManyOpen(line) => Refusal::TooManyOpen(line),
         ScriptFault::NoMemory => Refusal::NoMemory,
-    }
-}
-
-/// The certificate that these bytes are, or the refusal for the first line that is not of its form.
-fn proof_of<'a>(alloc: Global, bytes: &[u8]) -> Result<Beside, Refusal<'a>>
-    ensures said { Pure (Is (then_by (proof_said bytes.now) (λ proof. Ok (with_proof proof))))
-        (beside_result_view result) }
-    ensures rules { IfOk result (λ beside. KeepsRules [] beside.script.items) }
-{
-    match read_proof(alloc, bytes) {
-        Ok(proof) => Ok(Beside {
-            script: Vec::new(alloc),
-            proof,
-        }),
-        Err(fault) => Err(proof_refusal(fault)),
     }
 }
 

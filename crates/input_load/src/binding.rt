@@ -8,20 +8,19 @@ ghost use Rattle.query_bind.specs.Binding.{bound_query};
 ghost use Rattle.bound_query.specs.WeighedQuery.{Fits};
 ghost use Rattle.refusal_lines.specs.Reason.{BranchShape};
 ghost use Rattle.refusal_lines.specs.RefusalReasons.{reason_of};
-ghost use Rattle.session_script.specs.Script.{KeepsRules};
 ghost use Rattle.verdict.specs.AcceptedInput.{queries_in};
 ghost use Rattle.verdict.specs.Faults.{of_bind};
-ghost use Rattle.verdict.specs.Loading.{all_items, best_in, bound_in, first_uses};
+ghost use Rattle.verdict.specs.Loading.{Beside as BesideView, all_items, best_in, bound_in, first_uses};
 ghost use Rattle.verdict.specs.Loading.{have_directions, have_one_shape, odd_branch, table_numbers, told_branch};
 ghost use Rattle.session_script.specs.Script.{unless};
-ghost use Rattle.verdict.specs.Stages.{Is};
+ghost use Rattle.verdict.specs.Stages.{Is, then_by};
 ghost use Rattle.verdict.specs.StageResults.{Pure};
 ghost use Rattle.verdict.specs.Verdict.{IsBound};
 ghost use Rattle.input_load.specs.Limits.{AreWithinLimits, IsWithinLimits};
-ghost use Rattle.input_load.specs.StageViews.{beside_view, input_result_view, item_result_view, queries_result_view, query_result_view};
+ghost use Rattle.input_load.specs.Wholes.{IsWhole, bound_result_view};
+ghost use Rattle.input_load.specs.StageViews.{item_result_view, queries_result_view, query_result_view};
 ghost use Rattle.input_load.specs.Sought.{sought_view};
 
-use crate::aside::Beside;
 use crate::sought::Sought;
 use bound_query::Query;
 use proof_text::Proof;
@@ -74,39 +73,44 @@ impl Model for Input {
         }) };
 }
 
-/// The input of these selects over the tables. `which` has the number of the table of each item of
-/// all selects, from 0. The error is the refusal for the first fault of binding, `BranchShape` for
-/// the first branch that is not of the first one's shape, `UnknownBest` if no item has the alias
-/// that is named, `UnionBest` if an item is named and there are several branches, or `NoMemory`.
-pub(crate) fn bound_input<'a>(
+/// The queries of the branches, bound to the tables.
+#[derive(Drop)]
+pub(crate) struct Bound {
+    /// The query of each branch; one query if there are no branches.
+    pub(crate) queries: Vec<Query>,
+    /// The tables, in the order of their first use.
+    pub(crate) tables: Tables,
+    /// The item of which each row's best answer is asked for, from 0; none if no item is named.
+    pub(crate) best: Option<u32>,
+}
+
+/// These selects, bound to the tables. `which` has the number of the table of each item of all
+/// selects, from 0. The error is the refusal for the first fault of binding, `BranchShape` for the
+/// first branch that is not of the first one's shape, `UnknownBest` if no item has the alias that is
+/// named, `UnionBest` if an item is named and there are several branches, or `NoMemory`.
+pub(crate) fn bound_to<'a>(
     alloc: Global,
     sought: &Sought<'a>,
     selects: &[Select],
     tables: Tables,
     which: &[u32],
-    beside: Beside,
-) -> Result<Input, Refusal<'a>>
+) -> Result<Bound, Refusal<'a>>
     requires limits { AreWithinLimits selects.now }
     requires numbers { let items = all_items selects.now in
         which.now ≡ table_numbers (first_uses items) items }
     requires known { AllByRecursion (λ t. t < length tables) which.now }
-    requires rules { KeepsRules [] beside.script.items }
-    ensures bound { let asked = sought_view sought.now in
-        Pure (IsBound asked selects.now tables (beside_view beside)) (input_result_view result) }
-    ensures branches { IfOk result (λ input. length input.queries ≡ length selects.now) }
-    ensures unnamed { sought.now.best_of ≡ None → IfOk result (λ input. input.best ≡ None) }
+    ensures bound { let asked = sought_view sought.now in (beside : BesideView)
+        → Pure (IsBound asked selects.now tables beside) (bound_result_view beside result) }
+    ensures whole { IfOk result IsWhole }
+    ensures branches { IfOk result (λ bound. length bound.queries.items ≡ length selects.now) }
+    ensures unnamed { sought.now.best_of ≡ None → IfOk result (λ bound. bound.best ≡ None) }
 {
     let queries = bind_queries(alloc, selects, &tables, which)?;
-    if let Some(branch) = odd_branch(&queries) {
-        return Err(Refusal::BranchShape(branch));
-    }
-    let best = list_item(&queries, sought.best_of)?;
-    Ok(Input {
+    let best = best_item(&queries, sought.best_of)?;
+    Ok(Bound {
         queries,
         tables,
         best,
-        script: beside.script,
-        proof: beside.proof,
     })
 }
 
@@ -208,16 +212,23 @@ fn have_directions(a: &Query, b: &Query) -> bool
     true
 }
 
-/// The number of the item with this alias, from 0; none if no alias is named. `UnknownBest` if no
-/// item has the alias, and `UnionBest` if there are several branches.
-fn list_item<'a>(queries: &[Query], best_of: Option<&str>) -> Result<Option<u32>, Refusal<'a>>
-    requires { 1 ≤ length queries.now }
+/// The number of the item with this alias, from 0; none if no alias is named. `BranchShape` for the
+/// first branch that is not of the first one's shape, `UnionBest` if there are several branches, and
+/// `UnknownBest` if no item has the alias.
+fn best_item<'a>(queries: &[Query], best_of: Option<&str>) -> Result<Option<u32>, Refusal<'a>>
+    requires some { 1 ≤ length queries.now }
+    requires few { length queries.now ≤ 8 }
     ensures best { let alias = option_map (λ alias. alias.now) best_of.entry in
-        item_result_view result ≡ best_in alias (queries_in queries.now) }
+        let shown = queries_in queries.now in
+        Pure (Is (then_by (unless (odd_branch shown) shown) (best_in alias)))
+        (item_result_view result) }
     ensures item { IfOk result (λ best. IfSome best
         (λ item. AllByRecursion (λ q. item < length q.query.items) queries.now)) }
     ensures unnamed { best_of.entry ≡ None → IfOk result (λ best. best ≡ None) }
 {
+    if let Some(branch) = odd_branch(queries) {
+        return Err(Refusal::BranchShape(branch));
+    }
     let Some(alias) = best_of else {
         return Ok(None);
     };

@@ -1,25 +1,21 @@
 //! The stages of loading, one after another.
-ghost use Rattle.std.specs.Prelude.{◌≡◌, [], None, false, IfOk, length, map};
-ghost use Rattle.std.specs.List.{AllByRecursion};
-ghost use Rattle.cmd_words.specs.NamedPairs.{named_pair};
-ghost use Rattle.session_script.specs.Script.{KeepsRules};
-ghost use Rattle.verdict.specs.Loading.{all_items, table_names};
+ghost use Rattle.std.specs.Prelude.{◌≡◌, None, false, IfOk, length};
+ghost use Rattle.verdict.specs.Loading.{Beside as BesideView};
 ghost use Rattle.verdict.specs.StageResults.{Staged, shelved};
-ghost use Rattle.verdict.specs.Verdict.{IsAccompanied, IsLoadedOn, IsTabled};
-ghost use Rattle.input_load.specs.Entries.{IsEntryOf, tables_of};
+ghost use Rattle.verdict.specs.Verdict.{IsAccompanied, IsLoadedOn, IsSelected};
 ghost use Rattle.input_load.specs.Limits.{AreWithinLimits};
-ghost use Rattle.input_load.specs.StageViews.{beside_view, input_result_view};
+ghost use Rattle.input_load.specs.StageViews.{input_result_view};
 ghost use Rattle.input_load.specs.Sought.{sought_view};
-ghost use Rattle.input_load.specs.Turns.{IsAccompaniedTurn, IsTabledTurn, IsTurn};
+ghost use Rattle.input_load.specs.Turns.{IsAccompaniedTurn, IsSelectedTurn, IsTurn};
+ghost use Rattle.input_load.specs.Wholes.{IsWhole, bound_result_view};
 
-use crate::aside::{Beside, load_beside};
-use crate::binding::{Input, bound_input};
+use crate::aside::load_beside;
+use crate::binding::{Bound, Input, bound_to};
 use crate::file::load;
 use crate::query::read_selects;
 use crate::sought::Sought;
 use crate::tables::read_tables;
-use crate::uses::{entries_of, first_entries, table_numbers};
-use cmd_words::Named;
+use crate::uses::uses_of;
 use hash_keys::Keys;
 use outer_io::Shelf;
 use query_select::select::Select;
@@ -64,35 +60,34 @@ fn select_input<'a, F: Shelf>(
     ensures unnamed { sought.now.best_of ≡ None → IfOk result (λ input. input.best ≡ None) }
 {
     let beside = load_beside(alloc, sought.aside, shelf)?;
-    let entries = entries_of(alloc, sought.named, selects)?;
-    table_input(alloc, sought, selects, beside, &entries, shelf, keys)
+    let bound = load_bound(alloc, sought, selects, shelf, keys)?;
+    Ok(Input {
+        queries: bound.queries,
+        tables: bound.tables,
+        best: bound.best,
+        script: beside.script,
+        proof: beside.proof,
+    })
 }
 
-/// The stages after each item's table was found among the words.
-fn table_input<'a, F: Shelf>(
+/// The stages after the script or the certificate was read, on which they do not depend.
+fn load_bound<'a, F: Shelf>(
     alloc: Global,
     sought: &Sought<'a>,
     selects: &[Select],
-    beside: Beside,
-    entries: &[&'a Named],
     shelf: &mut F,
     keys: Keys,
-) -> Result<Input, Refusal<'a>>
-    requires limits { AreWithinLimits selects.now }
-    requires rules { KeepsRules [] beside.script.items }
-    requires tables { let names = tables_of (map (λ e. named_pair e.now) entries.now) in
-        names ≡ table_names (all_items selects.now) }
-    requires entries { let asked = sought_view sought.now in
-        AllByRecursion (IsEntryOf asked.named) (map (λ e. named_pair e.now) entries.now) }
-    ensures staged { let asked = sought_view sought.now in
-        Staged (λ files. IsTabled asked files selects.now (beside_view beside))
-        (λ files. IsTabledTurn asked files selects.now)
-        (shelved F.Shelf shelf.old) (shelved F.Shelf shelf.new) (input_result_view result) }
-    ensures branches { IfOk result (λ input. length input.queries ≡ length selects.now) }
-    ensures unnamed { sought.now.best_of ≡ None → IfOk result (λ input. input.best ≡ None) }
+) -> Result<Bound, Refusal<'a>>
+    requires { AreWithinLimits selects.now }
+    ensures staged { let asked = sought_view sought.now in (beside : BesideView)
+        → Staged (λ files. IsSelected asked files selects.now beside)
+        (λ files. IsSelectedTurn asked files selects.now)
+        (shelved F.Shelf shelf.old) (shelved F.Shelf shelf.new) (bound_result_view beside result) }
+    ensures whole { IfOk result IsWhole }
+    ensures branches { IfOk result (λ bound. length bound.queries.items ≡ length selects.now) }
+    ensures unnamed { sought.now.best_of ≡ None → IfOk result (λ bound. bound.best ≡ None) }
 {
-    let firsts = first_entries(alloc, entries)?;
-    let which = table_numbers(alloc, entries, &firsts)?;
-    let tables = read_tables(alloc, &firsts, shelf, keys)?;
-    bound_input(alloc, sought, selects, tables, &which, beside)
+    let uses = uses_of(alloc, sought.named, selects)?;
+    let tables = read_tables(alloc, &uses.firsts, shelf, keys)?;
+    bound_to(alloc, sought, selects, tables, &uses.numbers)
 }

@@ -1,5 +1,5 @@
 //! An input that is made from a number.
-ghost use Rattle.std.specs.Prelude.{◌≡◌, IfOk, length, map};
+ghost use Rattle.std.specs.Prelude.{◌≡◌, ◌∷◌, ◌++◌, [], IfOk, OnOk, length, map};
 ghost use Rattle.outer_io.specs.Entries.{entry_of};
 ghost use Rattle.verdict.specs.MadeFiles.{made_files};
 ghost use Rattle.verdict.specs.StageResults.{Pure};
@@ -44,13 +44,27 @@ fn made_shelf(alloc: Global, made: &MadeTables) -> Result<Vec<MemFile>, NoMemory
         (λ files. map entry_of files.items ≡ made_files made.now.number made.now.rows) }
 {
     let mut files = Vec::new(alloc);
-    let name = String::from_str(alloc, "load.sql")?;
     let bytes = query_of(alloc)?;
-    files.push(MemFile { name, bytes })?;
+    push_file(alloc, &mut files, "load.sql", bytes)?;
     let tables = tables_of(alloc, made.number, made.rows)?;
     for (named, bytes) in made.named.iter().zip(tables) {
-        let name = String::from_str(alloc, named.file.as_str())?;
-        files.push(MemFile { name, bytes })?;
+        push_file(alloc, &mut files, named.file.as_str(), bytes)?;
     }
     Ok(files)
+}
+
+/// Puts a file of this name with these bytes after the others.
+fn push_file(
+    alloc: Global,
+    files: &mut Vec<MemFile>,
+    name: &str,
+    bytes: Vec<u8>,
+) -> Result<(), NoMemory>
+    ensures { OnOk result
+        (map entry_of files.new.items
+        ≡ map entry_of files.old.items ++ (name.now, bytes.items) ∷ []) }
+{
+    let name = String::from_str(alloc, name)?;
+    files.push(MemFile { name, bytes })?;
+    Ok(())
 }

@@ -1,8 +1,9 @@
 //! The query of the query file, or its branches.
-ghost use Rattle.std.specs.Prelude.{◌≡◌, ◌∷◌, [], false, true, IfOk, length, map};
+ghost use Rattle.std.specs.Prelude.{◌≡◌, ◌∷◌, [], false, true, IfOk, Ok, length, map};
 ghost use Rattle.refusal_lines.specs.RefusalReasons.{reason_of};
 ghost use Rattle.verdict.specs.Faults.{of_parse};
 ghost use Rattle.verdict.specs.Loading.{IsReading, branches_of};
+ghost use Rattle.verdict.specs.Stages.{Is};
 ghost use Rattle.verdict.specs.StageResults.{Pure};
 ghost use Rattle.input_load.specs.Limits.{AreWithinLimits, limited};
 ghost use Rattle.input_load.specs.StageViews.{selects_result_view};
@@ -12,7 +13,6 @@ use query_grammar::{parse, parse_all};
 use query_select::select::{Select, SelectAll};
 use refusal_lines::Refusal;
 use std::alloc::Global;
-use step_counter::NoMemory;
 
 /// The query that these bytes write, or its branches if it may have several. The error is the
 /// refusal for the parser's fault.
@@ -70,14 +70,15 @@ fn read_alone<'a>(alloc: Global, bytes: &[u8]) -> Result<Vec<Select>, Refusal<'a
     ensures alone { IfOk result (λ selects. length selects.items ≡ 1) }
 {
     match parse(alloc, bytes) {
-        Ok(select) => Ok(one_select(alloc, select)?),
+        Ok(select) => one_select(alloc, select),
         Err(fault) => Err(parse_refusal(fault)),
     }
 }
 
 /// This select alone. `NoMemory` if memory is refused.
-fn one_select(alloc: Global, select: Select) -> Result<Vec<Select>, NoMemory>
-    ensures { IfOk result (λ selects. selects.items ≡ select ∷ []) }
+fn one_select<'a>(alloc: Global, select: Select) -> Result<Vec<Select>, Refusal<'a>>
+    ensures said { Pure (Is (Ok (select ∷ []))) (selects_result_view result) }
+    ensures alone { IfOk result (λ selects. selects.items ≡ select ∷ []) }
 {
     let mut selects = Vec::new(alloc);
     selects.push(select)?;

@@ -1,5 +1,5 @@
 //! Reading the tables that the query uses.
-ghost use Rattle.std.specs.Prelude.{◌≡◌, ◌≤◌, ◌<◌, ◌+◌, IfOk, OnOk, List, ℕ, length, map};
+ghost use Rattle.std.specs.Prelude.{◌≡◌, ◌≤◌, ◌<◌, ◌+◌, [], IfOk, OnOk, List, ℕ, length, map};
 ghost use Rattle.std.specs.List.{AllByRecursion};
 ghost use Rattle.std.specs.String.{string_bytes};
 ghost use Rattle.cmd_words.specs.NamedPairs.{named_pair};
@@ -37,29 +37,31 @@ pub(crate) fn read_tables<'a, F: Shelf>(
     ensures count { IfOk result (λ tables. length tables ≡ length entries.now) }
 {
     let mut reader = TableReader::with_keys(alloc, keys);
-    for entry in entries {
-        read_table(alloc, entry, shelf, &mut reader)?;
-    }
-    Ok(reader.into_tables())
+    let read = read_each(alloc, entries, shelf, &mut reader);
+    read.and(Ok(reader.into_tables()))
 }
 
-/// Reads one more table.
-fn read_table<'a, F: Shelf>(
+/// Reads the tables of these entries, of which none was read yet.
+fn read_each<'a, F: Shelf>(
     alloc: Global,
-    entry: &'a Named,
+    entries: &[&'a Named],
     shelf: &mut F,
     reader: &mut TableReader,
 ) -> Result<(), Refusal<'a>>
-    requires { length reader.old < 16 }
-    ensures longer { OnOk result (length reader.new ≡ length reader.old + 1) }
-    ensures staged { (named : List (List ℕ × List ℕ)) → IsEntryOf named (named_pair entry.now)
-        → Staged (λ files. Is
-        (table_after reader.old (table_in files named (string_bytes entry.now.table))))
-        (λ files file. file ≡ string_bytes entry.now.file)
+    requires few { length entries.now ≤ 16 }
+    requires none { reader.old ≡ [] }
+    ensures staged { let words = map (λ e. named_pair e.now) entries.now in
+        (named : List (List ℕ × List ℕ)) → AllByRecursion (IsEntryOf named) words
+        → Staged (λ files. Is (tables_in files named (tables_of words)))
+        (λ files file. IsMember file (files_read files named (tables_of words)))
         (shelved F.Shelf shelf.old) (shelved F.Shelf shelf.new) (said_as reader.new result) }
+    ensures count { OnOk result (length reader.new ≡ length entries.now) }
 {
-    let bytes = load(alloc, shelf, entry.file.as_str())?;
-    add_table(entry.table.as_bytes(), &bytes, reader)
+    for entry in entries {
+        let bytes = load(alloc, shelf, entry.file.as_str())?;
+        add_table(entry.table.as_bytes(), &bytes, reader)?;
+    }
+    Ok(())
 }
 
 /// Adds the table of these bytes. The error is the refusal for its first flaw.

@@ -1,14 +1,15 @@
 //! The tables that the items use.
-ghost use Rattle.std.specs.Prelude.{◌≡◌, ◌≤◌, [], IfOk, OnOk, List, ℕ, find, length, map, option_map};
-ghost use Rattle.std.specs.List.{AllByRecursion, list_any, position_or_len};
+ghost use Rattle.std.specs.Prelude.{◌≡◌, ◌+◌, ◌≤◌, ◌++◌, IfOk, OnOk, List, find, length, map, option_map};
+ghost use Rattle.std.specs.List.{position_or_len};
 ghost use Rattle.std.specs.Str.{bytes_eq};
 ghost use Rattle.std.specs.String.{string_bytes};
+ghost use Rattle.query_select.specs.declared.select.ItemRef.{ItemRef as Item};
 ghost use Rattle.cmd_words.specs.NamedPairs.{named_pair};
-ghost use Rattle.verdict.specs.Loading.{all_items, first_uses_after, table_names, unknown_table};
+ghost use Rattle.verdict.specs.Loading.{all_items, unknown_table};
 ghost use Rattle.session_script.specs.Script.{unless};
 ghost use Rattle.verdict.specs.Stages.{Is};
 ghost use Rattle.verdict.specs.StageResults.{Pure};
-ghost use Rattle.input_load.specs.Entries.{HasAdded, IsEntryOf, tables_of};
+ghost use Rattle.input_load.specs.Entries.{HasUses, with_entry};
 ghost use Rattle.input_load.specs.StageViews.{said_as};
 
 use cmd_words::Named;
@@ -17,48 +18,60 @@ use refusal_lines::Refusal;
 use std::alloc::Global;
 use step_counter::NoMemory;
 
-/// The entry that names the table of each item, for all items of all selects in order.
-/// `UnknownTable` at the first item whose table has no entry, and `NoMemory` if memory is refused.
-pub(crate) fn entries_of<'a>(
+/// The tables that items use.
+#[derive(Drop)]
+pub(crate) struct Uses<'a> {
+    /// The first entry that names each table, in the order of the tables' first use.
+    pub(crate) firsts: Vec<&'a Named>,
+    /// For each item the number of its table, which is its place among `firsts`, from 0.
+    pub(crate) numbers: Vec<u32>,
+}
+
+/// The tables that the items of all selects use. `UnknownTable` at the first item whose table has
+/// no entry, and `NoMemory` if memory is refused.
+pub(crate) fn uses_of<'a>(
     alloc: Global,
     named: &'a [Named],
     selects: &[Select],
-) -> Result<Vec<&'a Named>, Refusal<'a>>
+) -> Result<Uses<'a>, Refusal<'a>>
+    requires { length (all_items selects.now) ≤ 16 }
     ensures known { let words = map named_pair named.now in
         Pure (Is (unless (unknown_table words (all_items selects.now)) selects.now))
         (said_as selects.now result) }
-    ensures tables { IfOk result (λ entries.
-        tables_of (map (λ e. named_pair e.now) entries.items)
-        ≡ table_names (all_items selects.now)) }
-    ensures entries { IfOk result (λ entries.
-        AllByRecursion (IsEntryOf (map named_pair named.now))
-        (map (λ e. named_pair e.now) entries.items)) }
+    ensures used { IfOk result (λ uses. HasUses (map named_pair named.now) (all_items selects.now)
+        (map (λ e. named_pair e.now) uses.firsts.items) uses.numbers.items) }
 {
-    let mut entries = Vec::new(alloc);
+    let mut uses = Uses {
+        firsts: Vec::new(alloc),
+        numbers: Vec::new(alloc),
+    };
     for select in selects {
-        add_entries(named, select.items.as_slice(), &mut entries)?;
+        add_uses(named, select.items.as_slice(), &mut uses)?;
     }
-    Ok(entries)
+    Ok(uses)
 }
 
-/// Adds the entry that names the table of each item. `UnknownTable` at the first item whose table
-/// has no entry, and `NoMemory` if memory is refused.
-fn add_entries<'a>(
+/// Adds the tables that these items use. `UnknownTable` at the first item whose table has no entry,
+/// and `NoMemory` if memory is refused.
+fn add_uses<'a>(
     named: &'a [Named],
     items: &[ItemRef],
-    entries: &mut Vec<&'a Named>,
+    uses: &mut Uses<'a>,
 ) -> Result<(), Refusal<'a>>
+    requires { length uses.old.firsts.items + length items.now ≤ 16 }
     ensures known { let words = map named_pair named.now in
         Pure (Is (unless (unknown_table words items.now) items.now)) (said_as items.now result) }
-    ensures added { OnOk result (HasAdded (map named_pair named.now) items.now
-        (map (λ e. named_pair e.now) entries.old.items)
-        (map (λ e. named_pair e.now) entries.new.items)) }
+    ensures used { (earlier : List Item) → HasUses (map named_pair named.now) earlier
+        (map (λ e. named_pair e.now) uses.old.firsts.items) uses.old.numbers.items
+        → OnOk result (HasUses (map named_pair named.now) (earlier ++ items.now)
+        (map (λ e. named_pair e.now) uses.new.firsts.items) uses.new.numbers.items) }
 {
     for item in items {
         let Some(entry) = entry_of(named, item.table.bytes()) else {
             return Err(Refusal::UnknownTable(item.at));
         };
-        entries.push(entry)?;
+        let number = number_of(&mut uses.firsts, entry)?;
+        uses.numbers.push(number)?;
     }
     Ok(())
 }
@@ -76,73 +89,22 @@ fn entry_of<'a>(named: &'a [Named], table: &[u8]) -> Option<&'a Named>
     None
 }
 
-/// The first entry of each table, in order.
-pub(crate) fn first_entries<'a>(
-    alloc: Global,
-    entries: &[&'a Named],
-) -> Result<Vec<&'a Named>, NoMemory>
-    ensures tables { IfOk result (λ firsts. tables_of (map (λ e. named_pair e.now) firsts.items)
-        ≡ first_uses_after [] (tables_of (map (λ e. named_pair e.now) entries.now))) }
-    ensures entries { (named : List (List ℕ × List ℕ))
-        → AllByRecursion (IsEntryOf named) (map (λ e. named_pair e.now) entries.now)
-        → IfOk result (λ firsts. AllByRecursion (IsEntryOf named)
-        (map (λ e. named_pair e.now) firsts.items)) }
-    ensures few { IfOk result (λ firsts. length firsts.items ≤ length entries.now) }
+/// The number of the entry's table, which is its place among `firsts`, from 0. If none of them names
+/// the table, the entry is added after them.
+fn number_of<'a>(firsts: &mut Vec<&'a Named>, entry: &'a Named) -> Result<u32, NoMemory>
+    requires { length firsts.old.items ≤ 16 }
+    ensures firsts { OnOk result (map (λ e. named_pair e.now) firsts.new.items
+        ≡ with_entry (map (λ e. named_pair e.now) firsts.old.items) (named_pair entry.now)) }
+    ensures number { IfOk result (λ number. number
+        ≡ position_or_len (λ e. bytes_eq (string_bytes e.now.table) (string_bytes entry.now.table))
+        firsts.new.items) }
 {
-    let mut firsts = Vec::new(alloc);
-    for entry in entries {
-        if has_table(&firsts, entry.table.as_str()) {
-            continue;
-        }
-        firsts.push(*entry)?;
-    }
-    Ok(firsts)
-}
-
-/// Whether one of the entries names this table.
-fn has_table(entries: &[&Named], table: &str) -> bool
-    ensures { result ≡ list_any (λ e. bytes_eq (string_bytes e.now.table) table.now) entries.now }
-{
-    for entry in entries {
-        if entry.table.as_str() == table {
-            return true;
+    let number = firsts.len();
+    for place in 0..number {
+        if firsts[place].table.as_str() == entry.table.as_str() {
+            return Ok(place as u32);
         }
     }
-    false
-}
-
-/// For each entry the number of its table, which is its place among `firsts`, from 0.
-pub(crate) fn table_numbers(
-    alloc: Global,
-    entries: &[&Named],
-    firsts: &[&Named],
-) -> Result<Vec<u32>, NoMemory>
-    requires { length firsts.now ≤ 16 }
-    ensures { IfOk result
-        (λ numbers. numbers.items
-        ≡ map (λ name. position_or_len (λ other. bytes_eq other name)
-        (tables_of (map (λ e. named_pair e.now) firsts.now)))
-        (tables_of (map (λ e. named_pair e.now) entries.now))) }
-{
-    let mut numbers = Vec::new(alloc);
-    for entry in entries {
-        numbers.push(table_number(firsts, entry.table.as_str()))?;
-    }
-    Ok(numbers)
-}
-
-/// The place of the table among `firsts`, from 0, or their number if it is not there.
-fn table_number(firsts: &[&Named], table: &str) -> u32
-    requires { length firsts.now ≤ 16 }
-    ensures { result ≡ position_or_len
-        (λ e. bytes_eq (string_bytes e.now.table) table.now) firsts.now }
-{
-    let mut number = 0u32;
-    for first in firsts {
-        if first.table.as_str() == table {
-            return number;
-        }
-        number += 1;
-    }
-    number
+    firsts.push(entry)?;
+    Ok(number as u32)
 }

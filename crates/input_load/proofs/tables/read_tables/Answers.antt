@@ -1,42 +1,17 @@
-use Rattle.std.proofs.Common.{◌≡◌, ◌≤◌, Err, length, map, arith, rules}
-use Rattle.std.proofs.lemmas.List.{length-map}
-use Rattle.cmd_words.specs.NamedPairs.{named_pair}
-use Rattle.input_load.specs.Entries.{IsEntryOf}
-use Rattle.input_load.proofs.FirstUses.{mapped_all, mapped_at, mapped_inside}
-use Rattle.input_load.proofs.Reading.{reached_end, reached_more, reached_refused}
+use Rattle.std.proofs.Common.{◌≡◌, ◌∙◌, List, Ok, ap, length}
+use Rattle.std.specs.Result.{result_and}
+use Rattle.anyk_model.specs.Table.{Table}
+use Rattle.input_load.specs.StageViews.{said_as, tables_result_view}
+use Rattle.input_load.proofs.Reading.{handed_count, handed_tables}
 use Rattle.input_load.proofs.tables.read_tables.Goals as goal
-
-pub returns-in_err-read_table-clause-staged : goal.returns-in_err-read_table-clause-staged
-returns-in_err-read_table-clause-staged g c = λ named known.
-    let i = c.loop-entry.entry-index in
-    let x = c.entry-item.result in
-    let xs = c.args.entries.now in
-    let inside = c.loop-entry-test.true in
-    let is = c.entry-item.is in
-    let is_entry = mapped_all (IsEntryOf named) (λ e. named_pair e.now) xs i x inside is known in
-    let e : c.from_residual.result ≡ Err c.in_err-read_table.field-0.0 = search rules in
-    rw e (reached_refused named (map (λ e. named_pair e.now) xs) i (named_pair x.now) (mapped_inside (λ e. named_pair e.now) xs i inside) (mapped_at (λ e. named_pair e.now) xs i x inside is) is_entry
-    c.loop-entry.reader _ _ _ _ (c.loop-entry.invariant.1 named known) (c.in_err-read_table.ensures.staged named is_entry))
-
-pub loop-entry-preserved : goal.loop-entry-preserved
-loop-entry-preserved g c =
-    let length_is = c.in_ok-read_table.ensures.longer in
-    let so_far = c.loop-entry.invariant.0 in (
-      omega (arith, length_is, so_far),
-      λ named known.
-          let i = c.loop-entry.entry-index in
-          let x = c.entry-item.result in
-          let xs = c.args.entries.now in
-          let inside = c.loop-entry-test.true in
-          let is = c.entry-item.is in
-          let is_entry = mapped_all (IsEntryOf named) (λ e. named_pair e.now) xs i x inside is known in
-          reached_more named (map (λ e. named_pair e.now) xs) i (named_pair x.now) (mapped_inside (λ e. named_pair e.now) xs i inside) (mapped_at (λ e. named_pair e.now) xs i x inside is) is_entry
-          c.loop-entry.reader _ _ _ c.read_table.new.reader (c.loop-entry.invariant.1 named known) (c.in_ok-read_table.ensures.staged named is_entry),
-    )
 
 pub returns-clause-staged : goal.returns-clause-staged
 returns-clause-staged g c = λ named known.
-    let xs = c.args.entries.now in
-    let same = length-map xs (λ e. named_pair e.now) in
-    let end : length (map (λ e. named_pair e.now) xs) ≤ c.loop-entry.entry-index = omega (arith, c.loop-entry-test.false, same) in
-    rw c.into_tables.ensures (reached_end named (map (λ e. named_pair e.now) xs) c.loop-entry.entry-index c.loop-entry.reader _ _ end (c.loop-entry.invariant.1 named known))
+    let read = c.read_each-read.result in
+    let shown : tables_result_view c.and.result ≡ said_as c.read_each-read.new.reader read =
+    ap tables_result_view c.and.ensures ∙ ap (λ (t : List Table). tables_result_view (result_and read (Ok t))) c.into_tables.ensures ∙ handed_tables read c.read_each-read.new.reader in
+    rw shown (c.read_each-read.ensures.staged named known)
+
+pub returns-clause-count : goal.returns-clause-count
+returns-clause-count g c =
+    rw (c.and.ensures, c.into_tables.ensures) (handed_count c.read_each-read.result c.read_each-read.new.reader (length c.args.entries.now) c.read_each-read.ensures.count)

@@ -6,7 +6,7 @@ use Rattle.verdict.specs.Loading.{files_read}
 use Rattle.verdict.specs.StageResults.{Staged, shelved}
 use Rattle.input_load.specs.Entries.{IsEntryOf, tables_of}
 use Rattle.input_load.proofs.Reading.{IsReached}
-use Rattle.input_load.proofs.tables.read_tables.Given as goal
+use Rattle.input_load.proofs.tables.read_each.Given as goal
 
 abbrev pub invariant-loop-entry : goal.invariant-loop-entry
 invariant-loop-entry g l =
