@@ -4,10 +4,10 @@ ghost use Rattle.std.specs.Option.{option_or};
 ghost use Rattle.std.specs.List.{AllByRecursion};
 ghost use Rattle.query_select.specs.TextOrder.{AreInTextOrder, columns_of};
 ghost use Rattle.query_bind.specs.Answers.{Tells};
-ghost use Rattle.query_bind.specs.Bind.{bind_fault};
+ghost use Rattle.query_bind.specs.Bind.{bind_fault, HasNames, HasBinding};
 ghost use Rattle.query_bind.specs.Binding.{bound_query};
 ghost use Rattle.bound_query.specs.Inside.{IsWithin};
-ghost use Rattle.query_bind.specs.Names.{items_of, names_fault};
+ghost use Rattle.query_bind.specs.Names.{items_of};
 ghost use Rattle.query_bind.specs.Filters.{HasFilters};
 ghost use Rattle.bound_query.specs.FilterViews.{filter_view};
 ghost use Rattle.query_bind.specs.Labels.{IsLabelling, least_in};
@@ -18,7 +18,7 @@ ghost use Rattle.bound_query.specs.WeighedQuery.{Fits, key_parts};
 ghost use Rattle.bound_query.specs.WeighedView.{weighed_view};
 ghost use Rattle.query_bind.specs.WeightFaults.{range_fault, weights_fault};
 
-use crate::binding::{all_columns, bind_equalities, bind_items, bind_keys, bind_list};
+use crate::binding::{all_columns, bind_all, bind_items, bind_list};
 use crate::classes::{Member, classes_of};
 use crate::fault::BindFault;
 use crate::filters::filters_of;
@@ -41,23 +41,17 @@ fn bind_names(
     requires keys { length select.now.keys ≤ 8 }
     requires tables { length which.now ≡ length select.now.items }
     requires known { AllByRecursion (λ t. t < length tables.now) which.now }
-    ensures query { IfOk result (λ q. q ≡ bound_query select.now tables.now which.now) }
-    ensures some { IfOk result (λ q. 1 ≤ length q.items) }
-    ensures within { IfOk result (λ q. IsWithin q tables.now) }
-    ensures sound { OnOk result
-        (names_fault tables.now (items_of select.now.items which.now) select.now ≡ None) }
-    ensures fault { IfErr result
-        (Tells (names_fault tables.now (items_of select.now.items which.now) select.now)) }
+    ensures { HasNames select.now tables.now which.now result }
 {
     let items = bind_items(alloc, select.items.as_slice(), which)?;
     let list = bind_list(alloc, items.as_slice(), tables, &select.list)?;
-    let equalities = bind_equalities(
+    let equalities = bind_all(
         alloc,
         items.as_slice(),
         tables,
         select.equalities.as_slice(),
     )?;
-    let keys = bind_keys(alloc, items.as_slice(), tables, select.keys.as_slice())?;
+    let keys = bind_all(alloc, items.as_slice(), tables, select.keys.as_slice())?;
     Ok(Selection::new(items, equalities, keys, list, select.limit))
 }
 
@@ -165,10 +159,7 @@ fn bind_by_parts(
     requires keys { length select.now.keys ≤ 8 }
     requires tables { length which.now ≡ length select.now.items }
     requires known { AllByRecursion (λ t. t < length tables.now) which.now }
-    ensures query { IfOk result (λ q. q.query ≡ bound_query select.now tables.now which.now) }
-    ensures fits { IfOk result (λ q. Fits q tables.now) }
-    ensures sound { OnOk result (bind_fault select.now tables.now which.now ≡ None) }
-    ensures fault { IfErr result (Tells (bind_fault select.now tables.now which.now)) }
+    ensures { HasBinding select.now tables.now which.now result }
 {
     let selection = bind_names(alloc, select, tables, which)?;
     let weighed = weigh_selection(alloc, &selection, tables)?;

@@ -1,10 +1,13 @@
 //! The parts of a query with a column for each reference.
-ghost use Rattle.std.specs.Prelude.{◌≡◌, ◌<◌, ◌≤◌, ◌++◌, length, IfOk, OnOk, IfErr, None, map};
+ghost use Rattle.std.specs.Prelude.{◌≡◌, ◌<◌, ◌≤◌, ◌++◌, length, List, Option, IfOk, OnOk, IfErr, None, map};
 ghost use Rattle.std.specs.List.{AllByRecursion};
-ghost use Rattle.query_bind.specs.Answers.{Tells, equality_fault, key_names_fault, term_fault};
+ghost use Rattle.anyk_model.specs.Query.{Item, Column, OrderKey, Side as BoundTo, Equality as Equates, Term as Adds};
+ghost use Rattle.anyk_model.specs.Table.{Table};
+ghost use Rattle.query_bind.specs.Answers.{Tells, Means, side_fault, equality_fault, key_names_fault, term_fault};
 ghost use Rattle.query_bind.specs.Binding.{bound_column, bound_equality, bound_key, bound_list, bound_side, bound_term, columns_from, item_columns};
+ghost use Rattle.query_bind.specs.declared.fault.BindFault.{BindFault};
 ghost use Rattle.query_bind.specs.Names.{alias_fault, first_of, items_of, ref_fault};
-ghost use Rattle.query_select.specs.TextOrder.{list_columns, side_columns};
+ghost use Rattle.query_select.specs.TextOrder.{list_columns};
 ghost use Rattle.bound_query.specs.StoredParts.{column_view, equality_view, items_view, key_view, side_view, term_view};
 ghost use Rattle.bound_query.specs.declared.bound.BoundItem.{BoundItem};
 
@@ -41,31 +44,6 @@ pub(crate) fn bind_items(
     Ok(items)
 }
 
-/// The columns that references mean.
-fn bind_columns(
-    alloc: Global,
-    items: &[BoundItem],
-    tables: &Tables,
-    refs: &[ColumnRef],
-) -> Result<Vec<(u32, u32)>, BindFault>
-    requires few { length items.now ≤ 16 }
-    requires known { AllByRecursion (λ (i : BoundItem). i.table < length tables.now) items.now }
-    ensures values { IfOk result
-        (λ v. map column_view v.items
-        ≡ map (bound_column tables.now (items_view items.now)) refs.now) }
-    ensures sound { OnOk result
-        (first_of (ref_fault tables.now (items_view items.now)) refs.now ≡ None) }
-    ensures fault { IfErr result
-        (Tells (first_of (ref_fault tables.now (items_view items.now)) refs.now)) }
-{
-    let mut columns = Vec::new(alloc);
-    for reference in refs {
-        let column = look_up(items, tables, reference)?;
-        columns.push(column)?;
-    }
-    Ok(columns)
-}
-
 /// Appends all columns of an item.
 fn push_columns(columns: &mut Vec<(u32, u32)>, item: u32, width: u32) -> Result<(), AllocError>
     ensures { OnOk result
@@ -97,6 +75,177 @@ pub(crate) fn all_columns(
     Ok(columns)
 }
 
+/// A part of a select that names columns.
+pub(crate) trait Binds {
+    /// The same with the columns that the names mean.
+    type Bound: Drop;
+
+    ghost View: { Type 0 };
+
+    /// What is said of what is bound.
+    ghost view: { Self.Bound → View };
+
+    /// What is said of it if its names mean columns.
+    ghost meaning: { List Table → List Item → Self → View };
+
+    /// The first fault of its names.
+    ghost first_fault: { List Table → List Item → Self → Option BindFault };
+
+    /// Finds the columns. The error is the first fault of the names.
+    fn bind(
+        &self,
+        alloc: Global,
+        items: &[BoundItem],
+        tables: &Tables,
+    ) -> Result<Self::Bound, BindFault>
+        requires few { length items.now ≤ 16 }
+        requires known { AllByRecursion (λ (i : BoundItem). i.table < length tables.now) items.now }
+        ensures { Means view (meaning tables.now (items_view items.now) self.now)
+            (first_fault tables.now (items_view items.now) self.now) result };
+}
+
+/// Finds the columns of all parts in a list. The error is the first fault.
+pub(crate) fn bind_all<T: Binds>(
+    alloc: Global,
+    items: &[BoundItem],
+    tables: &Tables,
+    parts: &[T],
+) -> Result<Vec<T::Bound>, BindFault>
+    requires few { length items.now ≤ 16 }
+    requires known { AllByRecursion (λ (i : BoundItem). i.table < length tables.now) items.now }
+    ensures { Means (λ v. map T.view v.items)
+        (map (T.meaning tables.now (items_view items.now)) parts.now)
+        (first_of (T.first_fault tables.now (items_view items.now)) parts.now) result }
+{
+    let mut all = Vec::new(alloc);
+    for part in parts {
+        let bound = part.bind(alloc, items, tables)?;
+        all.push(bound)?;
+    }
+    Ok(all)
+}
+
+impl Binds for ColumnRef {
+    type Bound = (u32, u32);
+
+    ghost View = { Column };
+
+    ghost view = { column_view };
+
+    ghost meaning = { bound_column };
+
+    ghost first_fault = { ref_fault };
+
+    fn bind(
+        &self,
+        alloc: Global,
+        items: &[BoundItem],
+        tables: &Tables,
+    ) -> Result<(u32, u32), BindFault> {
+        look_up(items, tables, self)
+    }
+}
+
+impl Binds for Side {
+    type Bound = BoundSide;
+
+    ghost View = { BoundTo };
+
+    ghost view = { side_view };
+
+    ghost meaning = { bound_side };
+
+    ghost first_fault = { side_fault };
+
+    /// Constants are copied.
+    fn bind(
+        &self,
+        alloc: Global,
+        items: &[BoundItem],
+        tables: &Tables,
+    ) -> Result<BoundSide, BindFault> {
+        match self {
+            Side::Column(reference) => {
+                let column = reference.bind(alloc, items, tables)?;
+                Ok(BoundSide::Column(column))
+            }
+            Side::Constant(bytes) => {
+                let copy = Vec::from_slice(alloc, bytes.bytes())?;
+                Ok(BoundSide::Constant(Bytes::from_vec(copy)))
+            }
+        }
+    }
+}
+
+impl Binds for Equality {
+    type Bound = BoundEquality;
+
+    ghost View = { Equates };
+
+    ghost view = { equality_view };
+
+    ghost meaning = { bound_equality };
+
+    ghost first_fault = { equality_fault };
+
+    fn bind(
+        &self,
+        alloc: Global,
+        items: &[BoundItem],
+        tables: &Tables,
+    ) -> Result<BoundEquality, BindFault> {
+        let left = self.left.bind(alloc, items, tables)?;
+        let right = self.right.bind(alloc, items, tables)?;
+        Ok(BoundEquality { left, right })
+    }
+}
+
+impl Binds for Term {
+    type Bound = BoundTerm;
+
+    ghost View = { Adds };
+
+    ghost view = { term_view };
+
+    ghost meaning = { bound_term };
+
+    ghost first_fault = { term_fault };
+
+    fn bind(
+        &self,
+        alloc: Global,
+        items: &[BoundItem],
+        tables: &Tables,
+    ) -> Result<BoundTerm, BindFault> {
+        let column = self.column.bind(alloc, items, tables)?;
+        let minus = self.minus;
+        Ok(BoundTerm { minus, column })
+    }
+}
+
+impl Binds for KeyRef {
+    type Bound = BoundKey;
+
+    ghost View = { OrderKey };
+
+    ghost view = { key_view };
+
+    ghost meaning = { bound_key };
+
+    ghost first_fault = { key_names_fault };
+
+    fn bind(
+        &self,
+        alloc: Global,
+        items: &[BoundItem],
+        tables: &Tables,
+    ) -> Result<BoundKey, BindFault> {
+        let terms = bind_all(alloc, items, tables, self.terms.as_slice())?;
+        let descending = self.descending;
+        Ok(BoundKey { terms, descending })
+    }
+}
+
 /// The select list, as columns.
 pub(crate) fn bind_list(
     alloc: Global,
@@ -106,143 +255,15 @@ pub(crate) fn bind_list(
 ) -> Result<Vec<(u32, u32)>, BindFault>
     requires few { length items.now ≤ 16 }
     requires known { AllByRecursion (λ (i : BoundItem). i.table < length tables.now) items.now }
-    ensures values { IfOk result
-        (λ v. map column_view v.items ≡ bound_list tables.now (items_view items.now) list.now) }
-    ensures sound { OnOk result
-        (first_of (ref_fault tables.now (items_view items.now)) (list_columns list.now) ≡ None) }
-    ensures fault { IfErr result
-        (Tells (first_of (ref_fault tables.now (items_view items.now)) (list_columns list.now))) }
+    ensures { Means (λ v. map column_view v.items)
+        (bound_list tables.now (items_view items.now) list.now)
+        (first_of (ref_fault tables.now (items_view items.now)) (list_columns list.now)) result }
 {
     match list {
         SelectList::Star => {
             let columns = all_columns(alloc, items, tables)?;
             Ok(columns)
         }
-        SelectList::Columns(refs) => bind_columns(alloc, items, tables, refs.as_slice()),
+        SelectList::Columns(refs) => bind_all(alloc, items, tables, refs.as_slice()),
     }
-}
-
-/// A side of an equality, with its column, or with a copy of its constant.
-fn bind_side(
-    alloc: Global,
-    items: &[BoundItem],
-    tables: &Tables,
-    side: &Side,
-) -> Result<BoundSide, BindFault>
-    requires few { length items.now ≤ 16 }
-    requires known { AllByRecursion (λ (i : BoundItem). i.table < length tables.now) items.now }
-    ensures value { IfOk result
-        (λ s. side_view s ≡ bound_side tables.now (items_view items.now) side.now) }
-    ensures sound { OnOk result
-        (first_of (ref_fault tables.now (items_view items.now)) (side_columns side.now) ≡ None) }
-    ensures fault { IfErr result
-        (Tells (first_of (ref_fault tables.now (items_view items.now)) (side_columns side.now))) }
-{
-    match side {
-        Side::Column(reference) => {
-            let column = look_up(items, tables, reference)?;
-            Ok(BoundSide::Column(column))
-        }
-        Side::Constant(bytes) => {
-            let copy = Vec::from_slice(alloc, bytes.bytes())?;
-            Ok(BoundSide::Constant(Bytes::from_vec(copy)))
-        }
-    }
-}
-
-/// An equality, with its columns.
-fn bind_equality(
-    alloc: Global,
-    items: &[BoundItem],
-    tables: &Tables,
-    equality: &Equality,
-) -> Result<BoundEquality, BindFault>
-    requires few { length items.now ≤ 16 }
-    requires known { AllByRecursion (λ (i : BoundItem). i.table < length tables.now) items.now }
-    ensures value { IfOk result
-        (λ e. equality_view e ≡ bound_equality tables.now (items_view items.now) equality.now) }
-    ensures sound { OnOk result
-        (equality_fault tables.now (items_view items.now) equality.now ≡ None) }
-    ensures fault { IfErr result
-        (Tells (equality_fault tables.now (items_view items.now) equality.now)) }
-{
-    let left = look_up(items, tables, &equality.left)?;
-    let right = bind_side(alloc, items, tables, &equality.right)?;
-    Ok(BoundEquality { left, right })
-}
-
-/// The equalities, with their columns.
-pub(crate) fn bind_equalities(
-    alloc: Global,
-    items: &[BoundItem],
-    tables: &Tables,
-    equalities: &[Equality],
-) -> Result<Vec<BoundEquality>, BindFault>
-    requires few { length items.now ≤ 16 }
-    requires known { AllByRecursion (λ (i : BoundItem). i.table < length tables.now) items.now }
-    ensures values { IfOk result
-        (λ v. map equality_view v.items
-        ≡ map (bound_equality tables.now (items_view items.now)) equalities.now) }
-    ensures sound { OnOk result
-        (first_of (equality_fault tables.now (items_view items.now)) equalities.now ≡ None) }
-    ensures fault { IfErr result
-        (Tells (first_of (equality_fault tables.now (items_view items.now)) equalities.now)) }
-{
-    let mut bound = Vec::new(alloc);
-    for equality in equalities {
-        let one = bind_equality(alloc, items, tables, equality)?;
-        bound.push(one)?;
-    }
-    Ok(bound)
-}
-
-/// The terms of an order key, with their columns.
-fn bind_terms(
-    alloc: Global,
-    items: &[BoundItem],
-    tables: &Tables,
-    terms: &[Term],
-) -> Result<Vec<BoundTerm>, BindFault>
-    requires few { length items.now ≤ 16 }
-    requires known { AllByRecursion (λ (i : BoundItem). i.table < length tables.now) items.now }
-    ensures values { IfOk result
-        (λ v. map term_view v.items
-        ≡ map (bound_term tables.now (items_view items.now)) terms.now) }
-    ensures sound { OnOk result
-        (first_of (term_fault tables.now (items_view items.now)) terms.now ≡ None) }
-    ensures fault { IfErr result
-        (Tells (first_of (term_fault tables.now (items_view items.now)) terms.now)) }
-{
-    let mut bound = Vec::new(alloc);
-    for term in terms {
-        let column = look_up(items, tables, &term.column)?;
-        let minus = term.minus;
-        bound.push(BoundTerm { minus, column })?;
-    }
-    Ok(bound)
-}
-
-/// The order keys, with their columns.
-pub(crate) fn bind_keys(
-    alloc: Global,
-    items: &[BoundItem],
-    tables: &Tables,
-    keys: &[KeyRef],
-) -> Result<Vec<BoundKey>, BindFault>
-    requires few { length items.now ≤ 16 }
-    requires known { AllByRecursion (λ (i : BoundItem). i.table < length tables.now) items.now }
-    ensures values { IfOk result
-        (λ v. map key_view v.items ≡ map (bound_key tables.now (items_view items.now)) keys.now) }
-    ensures sound { OnOk result
-        (first_of (key_names_fault tables.now (items_view items.now)) keys.now ≡ None) }
-    ensures fault { IfErr result
-        (Tells (first_of (key_names_fault tables.now (items_view items.now)) keys.now)) }
-{
-    let mut bound = Vec::new(alloc);
-    for key in keys {
-        let terms = bind_terms(alloc, items, tables, key.terms.as_slice())?;
-        let descending = key.descending;
-        bound.push(BoundKey { terms, descending })?;
-    }
-    Ok(bound)
 }

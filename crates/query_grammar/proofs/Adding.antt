@@ -5,8 +5,8 @@ use Rattle.query_grammar.specs.declared.fault.ParseFault.{ParseFault}
 use Rattle.query_grammar.specs.declared.fault.ParseFault.TheVariants as fault
 use Rattle.query_tokens.specs.declared.token.Token.{Token}
 use Rattle.query_tokens.specs.Lexeme.{Lexeme, lexemes}
-use Rattle.query_grammar.specs.Reading.{Read, Next, all_at, Fails, Gives, Added}
-use Rattle.query_grammar.proofs.Loops.{Steps, with_front, goes_on, ends, is_done}
+use Rattle.query_grammar.specs.Reading.{Steps, Read, Next, all_at, Fails, Gives, Added}
+use Rattle.query_grammar.proofs.Loops.{with_front, goes_on, ends, is_done}
 use Rattle.query_grammar.proofs.Stepping.{fewer}
 
 -- what a reader found at these tokens

@@ -7,18 +7,13 @@ use Rattle.std.specs.List.{flat_map}
 use Rattle.query_select.specs.declared.select.ItemRef.{ItemRef}
 use Rattle.query_select.specs.declared.select.Equality.{Equality}
 use Rattle.query_tokens.specs.Lexeme.{Lexeme}
-use Rattle.query_grammar.specs.Reading.{Read, Next, ◌>>=◌, one_more, many_at, all_at, Fails, Joined, next_item_at}
+use Rattle.query_grammar.specs.Reading.{Read, Next, ◌>>=◌, one_more, many_at, all_at, Fails, Joined, Steps, next_item_at}
 use Rattle.query_grammar.specs.Places.{Choice}
 use Rattle.query_grammar.proofs.Outcomes.{Shortens, NextOut, further, stop, failed}
 
 -- what was read before, and what is still read
 abbrev pub with_front : {A : Type 0} → List A → Read (List A) → Read (List A)
 with_front front read = read >>= λ x. Ok (front ++ x.0, x.1)
-
--- Looking for one more thing takes at least a token, or finds nothing at the end.
-pub record Steps {A : Type 0} (next : List Lexeme → Next A) : Type 0 where
-  pub consumes : (ts rest : List Lexeme) (x : A) → next ts ≡ Ok (Some (x, rest)) → length rest < length ts
-  pub at_end : next [] ≡ Ok None
 
 consumes_out : {many : Bool} {A : Type 0} {Thing : List Lexeme → List Lexeme → A → Type 0} {c d : Choice} {ts : List Lexeme} {r : Next A} → NextOut many Thing c d ts r → Shortens Thing → (rest : List Lexeme) (x : A) → r ≡ Ok (Some (x, rest)) → length rest < length ts
 consumes_out {A} {ts = ts} (further {rest = mid} {x = y} thing h) short rest x e =

@@ -5,8 +5,8 @@ use Rattle.query_tokens.specs.declared.token.Kind.TheVariants as kind
 use Rattle.query_tokens.specs.declared.token.Token.{Token}
 use Rattle.query_tokens.specs.Lexeme.{Lexeme, lexeme, lexemes}
 use Rattle.query_grammar.specs.Places.{where_clause}
-use Rattle.query_grammar.specs.Reading.{Next, optional_at, next_column_at, next_condition_at, next_item_at, next_term_at, sign_at, next_key_at, next_branch_at}
-use Rattle.query_grammar.proofs.Loops.{Steps, steps_from}
+use Rattle.query_grammar.specs.Reading.{Steps, Next, optional_at, next_column_at, next_condition_at, next_item_at, next_term_at, sign_at, next_key_at, next_branch_at}
+use Rattle.query_grammar.proofs.Loops.{steps_from}
 use Rattle.query_grammar.proofs.Shorter.{column_shortens, behind_shortens, condition_shortens, next_item_shortens, signed_shortens, key_shortens, next_branch_shortens}
 use Rattle.query_grammar.proofs.Rules.{next_column_out, next_condition_out, next_item_out, next_term_out, next_key_out, next_branch_out}
 

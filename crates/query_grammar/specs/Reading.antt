@@ -1,5 +1,5 @@
 -- Reading from left to right. An error is what is left when the next token is not allowed.
-use Rattle.std.specs.Prelude.{◌≡◌, ◌≢◌, ℕ, zero, suc, List, [], ◌∷◌, ◌++◌, length, map, Option, Some, None, Result, Ok, Err, Bool, true, false, if◌then◌else◌, ◌==◌, unwrap_or}
+use Rattle.std.specs.Prelude.{◌≡◌, ◌≢◌, ◌<◌, ℕ, zero, suc, List, [], ◌∷◌, ◌++◌, length, map, Option, Some, None, Result, Ok, Err, Bool, true, false, if◌then◌else◌, ◌==◌, unwrap_or}
 use Rattle.std.specs.List.{flat_map}
 use Rattle.query_tokens.specs.declared.token.Kind.{Kind}
 use Rattle.query_tokens.specs.declared.token.Kind.TheVariants as kind
@@ -96,6 +96,20 @@ abbrev pub behind : {A : Type 0} → (List Lexeme → Read A) → Option Lexeme 
 behind read (None, rest) = Ok None
 behind read (Some t, rest) = found (read rest)
 
+-- a thing, and all further ones
+abbrev pub several_at : {A : Type 0} → (List Lexeme → Read A) → (List Lexeme → Next A)
+    → List Lexeme → Read (List A)
+several_at one_at next tokens = do
+  first ← one_at tokens
+  more ← all_at next first.1
+  Ok (first.0 ∷ more.0, more.1)
+
+-- Looking for one more thing takes at least a token, or finds nothing at the end.
+pub record Steps {A : Type 0} (next : List Lexeme → Next A) : Type 0 where
+  pub consumes : (ts rest : List Lexeme) (x : A) → next ts ≡ Ok (Some (x, rest))
+      → length rest < length ts
+  pub at_end : next [] ≡ Ok None
+
 -- ---- columns
 
 abbrev pub with_column : Lexeme → Option Lexeme × List Lexeme → Read ColumnRef
@@ -114,10 +128,7 @@ unfoldable pub next_column_at : List Lexeme → Next ColumnRef
 next_column_at tokens = behind column_at (optional_at kind.Comma tokens)
 
 unfoldable pub columns_at : List Lexeme → Read (List ColumnRef)
-columns_at tokens = do
-  first ← column_at tokens
-  more ← all_at next_column_at first.1
-  Ok (first.0 ∷ more.0, more.1)
+columns_at tokens = several_at column_at next_column_at tokens
 
 abbrev pub with_star : List Lexeme → Option Lexeme × List Lexeme → Read SelectList
 with_star tokens (Some star, rest) = Ok (Star, rest)
@@ -177,10 +188,7 @@ unfoldable pub next_condition_at : List Lexeme → Next Equality
 next_condition_at tokens = behind condition_at (optional_at kind.And tokens)
 
 unfoldable pub conditions_at : List Lexeme → Read (List Equality)
-conditions_at tokens = do
-  first ← condition_at tokens
-  more ← all_at next_condition_at first.1
-  Ok (first.0 ∷ more.0, more.1)
+conditions_at tokens = several_at condition_at next_condition_at tokens
 
 -- ---- from-items
 
@@ -285,11 +293,12 @@ abbrev pub with_direction : List Term → Bool × List Lexeme → Read KeyRef
 with_direction terms (descending, rest) = Ok
     (record { terms = terms; descending = descending }, rest)
 
+-- a sign that may be there, and a column
+abbrev pub first_term_at : List Lexeme → Read Term
+first_term_at tokens = term_at (unwrap_or (sign_at tokens).0 false) (sign_at tokens).1
+
 unfoldable pub terms_at : List Lexeme → Read (List Term)
-terms_at tokens = do
-  first ← term_at (unwrap_or (sign_at tokens).0 false) (sign_at tokens).1
-  more ← all_at next_term_at first.1
-  Ok (first.0 ∷ more.0, more.1)
+terms_at tokens = several_at first_term_at next_term_at tokens
 
 unfoldable pub key_at : List Lexeme → Read KeyRef
 key_at tokens = do
@@ -302,9 +311,7 @@ next_key_at tokens = behind key_at (optional_at kind.Comma tokens)
 unfoldable pub keys_at : List Lexeme → Read (List KeyRef)
 keys_at tokens = do
   by_word ← expect_at kind.By tokens
-  first ← key_at by_word.1
-  more ← all_at next_key_at first.1
-  Ok (first.0 ∷ more.0, more.1)
+  several_at key_at next_key_at by_word.1
 
 abbrev pub with_order : Option Lexeme × List Lexeme → Read (List KeyRef)
 with_order (Some order_word, rest) = keys_at rest
@@ -400,10 +407,7 @@ unfoldable pub next_branch_at : Bool → List Lexeme → Next Select
 next_branch_at many tokens = if many then with_union (optional_at kind.Union tokens) else Ok None
 
 unfoldable pub branches_at : Bool → List Lexeme → Read (List Select)
-branches_at many tokens = do
-  first ← branch_at tokens
-  others ← all_at (next_branch_at many) first.1
-  Ok (first.0 ∷ others.0, others.1)
+branches_at many tokens = several_at branch_at (next_branch_at many) tokens
 
 unfoldable pub queries_at : Bool → List Lexeme → Result Branches (List Lexeme)
 queries_at many tokens = do

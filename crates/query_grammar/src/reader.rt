@@ -3,7 +3,7 @@
 ghost use Rattle.std.specs.Prelude.{◌≡◌, length, ◌≤◌, ◌++◌, ◌∷◌, [], MatchOption, Some, None, true, IfOk, OnOk, option_copied, Option, Bool, List, ℕ};
 ghost use Rattle.std.specs.Option.{option_map};
 ghost use Rattle.query_tokens.specs.Lexeme.{Lexeme, lexeme, lexemes};
-ghost use Rattle.query_grammar.specs.Reading.{Gives, Added, found, expect_at, optional_at, place_of, column_at, next_column_at, columns_at, list_at, undoubled, undoubled_from, side_at, condition_at, next_condition_at, conditions_at, alias_at, item_at, plain_item_at, joined_item_at, inner_item_at, next_item_at, items_at, where_at, sign_at, term_at, next_term_at, direction_at, terms_at, key_at, next_key_at, keys_at, order_at, limit_at, finish_at, selection_at, sources_at, branch_at, ended_at, query_at, next_branch_at, branches_at, queries_at, some_lexeme, with_left};
+ghost use Rattle.query_grammar.specs.Reading.{Gives, Added, found, expect_at, optional_at, place_of, column_at, next_column_at, list_at, undoubled, undoubled_from, side_at, condition_at, next_condition_at, alias_at, item_at, plain_item_at, joined_item_at, inner_item_at, next_item_at, items_at, where_at, sign_at, term_at, next_term_at, direction_at, key_at, next_key_at, order_at, limit_at, finish_at, selection_at, sources_at, branch_at, ended_at, query_at, next_branch_at, queries_at, some_lexeme, with_left, Read, Next, Steps, behind, several_at, first_term_at};
 ghost use Rattle.query_tokens.specs.Kinds.{same};
 
 use crate::fault::ParseFault;
@@ -55,35 +55,6 @@ fn optional<'a, 't>(tokens: &'t [Token<'a>], kind: Kind) -> (Option<Token<'a>>, 
         [token, rest @ ..] if is_kind(token, kind) => (Some(*token), rest),
         _ => (None, tokens),
     }
-}
-
-/// Reads a column reference.
-#[tactic(auto, unfolding(crate::specs::Reading::column_at))]
-fn column<'a, 't>(
-    alloc: Global,
-    tokens: &'t [Token<'a>],
-    end: u32,
-) -> Result<(ColumnRef, &'t [Token<'a>]), ParseFault>
-    ensures { Gives end (λ x. (x.0, lexemes x.1.now)) result (column_at (lexemes tokens.now)) }
-{
-    let (first, rest) = expect(tokens, end, Kind::Name)?;
-    let (dot, rest) = optional(rest, Kind::Dot);
-    if dot.is_none() {
-        let column = bare_column(alloc, first)?;
-        return Ok((column, rest));
-    }
-    let (second, rest) = expect(rest, end, Kind::Name)?;
-    let column = qualified_column(alloc, first, second)?;
-    Ok((column, rest))
-}
-
-/// A list of one thing, to which more may be added.
-fn one<T: Drop>(alloc: Global, first: T) -> Result<Vec<T>, AllocError>
-    ensures { IfOk result (λ v. v.items ≡ first ∷ []) }
-{
-    let mut list = Vec::new(alloc);
-    list.push(first)?;
-    Ok(list)
 }
 
 /// Puts what was found after the others of a list, and returns the tokens after it.
@@ -142,42 +113,233 @@ fn found<T>(read: Result<T, ParseFault>) -> Result<Option<T>, ParseFault>
     Ok(Some(thing))
 }
 
-/// Reads a comma and a column reference, if there is a comma.
-#[tactic(auto, using(crate::proofs::Handed::found_gives), unfolding(crate::specs::Reading::next_column_at))]
-fn next_column<'a, 't>(
-    alloc: Global,
-    tokens: &'t [Token<'a>],
-    end: u32,
-) -> Result<Option<(ColumnRef, &'t [Token<'a>])>, ParseFault>
-    ensures { Gives end (option_map (λ x. (x.0, lexemes x.1.now))) result
-        (next_column_at (lexemes tokens.now)) }
-{
-    let (comma, rest) = optional(tokens, Kind::Comma);
-    if comma.is_none() {
-        return Ok(None);
-    }
-    found(column(alloc, rest, end))
+/// A part of a query that is read by itself.
+trait Part: Drop {
+    /// What reading one gives.
+    ghost one_at: { List Lexeme → Read Self };
+
+    /// Reads one.
+    fn read<'a, 't>(
+        alloc: Global,
+        tokens: &'t [Token<'a>],
+        end: u32,
+    ) -> Result<(Self, &'t [Token<'a>]), ParseFault>
+        ensures { Gives end (λ x. (x.0, lexemes x.1.now)) result (one_at (lexemes tokens.now)) };
 }
 
-/// Reads column references with commas between them.
-#[tactic(auto, unfolding(crate::specs::Reading::columns_at))]
-fn columns<'a, 't>(
+/// What a query has lists of, with a sign or a word before each except the first.
+trait Listed: Part {
+    /// What looking for a further one gives.
+    ghost next_at: { List Lexeme → Next Self };
+
+    /// Reads a further one, if there is the sign or the word before it.
+    fn next<'a, 't>(
+        alloc: Global,
+        tokens: &'t [Token<'a>],
+        end: u32,
+    ) -> Result<Option<(Self, &'t [Token<'a>])>, ParseFault>
+        ensures { Gives end (option_map (λ x. (x.0, lexemes x.1.now))) result
+            (next_at (lexemes tokens.now)) };
+}
+
+/// Reads a thing behind a token of this kind, if the first token is one.
+#[tactic(auto, using(crate::proofs::Handed::found_gives))]
+fn behind<'a, 't, T: Part>(
     alloc: Global,
     tokens: &'t [Token<'a>],
     end: u32,
-) -> Result<(Sequence<ColumnRef>, &'t [Token<'a>]), ParseFault>
-    ensures { Gives end (λ x. (x.0, lexemes x.1.now)) result (columns_at (lexemes tokens.now)) }
+    sign: Kind,
+) -> Result<Option<(T, &'t [Token<'a>])>, ParseFault>
+    ensures { Gives end (option_map (λ x. (x.0, lexemes x.1.now))) result
+        (behind T.one_at (optional_at sign (lexemes tokens.now))) }
 {
-    let (first, mut rest) = column(alloc, tokens, end)?;
-    let mut columns = one(alloc, first)?;
-    while let Some(after) = add(&mut columns, next_column(alloc, rest, end))? {
+    let (sign, rest) = optional(tokens, sign);
+    if sign.is_none() {
+        return Ok(None);
+    }
+    found(T::read(alloc, rest, end))
+}
+
+/// Reads a thing and all further ones.
+fn several<'a, 't, T: Listed>(
+    alloc: Global,
+    tokens: &'t [Token<'a>],
+    end: u32,
+) -> Result<(Vec<T>, &'t [Token<'a>]), ParseFault>
+    requires { Steps T.next_at }
+    ensures { Gives end (λ x. (x.0.items, lexemes x.1.now)) result
+        (several_at T.one_at T.next_at (lexemes tokens.now)) }
+{
+    let mut list = Vec::new(alloc);
+    let (first, mut rest) = T::read(alloc, tokens, end)?;
+    list.push(first)?;
+    while let Some(after) = add(&mut list, T::next(alloc, rest, end))? {
         rest = after;
     }
-    Ok((Sequence::from_vec(columns), rest))
+    Ok((list, rest))
+}
+
+impl Part for ColumnRef {
+    ghost one_at = { column_at };
+
+    #[tactic(auto, unfolding(crate::specs::Reading::column_at))]
+    fn read<'a, 't>(
+        alloc: Global,
+        tokens: &'t [Token<'a>],
+        end: u32,
+    ) -> Result<(ColumnRef, &'t [Token<'a>]), ParseFault> {
+        let (first, rest) = expect(tokens, end, Kind::Name)?;
+        let (dot, rest) = optional(rest, Kind::Dot);
+        if dot.is_none() {
+            let column = bare_column(alloc, first)?;
+            return Ok((column, rest));
+        }
+        let (second, rest) = expect(rest, end, Kind::Name)?;
+        let column = qualified_column(alloc, first, second)?;
+        Ok((column, rest))
+    }
+}
+
+/// Column references with commas between them.
+impl Listed for ColumnRef {
+    ghost next_at = { next_column_at };
+
+    #[tactic(auto, unfolding(crate::specs::Reading::next_column_at))]
+    fn next<'a, 't>(
+        alloc: Global,
+        tokens: &'t [Token<'a>],
+        end: u32,
+    ) -> Result<Option<(ColumnRef, &'t [Token<'a>])>, ParseFault> {
+        behind(alloc, tokens, end, Kind::Comma)
+    }
+}
+
+impl Part for Equality {
+    ghost one_at = { condition_at };
+
+    #[tactic(auto, unfolding(crate::specs::Reading::condition_at))]
+    fn read<'a, 't>(
+        alloc: Global,
+        tokens: &'t [Token<'a>],
+        end: u32,
+    ) -> Result<(Equality, &'t [Token<'a>]), ParseFault> {
+        let (left, rest) = side(alloc, tokens, end)?;
+        let (_, rest) = expect(rest, end, Kind::Equals)?;
+        with_left(alloc, left, rest, end)
+    }
+}
+
+/// Conditions with `and` between them.
+impl Listed for Equality {
+    ghost next_at = { next_condition_at };
+
+    #[tactic(auto, unfolding(crate::specs::Reading::next_condition_at))]
+    fn next<'a, 't>(
+        alloc: Global,
+        tokens: &'t [Token<'a>],
+        end: u32,
+    ) -> Result<Option<(Equality, &'t [Token<'a>])>, ParseFault> {
+        behind(alloc, tokens, end, Kind::And)
+    }
+}
+
+impl Part for Term {
+    ghost one_at = { first_term_at };
+
+    fn read<'a, 't>(
+        alloc: Global,
+        tokens: &'t [Token<'a>],
+        end: u32,
+    ) -> Result<(Term, &'t [Token<'a>]), ParseFault> {
+        let (minus, rest) = sign(tokens);
+        term(alloc, minus.unwrap_or(false), rest, end)
+    }
+}
+
+/// The columns of an order key, with their signs. The first may have none.
+impl Listed for Term {
+    ghost next_at = { next_term_at };
+
+    #[tactic(auto, using(crate::proofs::Handed::found_gives), unfolding(crate::specs::Reading::next_term_at))]
+    fn next<'a, 't>(
+        alloc: Global,
+        tokens: &'t [Token<'a>],
+        end: u32,
+    ) -> Result<Option<(Term, &'t [Token<'a>])>, ParseFault> {
+        if let (Some(minus), rest) = sign(tokens) {
+            return found(term(alloc, minus, rest, end));
+        }
+        Ok(None)
+    }
+}
+
+impl Part for KeyRef {
+    ghost one_at = { key_at };
+
+    #[tactic(auto, using(crate::proofs::Stepping::term_steps), unfolding(crate::specs::Reading::key_at, crate::specs::Reading::terms_at))]
+    fn read<'a, 't>(
+        alloc: Global,
+        tokens: &'t [Token<'a>],
+        end: u32,
+    ) -> Result<(KeyRef, &'t [Token<'a>]), ParseFault> {
+        let (terms, rest) = several(alloc, tokens, end)?;
+        let (descending, rest) = direction(rest);
+        let terms = Sequence::from_vec(terms);
+        Ok((KeyRef { terms, descending }, rest))
+    }
+}
+
+/// Order keys with commas between them.
+impl Listed for KeyRef {
+    ghost next_at = { next_key_at };
+
+    #[tactic(auto, unfolding(crate::specs::Reading::next_key_at))]
+    fn next<'a, 't>(
+        alloc: Global,
+        tokens: &'t [Token<'a>],
+        end: u32,
+    ) -> Result<Option<(KeyRef, &'t [Token<'a>])>, ParseFault> {
+        behind(alloc, tokens, end, Kind::Comma)
+    }
+}
+
+impl Part for Select {
+    ghost one_at = { branch_at };
+
+    #[tactic(auto, unfolding(crate::specs::Reading::branch_at))]
+    fn read<'a, 't>(
+        alloc: Global,
+        tokens: &'t [Token<'a>],
+        end: u32,
+    ) -> Result<(Select, &'t [Token<'a>]), ParseFault> {
+        let (list, rest) = selection(alloc, tokens, end)?;
+        let (found, rest) = sources(alloc, rest, end)?;
+        let (keys, rest) = order_clause(alloc, rest, end)?;
+        Ok((selected(list, found, keys), rest))
+    }
+}
+
+/// Queries up to their order keys, without their limits, with `union all` between them.
+impl Listed for Select {
+    ghost next_at = { next_branch_at true };
+
+    #[tactic(auto, using(crate::proofs::Handed::found_gives), unfolding(crate::specs::Reading::next_branch_at))]
+    fn next<'a, 't>(
+        alloc: Global,
+        tokens: &'t [Token<'a>],
+        end: u32,
+    ) -> Result<Option<(Select, &'t [Token<'a>])>, ParseFault> {
+        let (union, rest) = optional(tokens, Kind::Union);
+        if union.is_none() {
+            return Ok(None);
+        }
+        let (_, rest) = expect(rest, end, Kind::All)?;
+        found(Select::read(alloc, rest, end))
+    }
 }
 
 /// Reads what is selected: `*`, or column references.
-#[tactic(auto, unfolding(crate::specs::Reading::list_at))]
+#[tactic(auto, using(crate::proofs::Stepping::column_steps), unfolding(crate::specs::Reading::list_at, crate::specs::Reading::columns_at))]
 fn list<'a, 't>(
     alloc: Global,
     tokens: &'t [Token<'a>],
@@ -189,8 +351,8 @@ fn list<'a, 't>(
     if star.is_some() {
         return Ok((SelectList::Star, rest));
     }
-    let (columns, rest) = columns(alloc, tokens, end)?;
-    Ok((SelectList::Columns(columns), rest))
+    let (columns, rest) = several(alloc, tokens, end)?;
+    Ok((SelectList::Columns(Sequence::from_vec(columns)), rest))
 }
 
 /// Copies a byte of a string, except for the second quote of two. Returns whether the byte is the
@@ -255,22 +417,8 @@ fn side<'a, 't>(
         let bytes = Vec::from_slice(alloc, digits.body)?;
         return Ok((Side::Constant(Bytes::from_vec(bytes)), rest));
     }
-    let (column, rest) = column(alloc, tokens, end)?;
+    let (column, rest) = ColumnRef::read(alloc, tokens, end)?;
     Ok((Side::Column(column), rest))
-}
-
-/// Reads a condition.
-#[tactic(auto, unfolding(crate::specs::Reading::condition_at))]
-fn condition<'a, 't>(
-    alloc: Global,
-    tokens: &'t [Token<'a>],
-    end: u32,
-) -> Result<(Equality, &'t [Token<'a>]), ParseFault>
-    ensures { Gives end (λ x. (x.0, lexemes x.1.now)) result (condition_at (lexemes tokens.now)) }
-{
-    let (left, rest) = side(alloc, tokens, end)?;
-    let (_, rest) = expect(rest, end, Kind::Equals)?;
-    with_left(alloc, left, rest, end)
 }
 
 /// The equality of a left side and the right side behind it. One of the two is a column.
@@ -289,46 +437,11 @@ fn with_left<'a, 't>(
             Ok((Equality { left, right }, rest))
         }
         Side::Constant(bytes) => {
-            let (left, rest) = column(alloc, tokens, end)?;
+            let (left, rest) = ColumnRef::read(alloc, tokens, end)?;
             let right = Side::Constant(bytes);
             Ok((Equality { left, right }, rest))
         }
     }
-}
-
-/// Reads `and` and a condition, if there is an `and`.
-#[tactic(auto, using(crate::proofs::Handed::found_gives), unfolding(crate::specs::Reading::next_condition_at))]
-fn next_condition<'a, 't>(
-    alloc: Global,
-    tokens: &'t [Token<'a>],
-    end: u32,
-) -> Result<Option<(Equality, &'t [Token<'a>])>, ParseFault>
-    ensures { Gives end (option_map (λ x. (x.0, lexemes x.1.now))) result
-        (next_condition_at (lexemes tokens.now)) }
-{
-    let (and, rest) = optional(tokens, Kind::And);
-    if and.is_none() {
-        return Ok(None);
-    }
-    found(condition(alloc, rest, end))
-}
-
-/// Reads conditions with `and` between them.
-#[tactic(auto, unfolding(crate::specs::Reading::conditions_at))]
-fn conditions<'a, 't>(
-    alloc: Global,
-    tokens: &'t [Token<'a>],
-    end: u32,
-) -> Result<(Vec<Equality>, &'t [Token<'a>]), ParseFault>
-    ensures { Gives end (λ x. (x.0.items, lexemes x.1.now)) result
-        (conditions_at (lexemes tokens.now)) }
-{
-    let (first, mut rest) = condition(alloc, tokens, end)?;
-    let mut equalities = one(alloc, first)?;
-    while let Some(after) = add(&mut equalities, next_condition(alloc, rest, end))? {
-        rest = after;
-    }
-    Ok((equalities, rest))
 }
 
 /// Reads a table and its alias.
@@ -389,7 +502,7 @@ fn plain_item<'a, 't>(
 }
 
 /// Reads an item, `on` and its conditions.
-#[tactic(auto, unfolding(crate::specs::Reading::joined_item_at))]
+#[tactic(auto, using(crate::proofs::Stepping::condition_steps), unfolding(crate::specs::Reading::joined_item_at, crate::specs::Reading::conditions_at))]
 fn joined_item<'a, 't>(
     alloc: Global,
     tokens: &'t [Token<'a>],
@@ -400,7 +513,7 @@ fn joined_item<'a, 't>(
 {
     let (item, rest) = item(alloc, tokens, end)?;
     let (_, rest) = expect(rest, end, Kind::On)?;
-    let (on, rest) = conditions(alloc, rest, end)?;
+    let (on, rest) = several(alloc, rest, end)?;
     Ok((Joined { item, on }, rest))
 }
 
@@ -448,6 +561,17 @@ struct FromItems {
 }
 
 impl FromItems {
+    /// One item, without conditions.
+    fn of(alloc: Global, item: ItemRef) -> Result<FromItems, AllocError>
+        ensures items { IfOk result (λ f. f.items.items ≡ item ∷ []) }
+        ensures on { IfOk result (λ f. f.on.items ≡ []) }
+    {
+        let mut items = Vec::new(alloc);
+        items.push(item)?;
+        let on = Vec::new(alloc);
+        Ok(FromItems { items, on })
+    }
+
     /// Puts an item after the others, and its conditions after theirs.
     fn push(&mut self, joined: Joined) -> Result<(), AllocError>
         ensures items { OnOk result
@@ -482,9 +606,7 @@ fn items<'a, 't>(
         (items_at (lexemes tokens.now)) }
 {
     let (first, mut rest) = item(alloc, tokens, end)?;
-    let items = one(alloc, first)?;
-    let on = Vec::new(alloc);
-    let mut found = FromItems { items, on };
+    let mut found = FromItems::of(alloc, first)?;
     while let Some((joined, after)) = next_item(alloc, rest, end)? {
         found.push(joined)?;
         rest = after;
@@ -493,7 +615,7 @@ fn items<'a, 't>(
 }
 
 /// Reads `where` and its conditions, if there is a `where`.
-#[tactic(auto, unfolding(crate::specs::Reading::where_at))]
+#[tactic(auto, using(crate::proofs::Stepping::condition_steps), unfolding(crate::specs::Reading::where_at, crate::specs::Reading::conditions_at))]
 fn where_clause<'a, 't>(
     alloc: Global,
     tokens: &'t [Token<'a>],
@@ -505,7 +627,7 @@ fn where_clause<'a, 't>(
     if word.is_none() {
         return Ok((Vec::new(alloc), rest));
     }
-    conditions(alloc, rest, end)
+    several(alloc, rest, end)
 }
 
 /// Whether there is a sign, and whether it is a minus.
@@ -532,24 +654,8 @@ fn term<'a, 't>(
 ) -> Result<(Term, &'t [Token<'a>]), ParseFault>
     ensures { Gives end (λ x. (x.0, lexemes x.1.now)) result (term_at minus (lexemes tokens.now)) }
 {
-    let (column, rest) = column(alloc, tokens, end)?;
+    let (column, rest) = ColumnRef::read(alloc, tokens, end)?;
     Ok((Term { minus, column }, rest))
-}
-
-/// Reads a sign and a column, if there is a sign.
-#[tactic(auto, using(crate::proofs::Handed::found_gives), unfolding(crate::specs::Reading::next_term_at))]
-fn next_term<'a, 't>(
-    alloc: Global,
-    tokens: &'t [Token<'a>],
-    end: u32,
-) -> Result<Option<(Term, &'t [Token<'a>])>, ParseFault>
-    ensures { Gives end (option_map (λ x. (x.0, lexemes x.1.now))) result
-        (next_term_at (lexemes tokens.now)) }
-{
-    if let (Some(minus), rest) = sign(tokens) {
-        return found(term(alloc, minus, rest, end));
-    }
-    Ok(None)
 }
 
 /// Whether there is a DESC. An ASC is read too.
@@ -564,75 +670,8 @@ fn direction<'a, 't>(tokens: &'t [Token<'a>]) -> (bool, &'t [Token<'a>])
     (false, rest)
 }
 
-/// Reads the columns of an order key, with their signs.
-#[tactic(auto, unfolding(crate::specs::Reading::terms_at))]
-fn terms<'a, 't>(
-    alloc: Global,
-    tokens: &'t [Token<'a>],
-    end: u32,
-) -> Result<(Sequence<Term>, &'t [Token<'a>]), ParseFault>
-    ensures { Gives end (λ x. (x.0, lexemes x.1.now)) result (terms_at (lexemes tokens.now)) }
-{
-    let (minus, rest) = sign(tokens);
-    let (first, mut rest) = term(alloc, minus.unwrap_or(false), rest, end)?;
-    let mut terms = one(alloc, first)?;
-    while let Some(after) = add(&mut terms, next_term(alloc, rest, end))? {
-        rest = after;
-    }
-    Ok((Sequence::from_vec(terms), rest))
-}
-
-/// Reads an order key and its direction.
-#[tactic(auto, unfolding(crate::specs::Reading::key_at))]
-fn key<'a, 't>(
-    alloc: Global,
-    tokens: &'t [Token<'a>],
-    end: u32,
-) -> Result<(KeyRef, &'t [Token<'a>]), ParseFault>
-    ensures { Gives end (λ x. (x.0, lexemes x.1.now)) result (key_at (lexemes tokens.now)) }
-{
-    let (terms, rest) = terms(alloc, tokens, end)?;
-    let (descending, rest) = direction(rest);
-    Ok((KeyRef { terms, descending }, rest))
-}
-
-/// Reads a comma and an order key, if there is a comma.
-#[tactic(auto, using(crate::proofs::Handed::found_gives), unfolding(crate::specs::Reading::next_key_at))]
-fn next_key<'a, 't>(
-    alloc: Global,
-    tokens: &'t [Token<'a>],
-    end: u32,
-) -> Result<Option<(KeyRef, &'t [Token<'a>])>, ParseFault>
-    ensures { Gives end (option_map (λ x. (x.0, lexemes x.1.now))) result
-        (next_key_at (lexemes tokens.now)) }
-{
-    let (comma, rest) = optional(tokens, Kind::Comma);
-    if comma.is_none() {
-        return Ok(None);
-    }
-    found(key(alloc, rest, end))
-}
-
-/// Reads `by` and order keys with commas between them.
-#[tactic(auto, unfolding(crate::specs::Reading::keys_at))]
-fn keys<'a, 't>(
-    alloc: Global,
-    tokens: &'t [Token<'a>],
-    end: u32,
-) -> Result<(Vec<KeyRef>, &'t [Token<'a>]), ParseFault>
-    ensures { Gives end (λ x. (x.0.items, lexemes x.1.now)) result (keys_at (lexemes tokens.now)) }
-{
-    let (_, rest) = expect(tokens, end, Kind::By)?;
-    let (first, mut rest) = key(alloc, rest, end)?;
-    let mut keys = one(alloc, first)?;
-    while let Some(after) = add(&mut keys, next_key(alloc, rest, end))? {
-        rest = after;
-    }
-    Ok((keys, rest))
-}
-
 /// Reads `order by` and its keys, if there is an `order`.
-#[tactic(auto, unfolding(crate::specs::Reading::order_at))]
+#[tactic(auto, using(crate::proofs::Stepping::key_steps), unfolding(crate::specs::Reading::order_at, crate::specs::Reading::keys_at))]
 fn order_clause<'a, 't>(
     alloc: Global,
     tokens: &'t [Token<'a>],
@@ -644,7 +683,8 @@ fn order_clause<'a, 't>(
     if word.is_none() {
         return Ok((Vec::new(alloc), rest));
     }
-    keys(alloc, rest, end)
+    let (_, rest) = expect(rest, end, Kind::By)?;
+    several(alloc, rest, end)
 }
 
 /// Reads `limit` and its digits, if there is a `limit`.
@@ -707,21 +747,6 @@ fn sources<'a, 't>(
     Ok((found, rest))
 }
 
-/// A query up to its order keys, without its limit.
-#[tactic(auto, unfolding(crate::specs::Reading::branch_at))]
-fn branch<'a, 't>(
-    alloc: Global,
-    tokens: &'t [Token<'a>],
-    end: u32,
-) -> Result<(Select, &'t [Token<'a>]), ParseFault>
-    ensures { Gives end (λ x. (x.0, lexemes x.1.now)) result (branch_at (lexemes tokens.now)) }
-{
-    let (list, rest) = selection(alloc, tokens, end)?;
-    let (found, rest) = sources(alloc, rest, end)?;
-    let (keys, rest) = order_clause(alloc, rest, end)?;
-    Ok((selected(list, found, keys), rest))
-}
-
 /// What was read, with the limit's digits after it. Nothing but a `;` may be left after them.
 fn ended<'a, T: Drop>(
     read: T,
@@ -745,48 +770,12 @@ pub(crate) fn query<'a>(
 ) -> Result<(Select, Option<Token<'a>>), ParseFault>
     ensures { Gives end (λ x. (x.0, some_lexeme x.1)) result (query_at (lexemes tokens.now)) }
 {
-    let (select, rest) = branch(alloc, tokens, end)?;
+    let (select, rest) = Select::read(alloc, tokens, end)?;
     ended(select, rest, end)
 }
 
-/// UNION ALL and the branch after it.
-#[tactic(auto, using(crate::proofs::Handed::found_gives), unfolding(crate::specs::Reading::next_branch_at))]
-fn next_branch<'a, 't>(
-    alloc: Global,
-    tokens: &'t [Token<'a>],
-    end: u32,
-) -> Result<Option<(Select, &'t [Token<'a>])>, ParseFault>
-    ensures { Gives end (option_map (λ x. (x.0, lexemes x.1.now))) result
-        (next_branch_at true (lexemes tokens.now)) }
-{
-    let (union, rest) = optional(tokens, Kind::Union);
-    if union.is_none() {
-        return Ok(None);
-    }
-    let (_, rest) = expect(rest, end, Kind::All)?;
-    found(branch(alloc, rest, end))
-}
-
-/// Reads queries with `union all` between them.
-#[tactic(auto, unfolding(crate::specs::Reading::branches_at))]
-fn branches<'a, 't>(
-    alloc: Global,
-    tokens: &'t [Token<'a>],
-    end: u32,
-) -> Result<(Sequence<Select>, &'t [Token<'a>]), ParseFault>
-    ensures { Gives end (λ x. (x.0, lexemes x.1.now)) result
-        (branches_at true (lexemes tokens.now)) }
-{
-    let (first, mut rest) = branch(alloc, tokens, end)?;
-    let mut branches = one(alloc, first)?;
-    while let Some(after) = add(&mut branches, next_branch(alloc, rest, end))? {
-        rest = after;
-    }
-    Ok((Sequence::from_vec(branches), rest))
-}
-
 /// The branches without their limit, and the limit's digits.
-#[tactic(auto, unfolding(crate::specs::Reading::queries_at))]
+#[tactic(auto, using(crate::proofs::Stepping::branch_steps), unfolding(crate::specs::Reading::queries_at, crate::specs::Reading::branches_at))]
 pub(crate) fn queries<'a>(
     alloc: Global,
     tokens: &[Token<'a>],
@@ -795,8 +784,8 @@ pub(crate) fn queries<'a>(
     ensures { Gives end (λ x. (x.0, some_lexeme x.1)) result
         (queries_at true (lexemes tokens.now)) }
 {
-    let (branches, rest) = branches(alloc, tokens, end)?;
-    ended(branches, rest, end)
+    let (branches, rest) = several(alloc, tokens, end)?;
+    ended(Sequence::from_vec(branches), rest, end)
 }
 
 /// The select of the clauses that were read, without a limit.

@@ -10,8 +10,8 @@ use Rattle.bound_query.specs.Weights.{weights_in}
 use Rattle.query_bind.proofs.Measuring.{measured_more, missing_there, most_is, none_missing, weight_at, weights_length}
 use Rattle.query_bind.proofs.weighing.read_column.Goals as goal
 
-pub returns-in_default-clause-fault : goal.returns-in_default-clause-fault
-returns-in_default-clause-fault c =
+pub returns-in_default : goal.returns-in_default
+returns-in_default c =
     let t = table_at c.args.tables.now c.args.table in
     let ws = weights_in t c.args.column.1 in
     let inside : c.loop-i.i < length ws = omega (arith, weights_length t c.args.column.1, c.len-i-end.ensures.rows) in
@@ -37,23 +37,11 @@ loop-i-preserved c =
           ∙ ap (λ (l : List (Option ℤ)). l ++ some z ∷ []) c.loop-i.invariant.1 ∙ ap (λ (o : Option ℤ). take i ws ++ o ∷ []) (sym here) ∙ sym (take_more ws i None inside),
     )
 
-pub returns-clause-weights : goal.returns-clause-weights
-returns-clause-weights c =
+pub returns : goal.returns
+returns c =
     let t = table_at c.args.tables.now c.args.table in
     let ws = weights_in t c.args.column.1 in
-    let past : length ws ≤ c.loop-i.i = omega (arith, weights_length t c.args.column.1, c.len-i-end.ensures.rows) in
-    c.loop-i.invariant.1 ∙ take_all c.loop-i.i ws past
-
-pub returns-clause-most : goal.returns-clause-most
-returns-clause-most c =
-    let t = table_at c.args.tables.now c.args.table in
-    let ws = weights_in t c.args.column.1 in
-    let past : length ws ≤ c.loop-i.i = omega (arith, weights_length t c.args.column.1, c.len-i-end.ensures.rows) in
-    most_is ws c.loop-i.i c.loop-i.most c.loop-i.invariant.0 past
-
-pub returns-clause-sound : goal.returns-clause-sound
-returns-clause-sound c =
-    let t = table_at c.args.tables.now c.args.table in
-    let ws = weights_in t c.args.column.1 in
-    let past : length ws ≤ c.loop-i.i = omega (arith, weights_length t c.args.column.1, c.len-i-end.ensures.rows) in
-    ap (option_map (λ n. fault.BadWeight (c.args.column.0 + 1) (n + 1) (c.args.column.1 + 1))) (none_missing ws c.loop-i.i c.loop-i.most c.loop-i.invariant.0 past)
+    let past : length ws ≤ c.loop-i.i = omega (arith, weights_length t c.args.column.1, c.len-i-end.ensures.rows) in (
+      (c.loop-i.invariant.1 ∙ take_all c.loop-i.i ws past, most_is ws c.loop-i.i c.loop-i.most c.loop-i.invariant.0 past),
+      ap (option_map (λ n. fault.BadWeight (c.args.column.0 + 1) (n + 1) (c.args.column.1 + 1))) (none_missing ws c.loop-i.i c.loop-i.most c.loop-i.invariant.0 past),
+    )

@@ -20,7 +20,7 @@ returns-in_err-sum-clause-fault c =
     let inside : i < length (map key_view keys) = omega (arith, length-map keys key_view) in
     let here : get_or (map key_view keys) i (key_view x) ≡ key_view x = get_or-map key_view keys i x (key_view x) c.loop-i-test.true ∙ ap key_view (sym c.index-keys-i.is) in
     rw (p.1, p.2) (keys_fault c.args.tables.now (items_view c.args.items.now) (map key_view keys) i c.loop-i.first c.loop-i.invariant.0
-    (key_view x) c.in_err-sum.field-0.0 inside here c.in_err-sum.ensures.fault)
+    (key_view x) c.in_err-sum.field-0.0 inside here c.in_err-sum.ensures)
 
 pub loop-i-preserved : goal.loop-i-preserved
 loop-i-preserved c =
@@ -33,13 +33,13 @@ loop-i-preserved c =
     let inside : i < length order = omega (arith, length-map keys key_view) in
     let here : get_or order i (key_view x) ≡ key_view x = get_or-map key_view keys i x (key_view x) c.loop-i-test.true ∙ ap key_view (sym c.index-keys-i.is) in (
       subst (λ (o : Option ℕ). HasKeys tables items order (i + 1) o) (sym c.first_past-first.ensures)
-          (keys_more tables items order i c.loop-i.first c.loop-i.invariant.0 (key_view x) c.in_ok-sum.sum inside here c.in_ok-sum.ensures.size c.in_ok-sum.ensures.sound),
+          (keys_more tables items order i c.loop-i.first c.loop-i.invariant.0 (key_view x) c.in_ok-sum.sum inside here c.in_ok-sum.ensures.0.0 c.in_ok-sum.ensures.1),
       λ none.
           let met = no_key_met c.loop-i.first c.in_ok-sum.sum (i + 1) (sym c.first_past-first.ensures ∙ none) in
           let more : take (i + 1) order ≡ take i order ++ key_view x ∷ [] = take_more order i (key_view x) inside ∙ ap (λ (k : OrderKey). take i order ++ k ∷ []) here in
           ap (map weighed_view) c.in_ok-push.ensures.items ∙ map-append weighed_view c.loop-i.weighed.items (c.in_ok-sum.parts ∷ [])
           ∙ ap (λ (l : List (List ItemParts)). l ++ weighed_view c.in_ok-sum.parts ∷ []) (c.loop-i.invariant.1 met.0)
-          ∙ ap (λ (l : List ItemParts). map (key_parts tables items) (take i order) ++ l ∷ []) (c.in_ok-sum.ensures.parts met.1)
+          ∙ ap (λ (l : List ItemParts). map (key_parts tables items) (take i order) ++ l ∷ []) (c.in_ok-sum.ensures.0.1 met.1)
           ∙ sym (ap (map (key_parts tables items)) more ∙ map-append (key_parts tables items) (take i order) (key_view x ∷ [])),
     )
 
