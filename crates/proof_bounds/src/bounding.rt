@@ -5,7 +5,7 @@ ghost use Rattle.proof_text.specs.ProofView.{proof_view};
 ghost use Rattle.proof_model.specs.Faults.{TellsFlaw};
 ghost use Rattle.proof_bounds.specs.BoundedRows.{HasProblemRows, IsBounded};
 
-use crate::bounded::{BoundedTree, NodeBounds};
+use crate::bounded::BoundedTree;
 use crate::groups::line_groups;
 use crate::lines::{PlacedLines, placed_lines};
 use crate::names::name_all;
@@ -38,33 +38,10 @@ pub fn with_bounds<R: Rank, L: Ledger>(
     ensures fault { IfErr result
         (TellsFlaw query.now.query tables.now join.now (proof_view proof.now)) }
 {
-    let bounds = bounds_of(alloc, query, tables, join, &raw, proof, steps)?;
-    Ok(BoundedTree { raw, bounds })
-}
-
-/// The bounds of each node, of a tree that is lent. The rest is the same.
-fn bounds_of<R: Rank, L: Ledger>(
-    alloc: Global,
-    query: &Query,
-    tables: &Tables,
-    join: &JoinTree,
-    raw: &RawTree<R>,
-    proof: &Proof,
-    steps: &mut Steps<L>,
-) -> Result<Vec<NodeBounds<R>>, ProofFault>
-    requires keys { length query.now.query.order ≤ R.KEYS }
-    requires rows { HasProblemRows query.now.query tables.now join.now R.KEYS R.key raw.now }
-    requires shape { (shape : Shape) × IsShape query.now.query tables.now (Ok shape) }
-    ensures bounded { IfOk result
-        (λ bounds. IsBounded query.now.query tables.now join.now R.KEYS R.key (proof_view proof.now)
-        (record { raw = raw.now; bounds = bounds.items })) }
-    ensures fault { IfErr result
-        (TellsFlaw query.now.query tables.now join.now (proof_view proof.now)) }
-{
     let _nodes = raw.nodes();
-    let PlacedLines { tops, mut bounds } = placed_lines(alloc, raw, proof, steps)?;
+    let PlacedLines { tops, mut bounds } = placed_lines(alloc, &raw, proof, steps)?;
     let keys = tables.keys();
-    let groups = line_groups(alloc, raw, keys, proof, tops.as_slice(), steps)?;
-    name_all(alloc, raw, groups.as_slice(), bounds.as_mut_slice(), steps)?;
-    Ok(bounds)
+    let groups = line_groups(alloc, &raw, keys, proof, tops.as_slice(), steps)?;
+    name_all(alloc, &raw, groups.as_slice(), bounds.as_mut_slice(), steps)?;
+    Ok(BoundedTree { raw, bounds })
 }
