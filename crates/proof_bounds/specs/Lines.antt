@@ -1,5 +1,5 @@
 -- The bound lines of a certificate, node by node, as rows of a raw tree.
-use Rattle.std.specs.Prelude.{◌≡◌, ◌≢◌, ℕ, ◌<◌, cond, nat_eq, suc, List, [], length, map, position, slice_index, slice_index_or, Option, None}
+use Rattle.std.specs.Prelude.{◌≡◌, ◌≢◌, ℕ, ◌<◌, cond, nat_eq, suc, List, [], length, map, position, slice_index, slice_index_or, Option, None, Some}
 use Rattle.std.specs.List.{filter, range_with_len}
 use Rattle.anyk_model.specs.Table.{Table}
 use Rattle.anyk_model.specs.Query.{Query}
@@ -55,6 +55,18 @@ module _ {R : Type 0} (raw : RawView R) where
   -- the link of the group of node q that row r of its parent names
   abbrev pub named_link : ℕ → ℕ → ℕ
   named_link q r = child_link raw (shape_parent raw.shapes q) r (shape_child_place raw.shapes q)
+
+  -- the link of the group of row i of node v, or of the group that it names for its child at place q
+  abbrev pub row_link : ℕ → ℕ → Option ℕ → ℕ
+  row_link v i None = group_link v i
+  row_link v i (Some q) = child_link raw v i q
+
+  -- the first n rows of node v have the numbers of the groups with these links
+  pub record AreNumbers (groups : List ℕ) (v : ℕ) (child : Option ℕ) (n : ℕ)
+      (numbers : List (Option ℕ)) : Type 0 where
+    pub count : length numbers ≡ n
+    pub each : (i : ℕ) → i < n
+        → slice_index_or numbers i None ≡ position (nat_eq (row_link v i child)) groups
 
   -- the links of the groups of a node's lines, in the order of the lines; no two lines have one
   -- group

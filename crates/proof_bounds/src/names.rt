@@ -1,8 +1,8 @@
 //! The numbers of bounds, row by row.
-ghost use Rattle.std.specs.Prelude.{◌≡◌, ◌≤◌, ◌<◌, ℕ, List, [], length, map, nat_eq, position, slice_index_or, IfOk, OnOk, None};
+ghost use Rattle.std.specs.Prelude.{◌≡◌, ◌≤◌, ◌<◌, ℕ, List, [], length, map, nat_eq, position, slice_index_or, IfOk, OnOk, Some};
 ghost use Rattle.tdp_model.specs.NodeRows.{most_node_rows};
-ghost use Rattle.tdp_core.specs.RawView.{raw_len, shape_parent};
-ghost use Rattle.proof_bounds.specs.Lines.{AreNamed, group_link, named_link};
+ghost use Rattle.tdp_core.specs.RawView.{raw_len, shape_children};
+ghost use Rattle.proof_bounds.specs.Lines.{AreNamed, AreNumbers, row_link};
 
 use crate::bounded::NodeBounds;
 use crate::groups::group_link;
@@ -25,60 +25,44 @@ fn group_number<L: Ledger>(groups: &HashedIndex, link: u32, steps: &mut Steps<L>
     }
 }
 
-/// For each row of a node the number of its group.
-fn own_numbers<R: Rank, L: Ledger>(
-    alloc: Global,
-    raw: &RawTree<R>,
-    node: u32,
-    groups: &HashedIndex,
-    steps: &mut Steps<L>,
-) -> Result<Vec<Option<u32>>, AllocError>
+/// The link of a row's own group, or, given the place of a child, of the group that the row names
+/// there.
+fn row_link<R: Rank>(raw: &RawTree<R>, node: u32, row: u32, child: Option<u32>) -> u32
     requires node { node < length raw.now.shapes }
-    requires groups { length groups.now ≤ most_node_rows }
-    ensures count { IfOk result (λ own. length own.items ≡ raw_len raw.now node) }
-    ensures numbers { IfOk result (λ own. (i : ℕ) → i < raw_len raw.now node
-        → slice_index_or own.items i None
-        ≡ position (nat_eq (group_link raw.now node i)) groups.now) }
+    requires row { row < raw_len raw.now node }
+    requires child { (q : ℕ) → child ≡ Some q → q < shape_children raw.now.shapes node }
+    ensures { result ≡ row_link raw.now node row child }
 {
-    let count = raw.len(node);
-    let mut own = Vec::with_capacity(alloc, count as usize)?;
-    for place in 0..count {
-        let link = group_link(raw, node, place);
-        let number = group_number(groups, link, steps);
-        own.push(number)?;
+    match child {
+        None => group_link(raw, node, row),
+        Some(child) => raw.link(node, row, child),
     }
-    Ok(own)
 }
 
-/// For each row of the parent of a node the number of the group that it names.
-fn named_numbers<R: Rank, L: Ledger>(
+/// For each row of a node the number of its own group, or, given the place of a child, of the group
+/// that the row names there.
+fn row_numbers<R: Rank, L: Ledger>(
     alloc: Global,
     raw: &RawTree<R>,
     node: u32,
+    child: Option<u32>,
     groups: &HashedIndex,
     steps: &mut Steps<L>,
 ) -> Result<Vec<Option<u32>>, AllocError>
-    requires below_root { 0 < node }
     requires node { node < length raw.now.shapes }
+    requires child { (q : ℕ) → child ≡ Some q → q < shape_children raw.now.shapes node }
     requires groups { length groups.now ≤ most_node_rows }
-    ensures count { IfOk result
-        (λ named. length named.items ≡ raw_len raw.now (shape_parent raw.now.shapes node)) }
-    ensures numbers { IfOk result
-        (λ named. (r : ℕ) → r < raw_len raw.now (shape_parent raw.now.shapes node)
-        → slice_index_or named.items r None
-        ≡ position (nat_eq (named_link raw.now node r)) groups.now) }
+    ensures { IfOk result
+        (λ numbers. AreNumbers raw.now groups.now node child (raw_len raw.now node) numbers.items) }
 {
-    let _nodes = raw.nodes();
-    let parent = raw.shape(node).parent;
-    let child = child_place(raw, node);
-    let count = raw.len(parent);
-    let mut named = Vec::with_capacity(alloc, count as usize)?;
+    let count = raw.len(node);
+    let mut numbers = Vec::with_capacity(alloc, count as usize)?;
     for row in 0..count {
-        let link = raw.link(parent, row, child);
+        let link = row_link(raw, node, row, child);
         let number = group_number(groups, link, steps);
-        named.push(number)?;
+        numbers.push(number)?;
     }
-    Ok(named)
+    Ok(numbers)
 }
 
 /// Names the groups of a node for its rows and for those of its parent. The ranks of the bounds
@@ -97,10 +81,12 @@ pub(crate) fn name_groups<R: Rank, L: Ledger>(
         (AreNamed raw.now groups.now node bounds.new.own.items bounds.new.named.items) }
     ensures ranks { bounds.new.ranks ≡ bounds.old.ranks }
 {
-    let own = own_numbers(alloc, raw, node, groups, steps)?;
+    let own = row_numbers(alloc, raw, node, None, groups, steps)?;
     bounds.own = own;
     if node > 0 {
-        let named = named_numbers(alloc, raw, node, groups, steps)?;
+        let parent = raw.shape(node).parent;
+        let child = child_place(raw, node);
+        let named = row_numbers(alloc, raw, parent, Some(child), groups, steps)?;
         bounds.named = named;
     }
     Ok(())

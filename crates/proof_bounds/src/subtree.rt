@@ -60,6 +60,7 @@ pub(crate) fn child_place<R: Rank>(raw: &RawTree<R>, node: u32) -> u32
     requires node { node < length raw.now.shapes }
     ensures place { result ≡ shape_child_place raw.now.shapes node }
     ensures within { result < shape_children raw.now.shapes (shape_parent raw.now.shapes node) }
+    ensures above { shape_parent raw.now.shapes node < node }
 {
     let _nodes = raw.nodes();
     let parent = raw.shape(node).parent;

@@ -1,38 +1,36 @@
 -- What the rows of a node satisfy before they are put into groups.
 use Rattle.std.proofs.Common.{◌≡◌, ◌⊎◌, ℕ, ◌<◌, ◌≤◌, None, Some, List, length, slice_index, slice_index_or, sym, subst, inl, inr, arith}
-use Rattle.join_tree.specs.Rerooting.{IsTree}
 use Rattle.join_tree.specs.declared.tree.JoinTree.{JoinTree}
 use Rattle.tdp_model.specs.KeyTuple.{KeyOf}
-use Rattle.tdp_core.specs.RawView.{IsRawFormed}
 use Rattle.proof_bounds.specs.BoundedRows.{BoundedView, bound_ranks}
-use Rattle.proof_answers.specs.Lows.{IsBoundedTree}
 use Rattle.proof_answers.specs.RowPlaces.{place_at}
 use Rattle.proof_answers.proofs.Nodes.{all_nodes}
-use Rattle.proof_choices.specs.Levels.{ArePrefixes, BeginAlike, list_at, own_bounds}
+use Rattle.proof_choices.specs.Levels.{ArePrefixes, BeginAlike, IsReady, list_at, own_bounds}
 use Rattle.proof_choices.proofs.Grouping.{one_of_all}
 use Rattle.proof_choices.proofs.Walking.{own_size}
 
 module _ {R : Type 0} (join : JoinTree) (tree : BoundedView R) (d : ℕ) (key : R → KeyOf d 16)
-    (known : IsBoundedTree join d key tree) (ordered : IsTree join.count join.atom join.parent)
-    (long : length join.atom ≡ 16) (p : ℕ) (node : p < join.count) where
+    (p : ℕ) (ready : IsReady join tree d key p) where
   pub node_bounds : p < length tree.bounds
   node_bounds =
-      let nodes = all_nodes known.query known.tables join ordered long in
-      let each = known.bounded.each_node in
+      let node = ready.node in
+      let nodes = all_nodes ready.bounded.query ready.bounded.tables join ready.ordered ready.long in
+      let each = ready.bounded.bounded.each_node in
       omega (arith, nodes, each, node)
 
-  pub few_rows_lem : IsRawFormed d key tree.raw → length (own_bounds tree p) ≤ 4194304
-  few_rows_lem formed =
-      let size = own_size join tree d key known ordered long p node in
-      let few = formed.few_rows in
+  pub few_rows_lem : length (own_bounds tree p) ≤ 4194304
+  few_rows_lem =
+      let size = own_size join tree d key p ready in
+      let few = ready.formed.few_rows in
       omega (arith, size, few, one_of_all tree.raw.rows p)
 
   pub own_within : (i b : ℕ) → i < length (own_bounds tree p) → slice_index_or (own_bounds tree p) i None ≡ Some b
       → b < length (bound_ranks tree p)
   own_within i b l e =
-      let nodes = all_nodes known.query known.tables join ordered long in
-      let size = own_size join tree d key known ordered long p node in
-      (known.bounded.own_is p i b (omega (arith, nodes, node)) (omega (arith, size, l)) e).0
+      let node = ready.node in
+      let nodes = all_nodes ready.bounded.query ready.bounded.tables join ready.ordered ready.long in
+      let size = own_size join tree d key p ready in
+      (ready.bounded.bounded.own_is p i b (omega (arith, nodes, node)) (omega (arith, size, l)) e).0
 
 -- the rows of a beginning are rows of their nodes
 pub start_rows : (len : ℕ → ℕ) (count p : ℕ) (places : List (List ℕ)) (numbers : List ℕ) (starts : List (List ℕ)) → p < count

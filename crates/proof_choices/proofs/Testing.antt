@@ -2,51 +2,35 @@
 use Rattle.std.proofs.Common.{◌≡◌, ℕ, ◌<◌, Option, None, Some, List, length, slice_index, slice_index_or}
 use Rattle.std.proofs.Common.{refl, sym, ap, subst, ◌∙◌, arith}
 use Rattle.std.specs.Option.{MatchOption}
-use Rattle.join_tree.specs.Rerooting.{IsTree}
 use Rattle.join_tree.specs.declared.tree.JoinTree.{JoinTree}
 use Rattle.tdp_model.specs.KeyTuple.{KeyOf, key_add}
-use Rattle.tdp_core.specs.RawView.{IsRawFormed, raw_len}
+use Rattle.tdp_core.specs.RawView.{raw_len}
 use Rattle.proof_bounds.specs.BoundedRows.{BoundedView, bound_ranks}
-use Rattle.proof_answers.specs.Lows.{IsBoundedTree}
 use Rattle.proof_choices.specs.declared.branches.Branch.{Branch}
-use Rattle.proof_choices.specs.Levels.{AreBranches, AreLeast, FitsGroup, IsBranch, IsInGroup, IsLeftAfter, IsLeftBefore}
-use Rattle.proof_choices.specs.Levels.{HasLow, IsBase, IsGroupOf, IsNoBranch, IsPairAt, IsPast, IsTestable, IsWay, list_at}
+use Rattle.proof_choices.specs.Levels.{AreBranches, AreLeast, CanLeave, FitsGroup, IsBranch, IsInGroup, IsLeftAfter, IsLeftBefore, IsReady}
+use Rattle.proof_choices.specs.Levels.{HasLow, IsBase, IsGroupOf, IsNoBranch, IsPairAt, IsPast, IsWay, list_at}
 use Rattle.proof_choices.proofs.Branching.{branch_fits, not_left, one_base, one_group}
 
 module _ {R : Type 0} (join : JoinTree) (tree : BoundedView R) (d : ℕ) (key : R → KeyOf d 16) (p : ℕ)
     (starts : List (List ℕ)) (branches : List (Option (Branch R)))
     (are : AreBranches join tree d key p starts branches) where
-  pub branch_at_lem : (n : ℕ) (b : Branch R) → n < length branches → slice_index_or branches n None ≡ Some b
+  branch_at_lem : (n : ℕ) (b : Branch R) → n < length branches → slice_index_or branches n None ≡ Some b
       → IsBranch join tree d key p (list_at starts n) b
   branch_at_lem n b l e =
       subst (λ o. MatchOption o (IsNoBranch join tree d key p (list_at starts n)) (IsBranch join tree d key p (list_at starts n)))
       e (are n l)
 
-  -- the least of what is known can be added too
-  pub testable : IsBoundedTree join d key tree → IsTree join.count join.atom join.parent → length join.atom ≡ 16
-      → IsRawFormed d key tree.raw → p < join.count → length branches ≡ length starts
+  -- what is known can be added to the ranks of the group's rows
+  pub can_leave : IsReady join tree d key p → length branches ≡ length starts
       → ((n q : ℕ) → n < length starts → q < p → slice_index (list_at starts n) q < raw_len tree.raw q)
-      → (least : List (Option R)) → AreLeast d key (length branches) branches least
-      → length least ≡ length (bound_ranks tree p) → (n : ℕ) (b : Branch R) → n < length branches
-      → slice_index_or branches n None ≡ Some b → IsTestable join tree d key p least b
-  testable known ordered long formed node count rows least is size n b l e =
-      let at = branch_at_lem n b l e in
-      let low = is.below n b l e in
-      let from = is.one b.group low.0 low.1 in
-      let other : Branch R = from.1.0 in
-      let its = branch_at_lem from.0 other from.1.1 from.1.2 in
-      record {
-        within = let h = at.within in omega (arith, size, h);
-        known = low.0;
-        is_known = low.1;
-        less = low.2;
-        fits_known = subst (λ g. FitsGroup join tree d key p g (key low.0)) from.1.3
-            (subst (λ z. FitsGroup join tree d key p other.group (key z)) from.1.4
-            (branch_fits join tree d key p (list_at starts from.0) known ordered long formed node
-            (λ q. rows from.0 q (let h = from.1.1 in omega (arith, h, count))) other its));
-        fits_base = branch_fits join tree d key p (list_at starts n) known ordered long formed node
-            (λ q. rows n q (omega (arith, l, count))) b at;
-      }
+      → (n : ℕ) (b : Branch R) → n < length branches → slice_index_or branches n None ≡ Some b
+      → CanLeave join tree d key p b
+  can_leave ready count rows n b l e =
+      let at = branch_at_lem n b l e in (
+        at.within,
+        branch_fits join tree d key p (list_at starts n) ready.bounded ready.ordered ready.long ready.formed ready.node
+            (λ q. rows n q (omega (arith, l, count))) b at,
+      )
 
   module _ (pairs : List (ℕ × ℕ)) (last : Option (KeyOf d 16)) (count : length branches ≡ length starts) where
     pub way_from : (n : ℕ) (b : Branch R) → n < length branches → slice_index_or branches n None ≡ Some b
@@ -106,3 +90,15 @@ module _ {R : Type 0} (join : JoinTree) (tree : BoundedView R) (d : ℕ) (key : 
             let equal = one_base join tree d key p (list_at starts n) base (key b.base) is at.base in
             subst (IsPast d last) (sym (whole ∙ ap (λ z. key_add d 16 z low) equal))
             (after b e i low (subst (λ z. IsInGroup join tree d key p z i) same row) new has)
+
+-- the least of what is known can be added too
+pub least_fits : {R : Type 0} (join : JoinTree) (tree : BoundedView R) (d : ℕ) (key : R → KeyOf d 16) (p : ℕ)
+    (branches : List (Option (Branch R))) (least : List (Option R))
+    → ((n : ℕ) (b : Branch R) → n < length branches → slice_index_or branches n None ≡ Some b → CanLeave join tree d key p b)
+    → AreLeast d key (length branches) branches least → (g : ℕ) (k : R) → slice_index_or least g None ≡ Some k
+    → FitsGroup join tree d key p g (key k)
+least_fits join tree d key p branches least can its g k e =
+    let from = its.one g k e in
+    let b : Branch _ = from.1.0 in
+    subst (λ h. FitsGroup join tree d key p h (key k)) from.1.3
+    (subst (λ z. FitsGroup join tree d key p b.group (key z)) from.1.4 (can from.0 b from.1.1 from.1.2).1)

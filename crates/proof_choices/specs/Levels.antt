@@ -1,16 +1,17 @@
 -- The choices at one node: the answers by how they begin, and the rows that may follow.
-use Rattle.std.specs.Prelude.{◌≡◌, ◌↔◌, ◌⊎◌, ℕ, ◌+◌, ◌<◌, suc, cond, nat_le, List, [], Bool, false}
+use Rattle.std.specs.Prelude.{◌≡◌, ◌↔◌, ◌⊎◌, ℕ, ◌+◌, ◌<◌, suc, cond, nat_le, List, [], Bool, true, false}
 use Rattle.std.specs.Prelude.{Option, None, Some, option_map, length, slice_get, slice_index, slice_index_or, All, Contains}
 use Rattle.std.specs.Prelude.{MatchOption, ◌≤◌, map}
+use Rattle.join_tree.specs.Rerooting.{IsTree}
 use Rattle.join_tree.specs.declared.tree.JoinTree.{JoinTree}
 use Rattle.rank_key.specs.Keys.{KeyFits}
 use Rattle.tdp_model.specs.KeyTuple.{KeyOf, key_add, key_below, key_none}
 use Rattle.tdp_model.specs.KeyNumbers.{key_less}
 use Rattle.tdp_model.specs.Remains.{AtMost}
 use Rattle.tdp_model.specs.TreeProblem.{sum_from}
-use Rattle.tdp_core.specs.RawView.{raw_len, raw_number, raw_rank}
+use Rattle.tdp_core.specs.RawView.{IsRawFormed, raw_len, raw_number, raw_rank}
 use Rattle.proof_bounds.specs.BoundedRows.{BoundedView, bound_ranks, named_bound, own_bound, rank_of_bound}
-use Rattle.proof_answers.specs.Lows.{IsLow, OfEach}
+use Rattle.proof_answers.specs.Lows.{IsBoundedTree, IsLow, OfEach}
 use Rattle.proof_answers.specs.RowPlaces.{place_at}
 use Rattle.proof_choices.specs.declared.offers.Offer.{Offer}
 use Rattle.proof_choices.specs.declared.branches.Branch.{Branch}
@@ -71,7 +72,46 @@ module _ {R : Type 0} (d : ℕ) (key : R → KeyOf d 16) where
       (i j : ℕ) (a b : Offer R) → i ≤ j → slice_get offers i ≡ Some a → slice_get offers j ≡ Some b
       → AtMost (key_below d 16) (key a.low) (key b.low)
 
+  -- what is known for the branch can be added to the offers of its group, which has a list
+  abbrev pub FitOffers : Branch R → List (List (Offer R)) → Type 0
+  FitOffers b lists =
+      (b.group < length lists)
+      × ((j : ℕ) (o : Offer R) → slice_get (slice_index_or lists b.group []) j ≡ Some o
+      → KeyFits d key (key_add d 16 (key b.base) (key o.low)))
+
+  -- of these offers each before place j is taken
+  abbrev pub AreTaken : List (ℕ × ℕ) → ℕ → List (Offer R) → ℕ → Type 0
+  AreTaken pairs n offers j =
+      (i : ℕ) → i < j → (a : Offer R) → slice_get offers i ≡ Some a
+      → (k : ℕ) × IsPairAt pairs k (n, a.row)
+
+  -- each offer is taken, or the first that is not comes after the last answer
+  abbrev pub IsFirstPast : List (ℕ × ℕ) → ℕ → Option (KeyOf d 16) → Branch R
+      → List (List (Offer R)) → Type 0
+  IsFirstPast pairs n last b lists =
+      ((i : ℕ) (a : Offer R) → slice_get (slice_index_or lists b.group []) i ≡ Some a
+      → (k : ℕ) × IsPairAt pairs k (n, a.row))
+      ⊎ ((j : ℕ) × ((o : Offer R) × (slice_get (slice_index_or lists b.group []) j ≡ Some o)
+      × AreTaken pairs n (slice_index_or lists b.group []) j
+      × (is_past d last (key_add d 16 (key b.base) (key o.low)) ≡ true)))
+
+  -- an offer that is not taken does not
+  abbrev pub IsFirstEarly : List (ℕ × ℕ) → ℕ → Option (KeyOf d 16) → Branch R
+      → List (List (Offer R)) → Type 0
+  IsFirstEarly pairs n last b lists =
+      (j : ℕ) × ((o : Offer R) × (slice_get (slice_index_or lists b.group []) j ≡ Some o)
+      × (((k : ℕ) × IsPairAt pairs k (n, o.row)) → ⊥)
+      × (is_past d last (key_add d 16 (key b.base) (key o.low)) ≡ false))
+
 module _ {R : Type 0} (join : JoinTree) (tree : BoundedView R) (d : ℕ) (key : R → KeyOf d 16) where
+  -- the join tree is one, the tree is bounded and formed, and p is a node
+  pub record IsReady (p : ℕ) : Type 0 where
+    pub ordered : IsTree join.count join.atom join.parent
+    pub bounded : IsBoundedTree join d key tree
+    pub formed : IsRawFormed d key tree.raw
+    pub long : length join.atom ≡ 16
+    pub node : p < join.count
+
   -- # What is known before the row of node p is chosen
 
   -- what node q gives: the rank of its row, or that of the bound of its group if an earlier row
@@ -142,6 +182,16 @@ module _ {R : Type 0} (join : JoinTree) (tree : BoundedView R) (d : ℕ) (key : 
       (i : ℕ) (low : KeyOf d 16) → IsInGroup p g i → HasLow p i (Some low)
       → KeyFits d key (key_add d 16 k low)
 
+  -- the same of these rows
+  abbrev pub FitsRows : ℕ → List ℕ → KeyOf d 16 → Type 0
+  FitsRows p rows k =
+      (m : ℕ) (low : KeyOf d 16) → m < length rows → HasLow p (slice_index rows m) (Some low)
+      → KeyFits d key (key_add d 16 k low)
+
+  -- the branch's group has a bound, and what is known can be added to the ranks of its rows
+  abbrev pub CanLeave : ℕ → Branch R → Type 0
+  CanLeave p b = (b.group < length (bound_ranks tree p)) × FitsGroup p b.group (key b.base)
+
   -- each row of the branch's group that no answer has after the beginning comes after the last
   -- answer
   abbrev pub IsLeftAfter : ℕ → List (ℕ × ℕ) → ℕ → Option (KeyOf d 16) → Branch R → Type 0
@@ -159,16 +209,6 @@ module _ {R : Type 0} (join : JoinTree) (tree : BoundedView R) (d : ℕ) (key : 
     pub untaken : ((j : ℕ) × IsPairAt pairs j (n, row)) → ⊥
     pub has_low : HasLow p row (Some low)
     pub early : IsPast d last (key_add d 16 (key b.base) low) → ⊥
-
-  -- The branch's group has the least that is known for it, and that and the branch's own can be
-  -- added to the ranks of the group's rows.
-  pub record IsTestable (p : ℕ) (least : List (Option R)) (b : Branch R) : Type 0 where
-    pub within : b.group < length least
-    pub known : R
-    pub is_known : slice_index_or least b.group None ≡ Some known
-    pub less : AtMost (key_below d 16) (key known) (key b.base)
-    pub fits_known : FitsGroup p b.group (key known)
-    pub fits_base : FitsGroup p b.group (key b.base)
 
   -- # Rows in order
 
@@ -200,16 +240,26 @@ module _ {R : Type 0} (join : JoinTree) (tree : BoundedView R) (d : ℕ) (key : 
     pub every : (m : ℕ) → m < length rows → IsOffered p least last offers (slice_index rows m)
     pub ordered : (last ≡ None) ⊎ AreAscending d key offers
 
-  -- For some groups the offers that the least of what is known for its beginnings asks for, and
-  -- none for the others yet.
+  -- For each of the first groups the offers that the least of what is known for its beginnings asks
+  -- for, if anything is known.
   pub record AreLists (p : ℕ) (last : Option (KeyOf d 16)) (groups : List (List ℕ))
-      (least : List (Option R))
+      (least : List (Option R)) (size : ℕ) (lists : List (List (Offer R))) : Type 0 where
+    pub count : length lists ≡ size
+    pub each : (g : ℕ) (k : R) → g < size → slice_index_or least g None ≡ Some k
+        → AreOffers p (slice_index_or groups g []) (key k) last (slice_index_or lists g [])
+
+  -- The list of the branch's group has the offers of the group's rows that no more than what is
+  -- known for the branch asks for.
+  pub record IsListed (p : ℕ) (last : Option (KeyOf d 16)) (b : Branch R)
       (lists : List (List (Offer R))) : Type 0 where
-    pub count : length lists ≡ length least
-    pub each : (g : ℕ) → g < length least
-        → (slice_index_or lists g [] ≡ [])
-        ⊎ ((k : R) × (slice_index_or least g None ≡ Some k)
-        × AreOffers p (slice_index_or groups g []) (key k) last (slice_index_or lists g []))
+    pub within : b.group < length lists
+    pub rows : List ℕ
+    pub inside : (m : ℕ) → m < length rows → IsInGroup p b.group (slice_index rows m)
+    pub every : (i : ℕ) → IsInGroup p b.group i
+        → (m : ℕ) × (m < length rows) × (slice_index rows m ≡ i)
+    pub known : KeyOf d 16
+    pub less : AtMost (key_below d 16) known (key b.base)
+    pub offers : AreOffers p rows known last (slice_index_or lists b.group [])
 
   -- for each beginning of the first ones whether it may be left, and how
   abbrev pub AreBranches : ℕ → List (List ℕ) → List (Option (Branch R)) → Type 0

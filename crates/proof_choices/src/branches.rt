@@ -1,11 +1,9 @@
 //! What is known of an answer's key before the row of a node is chosen.
 ghost use Rattle.std.specs.Prelude.{◌≡◌, ◌≤◌, ◌<◌, ℕ, [], length, map, option_map, slice_index, slice_index_or};
 ghost use Rattle.std.specs.Prelude.{MatchOption};
-ghost use Rattle.join_tree.specs.Rerooting.{IsTree};
 ghost use Rattle.tdp_core.specs.RawView.{raw_len};
-ghost use Rattle.proof_answers.specs.Lows.{IsBoundedTree};
 ghost use Rattle.proof_bounds.specs.BoundedRows.{bound_ranks, named_bound};
-ghost use Rattle.proof_choices.specs.Levels.{IsBase, IsBranch, IsGroupOf, IsNoBranch, base_part};
+ghost use Rattle.proof_choices.specs.Levels.{IsBase, IsBranch, IsGroupOf, IsNoBranch, IsReady, base_part};
 
 use join_tree::JoinTree;
 use proof_answers::named_rank;
@@ -32,10 +30,7 @@ pub(crate) fn branch_of<R: Rank, L: Ledger>(
     start: &[u32; 16],
     steps: &mut Steps<L>,
 ) -> Option<Branch<R>>
-    requires ordered { IsTree join.now.count join.now.atom join.now.parent }
-    requires bounded { IsBoundedTree join.now R.KEYS R.key tree.now }
-    requires node { node < join.now.count }
-    requires long { length join.now.atom ≡ 16 }
+    requires ready { IsReady join.now tree.now R.KEYS R.key node }
     requires rows { (q : ℕ) → q < node → slice_index start.now q < raw_len tree.now.raw q }
     ensures { MatchOption result (IsNoBranch join.now tree.now R.KEYS R.key node start.now)
         (IsBranch join.now tree.now R.KEYS R.key node start.now) }
@@ -52,9 +47,7 @@ fn group_of<R: Rank>(
     node: u32,
     start: &[u32; 16],
 ) -> Option<u32>
-    requires ordered { IsTree join.now.count join.now.atom join.now.parent }
-    requires bounded { IsBoundedTree join.now R.KEYS R.key tree.now }
-    requires node { node < join.now.count }
+    requires ready { IsReady join.now tree.now R.KEYS R.key node }
     requires rows { (q : ℕ) → q < node → slice_index start.now q < raw_len tree.now.raw q }
     ensures { MatchOption result ((g : ℕ) → g < length (bound_ranks tree.now node)
         → IsGroupOf join.now tree.now R.KEYS R.key node start.now g → ⊥)
@@ -99,10 +92,7 @@ fn base_of<R: Rank, L: Ledger>(
     start: &[u32; 16],
     steps: &mut Steps<L>,
 ) -> Option<R>
-    requires ordered { IsTree join.now.count join.now.atom join.now.parent }
-    requires bounded { IsBoundedTree join.now R.KEYS R.key tree.now }
-    requires node { node < join.now.count }
-    requires long { length join.now.atom ≡ 16 }
+    requires ready { IsReady join.now tree.now R.KEYS R.key node }
     requires rows { (q : ℕ) → q < node → slice_index start.now q < raw_len tree.now.raw q }
     ensures { IsBase join.now tree.now R.KEYS R.key node start.now (option_map R.key result) }
 {
@@ -122,9 +112,7 @@ fn base_part<R: Rank>(
     start: &[u32; 16],
     at: u32,
 ) -> Option<R>
-    requires ordered { IsTree join.now.count join.now.atom join.now.parent }
-    requires bounded { IsBoundedTree join.now R.KEYS R.key tree.now }
-    requires node { node < join.now.count }
+    requires ready { IsReady join.now tree.now R.KEYS R.key node }
     requires at { at < join.now.count }
     requires rows { (q : ℕ) → q < node → slice_index start.now q < raw_len tree.now.raw q }
     ensures { option_map R.key result ≡ base_part join.now tree.now R.KEYS R.key node start.now at }

@@ -5,11 +5,11 @@ ghost use Rattle.query_shape.specs.JoinTreeView.{HasItems, HasStoredTree};
 ghost use Rattle.join_tree.specs.Rerooting.{IsTree};
 ghost use Rattle.proof_text.specs.ProofView.{proof_view};
 ghost use Rattle.proof_bounds.specs.BoundedRows.{IsBounded};
-ghost use Rattle.tdp_core.specs.RawView.{IsRawFormed, raw_len};
+ghost use Rattle.tdp_core.specs.RawView.{raw_len};
 ghost use Rattle.proof_answers.specs.Lows.{IsBoundedTree};
 ghost use Rattle.proof_answers.specs.RowPlaces.{ArePlaced, IsLastKey, place_at};
 ghost use Rattle.proof_choices.specs.Choices.{ArePassed, TellsMissed};
-ghost use Rattle.proof_choices.specs.Levels.{ArePrefixes, IsMissedAt, IsPassedAt};
+ghost use Rattle.proof_choices.specs.Levels.{ArePrefixes, IsMissedAt, IsPassedAt, IsReady};
 
 use crate::leaving::leaves_after;
 use crate::prefixes::Prefixes;
@@ -110,11 +110,7 @@ fn node_leaves_after<R: Rank, L: Ledger>(
     prefixes: &mut Prefixes,
     steps: &mut Steps<L>,
 ) -> Result<bool, NoMemory>
-    requires ordered { IsTree join.now.count join.now.atom join.now.parent }
-    requires bounded { IsBoundedTree join.now R.KEYS R.key tree.now }
-    requires formed { IsRawFormed R.KEYS R.key tree.now.raw }
-    requires long { length join.now.atom ≡ 16 }
-    requires node { node < join.now.count }
+    requires ready { IsReady join.now tree.now R.KEYS R.key node }
     requires within { (i q : ℕ) → i < length places.now → q < join.now.count
         → place_at places.now i q < raw_len tree.now.raw q }
     requires prefixes { ArePrefixes node places.now prefixes.old.numbers.items

@@ -1,17 +1,13 @@
 //! The ways to leave the answers at one node.
-ghost use Rattle.std.specs.Prelude.{◌≡◌, ◌≢◌, ◌⊎◌, ◌≤◌, ◌<◌, ◌+◌, ℕ, List, [], Option, None, Some, true, false};
+ghost use Rattle.std.specs.Prelude.{◌≡◌, ◌≤◌, ◌<◌, ℕ, List, [], Option, None, Some, true, false};
 ghost use Rattle.tdp_model.specs.NodeRows.{most_node_rows};
 ghost use Rattle.std.specs.Prelude.{IfOk, OnOk, length, map, option_map, unwrap_or};
 ghost use Rattle.std.specs.Prelude.{slice_index, slice_index_or, slice_set, vec_len};
-ghost use Rattle.join_tree.specs.Rerooting.{IsTree};
-ghost use Rattle.rank_key.specs.Keys.{KeyFits};
-ghost use Rattle.tdp_model.specs.KeyTuple.{KeyOf, key_add, key_below};
-ghost use Rattle.tdp_model.specs.Remains.{AtMost};
-ghost use Rattle.tdp_core.specs.RawView.{IsRawFormed, raw_len};
-ghost use Rattle.proof_answers.specs.Lows.{IsBoundedTree};
+ghost use Rattle.tdp_model.specs.KeyTuple.{KeyOf};
+ghost use Rattle.tdp_core.specs.RawView.{raw_len};
 ghost use Rattle.proof_bounds.specs.BoundedRows.{bound_ranks};
-ghost use Rattle.proof_choices.specs.Levels.{AreBranches, AreGroups, AreLeast, AreLists, AreOffers, HasLow};
-ghost use Rattle.proof_choices.specs.Levels.{IsLeftAfter, IsLeftBefore, IsLesser, IsPast, IsTestable, IsWay};
+ghost use Rattle.proof_choices.specs.Levels.{AreBranches, AreGroups, AreLeast, AreLists, CanLeave, FitsGroup, FitOffers};
+ghost use Rattle.proof_choices.specs.Levels.{IsFirstEarly, IsFirstPast, IsLesser, IsListed, IsPast, IsReady, IsWay};
 ghost use Rattle.proof_choices.specs.Levels.{list_at, own_bounds};
 
 use crate::branches::{Branch, bound_count, branch_of};
@@ -38,11 +34,7 @@ pub(crate) fn leaves_after<R: Rank, L: Ledger>(
     last: &Option<R>,
     steps: &mut Steps<L>,
 ) -> Result<bool, NoMemory>
-    requires ordered { IsTree join.now.count join.now.atom join.now.parent }
-    requires bounded { IsBoundedTree join.now R.KEYS R.key tree.now }
-    requires formed { IsRawFormed R.KEYS R.key tree.now.raw }
-    requires long { length join.now.atom ≡ 16 }
-    requires node { node < join.now.count }
+    requires ready { IsReady join.now tree.now R.KEYS R.key node }
     requires rows { (n q : ℕ) → n < length starts.now → q < node
         → slice_index (list_at starts.now n) q < raw_len tree.now.raw q }
     ensures passed { IfOk result (λ good. good ≡ true → (n i : ℕ) (k : KeyOf R.KEYS 16)
@@ -52,241 +44,120 @@ pub(crate) fn leaves_after<R: Rank, L: Ledger>(
         × IsWay join.now tree.now R.KEYS R.key node starts.now taken.now n i k
         × (IsPast R.KEYS (option_map R.key last.now) k → ⊥)))) }
 {
-    let count = bound_count(tree, node);
-    let own = own_numbers(tree, node);
-    let groups = rows_by_bound(alloc, own, count)?;
     let branches = branches_of(alloc, join, tree, node, starts, steps)?;
-    let least = least_of(alloc, &branches, count, steps)?;
-    numbers_leave_after(
-        alloc, join, tree, node, &branches, taken, last, &groups, &least, steps,
-    )
+    let lists = lists_of(alloc, join, tree, node, &branches, last, steps)?;
+    Ok(branches_leave_after(&branches, &lists, taken, last, steps))
 }
 
-/// The same of all beginnings, given how each may be left.
-fn numbers_leave_after<R: Rank, L: Ledger>(
+/// For each group the offers that the least of what is known for its beginnings asks for.
+fn lists_of<R: Rank, L: Ledger>(
     alloc: Global,
     join: &JoinTree,
     tree: &BoundedTree<R>,
     node: u32,
     branches: &[Option<Branch<R>>],
-    taken: &TakenRows,
     last: &Option<R>,
-    groups: &Groups,
-    least: &[Option<R>],
     steps: &mut Steps<L>,
-) -> Result<bool, NoMemory>
-    requires ordered { IsTree join.now.count join.now.atom join.now.parent }
-    requires bounded { IsBoundedTree join.now R.KEYS R.key tree.now }
-    requires node { node < join.now.count }
-    requires long { length join.now.atom ≡ 16 }
-    requires groups { AreGroups (own_bounds tree.now node) (length least.now) groups.now }
+) -> Result<Vec<Vec<Offer<R>>>, NoMemory>
+    requires ready { IsReady join.now tree.now R.KEYS R.key node }
     requires branches { (n : ℕ) (b : Branch R) → n < length branches.now
         → slice_index_or branches.now n None ≡ Some b
-        → IsTestable join.now tree.now R.KEYS R.key node least.now b }
-    ensures passed { IfOk result
-        (λ good. good ≡ true → (n : ℕ) (b : Branch R) → n < length branches.now
+        → CanLeave join.now tree.now R.KEYS R.key node b }
+    ensures { IfOk result (λ lists. (n : ℕ) (b : Branch R) → n < length branches.now
         → slice_index_or branches.now n None ≡ Some b
-        → IsLeftAfter join.now tree.now R.KEYS R.key node taken.now n
-        (option_map R.key last.now) b) }
-    ensures missed { IfOk result
-        (λ good. good ≡ false → (n : ℕ) × ((b : Branch R) × (n < length branches.now)
-        × (slice_index_or branches.now n None ≡ Some b)
-        × IsLeftBefore join.now tree.now R.KEYS R.key node taken.now n
-        (option_map R.key last.now) b)) }
+        → IsListed join.now tree.now R.KEYS R.key node (option_map R.key last.now) b
+        (map (λ l. l.items) lists.items)) }
 {
-    let mut lists = no_lists(alloc, least.len())?;
-    each_leaves_after(
-        alloc, join, tree, node, branches, taken, last, groups, least, &mut lists, steps,
-    )
+    let count = bound_count(tree, node);
+    let groups = rows_by_bound(alloc, own_numbers(tree, node), count)?;
+    let least = least_of(alloc, branches, count, steps)?;
+    lists_by_group(alloc, join, tree, node, &groups, &least, last, steps)
 }
 
-/// The same of each beginning in turn, given the offers that are made so far.
-fn each_leaves_after<R: Rank, L: Ledger>(
+/// The same, given the rows of each group and the least that is known for it.
+fn lists_by_group<R: Rank, L: Ledger>(
     alloc: Global,
     join: &JoinTree,
     tree: &BoundedTree<R>,
     node: u32,
-    branches: &[Option<Branch<R>>],
-    taken: &TakenRows,
-    last: &Option<R>,
     groups: &Groups,
     least: &[Option<R>],
-    lists: &mut Vec<Vec<Offer<R>>>,
+    last: &Option<R>,
     steps: &mut Steps<L>,
-) -> Result<bool, NoMemory>
-    requires ordered { IsTree join.now.count join.now.atom join.now.parent }
-    requires bounded { IsBoundedTree join.now R.KEYS R.key tree.now }
-    requires node { node < join.now.count }
-    requires long { length join.now.atom ≡ 16 }
+) -> Result<Vec<Vec<Offer<R>>>, NoMemory>
+    requires ready { IsReady join.now tree.now R.KEYS R.key node }
     requires groups { AreGroups (own_bounds tree.now node) (length least.now) groups.now }
-    requires branches { (n : ℕ) (b : Branch R) → n < length branches.now
+    requires fits { (g : ℕ) (k : R) → slice_index_or least.now g None ≡ Some k
+        → FitsGroup join.now tree.now R.KEYS R.key node g (R.key k) }
+    ensures { IfOk result (λ lists. AreLists join.now tree.now R.KEYS R.key node
+        (option_map R.key last.now) groups.now least.now (length least.now)
+        (map (λ l. l.items) lists.items)) }
+{
+    let mut lists = Vec::new(alloc);
+    for group in 0..least.len() {
+        let rows = groups.group(group);
+        let offers = offers_of(alloc, join, tree, node, rows, least[group], last, steps)?;
+        lists.push(offers)?;
+    }
+    Ok(lists)
+}
+
+/// Whether each beginning that may be left is left after the last answer, given the offers of each
+/// group.
+fn branches_leave_after<R: Rank, L: Ledger>(
+    branches: &[Option<Branch<R>>],
+    lists: &[Vec<Offer<R>>],
+    taken: &TakenRows,
+    last: &Option<R>,
+    steps: &mut Steps<L>,
+) -> bool
+    requires { (n : ℕ) (b : Branch R) → n < length branches.now
         → slice_index_or branches.now n None ≡ Some b
-        → IsTestable join.now tree.now R.KEYS R.key node least.now b }
-    requires lists { AreLists join.now tree.now R.KEYS R.key node
-        (option_map R.key last.now) groups.now least.now
-        (map (λ l. l.items) lists.old.items) }
-    ensures passed { IfOk result
-        (λ good. good ≡ true → (n : ℕ) (b : Branch R) → n < length branches.now
+        → FitOffers R.KEYS R.key b (map (λ l. l.items) lists.now) }
+    ensures passed { result ≡ true → (n : ℕ) (b : Branch R) → n < length branches.now
         → slice_index_or branches.now n None ≡ Some b
-        → IsLeftAfter join.now tree.now R.KEYS R.key node taken.now n
-        (option_map R.key last.now) b) }
-    ensures missed { IfOk result
-        (λ good. good ≡ false → (n : ℕ) × ((b : Branch R) × (n < length branches.now)
+        → IsFirstPast R.KEYS R.key taken.now n (option_map R.key last.now) b
+        (map (λ l. l.items) lists.now) }
+    ensures missed { result ≡ false → (n : ℕ) × ((b : Branch R) × (n < length branches.now)
         × (slice_index_or branches.now n None ≡ Some b)
-        × IsLeftBefore join.now tree.now R.KEYS R.key node taken.now n
-        (option_map R.key last.now) b)) }
+        × IsFirstEarly R.KEYS R.key taken.now n (option_map R.key last.now) b
+        (map (λ l. l.items) lists.now)) }
 {
     for number in 0..branches.len() {
-        let branch = branches[number];
-        match number_leaves_after(
-            alloc, join, tree, node, number, branch, taken, last, groups, least, lists, steps,
-        ) {
-            Ok(true) => {}
-            Ok(false) => return Ok(false),
-            Err(error) => return Err(error),
+        if !branch_leaves_after(number, branches[number], lists, taken, last, steps) {
+            return false;
         }
     }
-    Ok(true)
+    true
 }
 
-/// The same of one beginning, given how it may be left.
-fn number_leaves_after<R: Rank, L: Ledger>(
-    alloc: Global,
-    join: &JoinTree,
-    tree: &BoundedTree<R>,
-    node: u32,
+/// The same of one beginning.
+fn branch_leaves_after<R: Rank, L: Ledger>(
     number: usize,
     branch: Option<Branch<R>>,
+    lists: &[Vec<Offer<R>>],
     taken: &TakenRows,
     last: &Option<R>,
-    groups: &Groups,
-    least: &[Option<R>],
-    lists: &mut Vec<Vec<Offer<R>>>,
     steps: &mut Steps<L>,
-) -> Result<bool, NoMemory>
-    requires ordered { IsTree join.now.count join.now.atom join.now.parent }
-    requires bounded { IsBoundedTree join.now R.KEYS R.key tree.now }
-    requires node { node < join.now.count }
-    requires long { length join.now.atom ≡ 16 }
-    requires groups { AreGroups (own_bounds tree.now node) (length least.now) groups.now }
-    requires branch { (b : Branch R) → branch ≡ Some b
-        → IsTestable join.now tree.now R.KEYS R.key node least.now b }
-    requires lists { AreLists join.now tree.now R.KEYS R.key node
-        (option_map R.key last.now) groups.now least.now
-        (map (λ l. l.items) lists.old.items) }
-    ensures lists { OnOk result
-        (AreLists join.now tree.now R.KEYS R.key node (option_map R.key last.now)
-        groups.now least.now (map (λ l. l.items) lists.new.items)) }
-    ensures passed { IfOk result (λ good. good ≡ true → (b : Branch R) → branch ≡ Some b
-        → IsLeftAfter join.now tree.now R.KEYS R.key node taken.now number
-        (option_map R.key last.now) b) }
-    ensures missed { IfOk result (λ good. good ≡ false → (b : Branch R) × (branch ≡ Some b)
-        × IsLeftBefore join.now tree.now R.KEYS R.key node taken.now number
-        (option_map R.key last.now) b) }
+) -> bool
+    requires { (b : Branch R) → branch ≡ Some b
+        → FitOffers R.KEYS R.key b (map (λ l. l.items) lists.now) }
+    ensures passed { result ≡ true → (b : Branch R) → branch ≡ Some b
+        → IsFirstPast R.KEYS R.key taken.now number (option_map R.key last.now) b
+        (map (λ l. l.items) lists.now) }
+    ensures missed { result ≡ false → (b : Branch R) × (branch ≡ Some b)
+        × IsFirstEarly R.KEYS R.key taken.now number (option_map R.key last.now) b
+        (map (λ l. l.items) lists.now) }
 {
-    match branch {
-        None => Ok(true),
-        Some(branch) => branch_leaves_after(
-            alloc, join, tree, node, number, branch, taken, last, groups, least, lists, steps,
-        ),
-    }
-}
-
-/// The same of a beginning that may be left. The offers of its group are added if they are not
-/// there.
-fn branch_leaves_after<R: Rank, L: Ledger>(
-    alloc: Global,
-    join: &JoinTree,
-    tree: &BoundedTree<R>,
-    node: u32,
-    number: usize,
-    branch: Branch<R>,
-    taken: &TakenRows,
-    last: &Option<R>,
-    groups: &Groups,
-    least: &[Option<R>],
-    lists: &mut Vec<Vec<Offer<R>>>,
-    steps: &mut Steps<L>,
-) -> Result<bool, NoMemory>
-    requires ordered { IsTree join.now.count join.now.atom join.now.parent }
-    requires bounded { IsBoundedTree join.now R.KEYS R.key tree.now }
-    requires node { node < join.now.count }
-    requires long { length join.now.atom ≡ 16 }
-    requires groups { AreGroups (own_bounds tree.now node) (length least.now) groups.now }
-    requires branch { IsTestable join.now tree.now R.KEYS R.key node least.now branch }
-    requires lists { AreLists join.now tree.now R.KEYS R.key node
-        (option_map R.key last.now) groups.now least.now
-        (map (λ l. l.items) lists.old.items) }
-    ensures lists { OnOk result
-        (AreLists join.now tree.now R.KEYS R.key node (option_map R.key last.now)
-        groups.now least.now (map (λ l. l.items) lists.new.items)) }
-    ensures passed { IfOk result (λ good. good ≡ true
-        → IsLeftAfter join.now tree.now R.KEYS R.key node taken.now number
-        (option_map R.key last.now) branch) }
-    ensures missed { IfOk result (λ good. good ≡ false
-        → IsLeftBefore join.now tree.now R.KEYS R.key node taken.now number
-        (option_map R.key last.now) branch) }
-{
-    let group = branch.group as usize;
-    let Some(known) = least[group] else {
-        return Ok(true);
+    let Some(branch) = branch else {
+        return true;
     };
-    fill(
-        alloc, join, tree, node, groups, group, known, last, lists, steps,
-    )?;
-    match first_open(&lists[group], taken, number) {
-        None => Ok(true),
-        Some(offer) => {
-            let rank = R::join(branch.base, offer.low, steps);
-            Ok(is_past(last, &rank, steps))
-        }
-    }
-}
-
-/// Makes the offers of a group if there are none. A group from which an answer chooses has one, so
-/// its rows are gone through once.
-fn fill<R: Rank, L: Ledger>(
-    alloc: Global,
-    join: &JoinTree,
-    tree: &BoundedTree<R>,
-    node: u32,
-    groups: &Groups,
-    group: usize,
-    known: R,
-    last: &Option<R>,
-    lists: &mut Vec<Vec<Offer<R>>>,
-    steps: &mut Steps<L>,
-) -> Result<(), NoMemory>
-    requires ordered { IsTree join.now.count join.now.atom join.now.parent }
-    requires bounded { IsBoundedTree join.now R.KEYS R.key tree.now }
-    requires node { node < join.now.count }
-    requires group { group < vec_len lists.old }
-    requires groups { group < length groups.now }
-    requires rows { (m : ℕ) → m < length (list_at groups.now group)
-        → slice_index (list_at groups.now group) m < raw_len tree.now.raw node }
-    requires fits { (m : ℕ) (low : KeyOf R.KEYS 16) → m < length (list_at groups.now group)
-        → HasLow join.now tree.now R.KEYS R.key node (slice_index (list_at groups.now group) m)
-        (Some low)
-        → KeyFits R.KEYS R.key (key_add R.KEYS 16 (R.key known) low) }
-    requires list { (slice_index_or (map (λ l. l.items) lists.old.items) group [] ≡ [])
-        ⊎ AreOffers join.now tree.now R.KEYS R.key node (list_at groups.now group) (R.key known)
-        (option_map R.key last.now)
-        (slice_index_or (map (λ l. l.items) lists.old.items) group []) }
-    ensures count { OnOk result (vec_len lists.new ≡ vec_len lists.old) }
-    ensures others { OnOk result
-        ((g : ℕ) → g ≢ group → slice_index_or (map (λ l. l.items) lists.new.items) g []
-        ≡ slice_index_or (map (λ l. l.items) lists.old.items) g []) }
-    ensures list { OnOk result
-        (AreOffers join.now tree.now R.KEYS R.key node (list_at groups.now group) (R.key
-        known) (option_map R.key last.now)
-        (slice_index_or (map (λ l. l.items) lists.new.items) group [])) }
-{
-    if lists[group].is_empty() {
-        let rows = groups.group(group);
-        let offers = offers_of(alloc, join, tree, node, rows, known, last, steps)?;
-        lists[group] = offers;
-    }
-    Ok(())
+    let offers = &lists[branch.group as usize];
+    let Some(offer) = first_open(offers, taken, number) else {
+        return true;
+    };
+    let rank = R::join(branch.base, offer.low, steps);
+    is_past(last, &rank, steps)
 }
 
 /// The numbers of the bounds of the rows' groups at a node.
@@ -335,10 +206,7 @@ fn branches_of<R: Rank, L: Ledger>(
     starts: &[[u32; 16]],
     steps: &mut Steps<L>,
 ) -> Result<Vec<Option<Branch<R>>>, NoMemory>
-    requires ordered { IsTree join.now.count join.now.atom join.now.parent }
-    requires bounded { IsBoundedTree join.now R.KEYS R.key tree.now }
-    requires node { node < join.now.count }
-    requires long { length join.now.atom ≡ 16 }
+    requires ready { IsReady join.now tree.now R.KEYS R.key node }
     requires rows { (n q : ℕ) → n < length starts.now → q < node
         → slice_index (list_at starts.now n) q < raw_len tree.now.raw q }
     ensures count { IfOk result (λ branches. vec_len branches ≡ length starts.now) }
@@ -415,18 +283,4 @@ fn lesser<R: Rank, L: Ledger>(known: Option<R>, base: R, steps: &mut Steps<L>) -
             }
         }
     }
-}
-
-/// No offers for this many groups.
-fn no_lists<R: Rank>(alloc: Global, count: usize) -> Result<Vec<Vec<Offer<R>>>, NoMemory>
-    ensures count { IfOk result (λ lists. length lists.items ≡ count) }
-    ensures empty { IfOk result
-        (λ lists. (g : ℕ) → slice_index_or (map (λ l. l.items) lists.items) g [] ≡ []) }
-{
-    let mut lists = Vec::new(alloc);
-    for _group in 0..count {
-        let list = Vec::new(alloc);
-        lists.push(list)?;
-    }
-    Ok(lists)
 }

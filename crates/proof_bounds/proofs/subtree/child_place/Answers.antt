@@ -2,6 +2,7 @@ use Rattle.std.proofs.Common.{◌≡◌, ◌≢◌, ◌+◌, ◌-◌, length, sy
 use Rattle.tdp_core.specs.RawView.{shape_parent}
 use Rattle.tdp_core.specs.TreeView.{kids_below}
 use Rattle.tdp_core.proofs.Children.{kids_below_first, kids_below_child, kids_below_other, kids_below_most, child_place_within}
+use Rattle.proof_bounds.proofs.Subtrees.{parents_first_lem}
 use Rattle.proof_bounds.proofs.subtree.child_place.Goals as goal
 use Rattle.proof_bounds.proofs.subtree.child_place.Goals.{then-shape-parent, else-shape-parent}
 
@@ -49,3 +50,7 @@ returns-clause-within g c =
     let less = child_place_within (shape_parent c.args.raw.now.shapes) c.args.node rest c.requires.below_root in
     let all = ap kids whole in
     omega (arith, here, less, all)
+
+pub returns-clause-above : goal.returns-clause-above
+returns-clause-above g c =
+    parents_first_lem c.args.raw.now c.nodes-nodes.ensures.formed.shaped c.args.node c.requires.below_root c.requires.node

@@ -45,7 +45,7 @@ pub join-base-requires : goal.join-base-requires
 join-base-requires g c =
     let d = g.R.Rank.KEYS in
     let key = g.R.Rank.key in
-    let b = c.requires.bounded in
+    let b = c.requires.ready.bounded in
     let join = c.args.join.now in
     let tree = c.args.tree.now in
     let at = c.loop-at.at in
@@ -54,9 +54,9 @@ join-base-requires g c =
     let base : ℕ → Option (KeyOf d 16) = base_part join tree d key c.args.node c.args.start.now in
     let here : Some (key c.in_ok-part.part) ≡ base at = c.in_ok-part.ensures in
     let is : key c.in_ok-part.part ≡ part at = ap (λ z. unwrap_or z (key_none d 16)) here in
-    let long = c.requires.long in
+    let long = c.requires.ready.long in
     let node : c.args.node < t.nodes =
-    omega (arith, all_nodes b.query b.tables join c.requires.ordered long, c.requires.node) in
+    omega (arith, all_nodes b.query b.tables join c.requires.ready.ordered long, c.requires.ready.node) in
     let l : at < t.nodes =
     omega (arith, c.loop-at-test.true, c.nodes-at-end.ensures.count, ap (λ z. length z.raw.shapes) c.tree.view_is, b.bounded.rows.nodes) in
     let formed : IsRawFormed d key tree.raw =
@@ -67,7 +67,7 @@ join-base-requires g c =
           let e : q ≡ at = omega (arith, h, far) in
           subst (λ z. base z ≡ Some (part z)) (sym e) (sym here ∙ ap Some is)
     ] in
-    let fits = sum_fits b.query b.tables join d key b.c tree b.few b.bounded c.requires.ordered long c.args.node node
+    let fits = sum_fits b.query b.tables join d key b.c tree b.few b.bounded c.requires.ready.ordered long c.args.node node
     c.args.start.now c.requires.rows part (suc at) (omega (arith, l)) parts formed in
     let whole : sum_from (key_add d 16) (key_none d 16) part (suc at) 0
     ≡ key_add d 16 (key c.loop-at.base) (key c.in_ok-part.part) =
@@ -79,17 +79,17 @@ join-base-requires g c =
 pub returns : goal.returns
 returns g c =
     let d = g.R.Rank.KEYS in
-    let b = c.requires.bounded in
+    let b = c.requires.ready.bounded in
     let join = c.args.join.now in
     let part : ℕ → KeyOf d 16 = part_key join c.args.tree.now d g.R.Rank.key c.args.node c.args.start.now in
-    let long = c.requires.long in
+    let long = c.requires.ready.long in
     let end = c.loop-at.auto.at-end in
     let done : c.loop-at.at ≡ join.count =
     omega (
       arith,
       end,
       c.loop-at-test.false,
-      all_nodes b.query b.tables join c.requires.ordered long,
+      all_nodes b.query b.tables join c.requires.ready.ordered long,
       c.nodes-at-end.ensures.count,
       ap (λ z. length z.raw.shapes) c.tree.view_is,
       b.bounded.rows.nodes,
@@ -102,13 +102,13 @@ returns g c =
 pub returns-in_err-part : goal.returns-in_err-part
 returns-in_err-part g c =
     let d = g.R.Rank.KEYS in
-    let b = c.requires.bounded in
+    let b = c.requires.ready.bounded in
     let join = c.args.join.now in
-    let long = c.requires.long in
+    let long = c.requires.ready.long in
     let l : c.loop-at.at < join.count =
     omega (
       arith,
-      all_nodes b.query b.tables join c.requires.ordered long,
+      all_nodes b.query b.tables join c.requires.ready.ordered long,
       c.loop-at-test.true,
       c.nodes-at-end.ensures.count,
       ap (λ z. length z.raw.shapes) c.tree.view_is,
@@ -117,21 +117,15 @@ returns-in_err-part g c =
     subst (λ r. IsBase join c.args.tree.now d g.R.Rank.key c.args.node c.args.start.now (option_map g.R.Rank.key r))
     (sym c.from_residual.ensures) (c.loop-at.at, l, sym c.in_err-part.ensures)
 
-pub base_part-requires-clause-ordered : goal.base_part-requires-clause-ordered
-base_part-requires-clause-ordered g c = c.requires.ordered
-
-pub base_part-requires-clause-bounded : goal.base_part-requires-clause-bounded
-base_part-requires-clause-bounded g c = c.requires.bounded
-
-pub base_part-requires-clause-node : goal.base_part-requires-clause-node
-base_part-requires-clause-node g c = c.requires.node
+pub base_part-requires-clause-ready : goal.base_part-requires-clause-ready
+base_part-requires-clause-ready g c = c.requires.ready
 
 pub base_part-requires-clause-at : goal.base_part-requires-clause-at
 base_part-requires-clause-at g c =
-    let b = c.requires.bounded in
+    let b = c.requires.ready.bounded in
     omega (
       arith,
-      all_nodes b.query b.tables c.args.join.now c.requires.ordered c.requires.long,
+      all_nodes b.query b.tables c.args.join.now c.requires.ready.ordered c.requires.ready.long,
       c.loop-at-test.true,
       c.nodes-at-end.ensures.count,
       ap (λ z. length z.raw.shapes) c.tree.view_is,

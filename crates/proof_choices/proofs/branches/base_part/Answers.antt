@@ -11,7 +11,7 @@ named_rank-requires-clause-above g c =
     let up = slice_index c.args.join.now.parent c.args.at in
     let x = c.if-at-node-2.false in
     let y = c.if-at-node.false in
-    (named_row c.args.join.now c.args.tree.now g.R.Rank.KEYS g.R.Rank.key c.requires.bounded c.requires.ordered (omega arith)
+    (named_row c.args.join.now c.args.tree.now g.R.Rank.KEYS g.R.Rank.key c.requires.ready.bounded c.requires.ready.ordered (omega arith)
     c.args.at c.requires.at (omega (arith, x, y)) (slice_index c.args.start.now up) (c.requires.rows up c.if-above-node.false)).0
 
 pub named_rank-requires-clause-each : goal.named_rank-requires-clause-each
@@ -19,11 +19,11 @@ named_rank-requires-clause-each g c =
     let up = slice_index c.args.join.now.parent c.args.at in
     let x = c.if-at-node-2.false in
     let y = c.if-at-node.false in
-    (named_row c.args.join.now c.args.tree.now g.R.Rank.KEYS g.R.Rank.key c.requires.bounded c.requires.ordered (omega arith)
+    (named_row c.args.join.now c.args.tree.now g.R.Rank.KEYS g.R.Rank.key c.requires.ready.bounded c.requires.ready.ordered (omega arith)
     c.args.at c.requires.at (omega (arith, x, y)) (slice_index c.args.start.now up) (c.requires.rows up c.if-above-node.false)).1
 
 pub bounds-start-at : goal.bounds-start-at
-bounds-start-at g c = let few = c.requires.ordered.few in let l = c.requires.at in omega (arith, few, l)
+bounds-start-at g c = let few = c.requires.ready.ordered.few in let l = c.requires.at in omega (arith, few, l)
 
 pub row-requires-clause-row : goal.row-requires-clause-row
 row-requires-clause-row g c =
@@ -31,24 +31,24 @@ row-requires-clause-row g c =
 
 pub row-requires-clause-node : goal.row-requires-clause-node
 row-requires-clause-node g c =
-    let b = c.requires.bounded in
+    let b = c.requires.ready.bounded in
     let join = c.args.join.now in
     let long : length join.atom ≡ 16 = omega arith in
-    omega (arith, all_nodes b.query b.tables join c.requires.ordered long, c.requires.at, ap (λ z. length z.raw.shapes) c.tree.view_is, b.bounded.rows.nodes)
+    omega (arith, all_nodes b.query b.tables join c.requires.ready.ordered long, c.requires.at, ap (λ z. length z.raw.shapes) c.tree.view_is, b.bounded.rows.nodes)
 
 pub bounds-start-above : goal.bounds-start-above
 bounds-start-above g c =
-    let few = c.requires.ordered.few in
-    let l = c.requires.node in
+    let few = c.requires.ready.ordered.few in
+    let l = c.requires.ready.node in
     omega (arith, few, l)
 
 pub named_rank-requires-clause-node : goal.named_rank-requires-clause-node
 named_rank-requires-clause-node g c =
-    let b = c.requires.bounded in
+    let b = c.requires.ready.bounded in
     let join = c.args.join.now in
     let long : length join.atom ≡ 16 = omega arith in
     let e = b.bounded.each_node in
-    omega (arith, all_nodes b.query b.tables join c.requires.ordered long, c.requires.at, e)
+    omega (arith, all_nodes b.query b.tables join c.requires.ready.ordered long, c.requires.at, e)
 
 pub returns-then-at-node : goal.returns-then-at-node
 returns-then-at-node g c =
@@ -75,4 +75,4 @@ returns g c =
     c.if-at-node.false c.if-at-node-2.false c.if-above-node.false)
 
 pub bounds-join-at : goal.bounds-join-at
-bounds-join-at g c = let few = c.requires.ordered.few in let l = c.requires.at in omega (arith, few, l)
+bounds-join-at g c = let few = c.requires.ready.ordered.few in let l = c.requires.at in omega (arith, few, l)

@@ -8,29 +8,14 @@ returns g c = record {
   base = c.in_ok-base.ensures;
 }
 
-pub group_of-requires-clause-ordered : goal.group_of-requires-clause-ordered
-group_of-requires-clause-ordered g c = c.requires.ordered
-
-pub group_of-requires-clause-bounded : goal.group_of-requires-clause-bounded
-group_of-requires-clause-bounded g c = c.requires.bounded
-
-pub group_of-requires-clause-node : goal.group_of-requires-clause-node
-group_of-requires-clause-node g c = c.requires.node
+pub group_of-requires-clause-ready : goal.group_of-requires-clause-ready
+group_of-requires-clause-ready g c = c.requires.ready
 
 pub group_of-requires-clause-rows : goal.group_of-requires-clause-rows
 group_of-requires-clause-rows g c = c.requires.rows
 
-pub base_of-requires-clause-ordered : goal.base_of-requires-clause-ordered
-base_of-requires-clause-ordered g c = c.requires.ordered
-
-pub base_of-requires-clause-bounded : goal.base_of-requires-clause-bounded
-base_of-requires-clause-bounded g c = c.requires.bounded
-
-pub base_of-requires-clause-node : goal.base_of-requires-clause-node
-base_of-requires-clause-node g c = c.requires.node
-
-pub base_of-requires-clause-long : goal.base_of-requires-clause-long
-base_of-requires-clause-long g c = c.requires.long
+pub base_of-requires-clause-ready : goal.base_of-requires-clause-ready
+base_of-requires-clause-ready g c = c.requires.ready
 
 pub base_of-requires-clause-rows : goal.base_of-requires-clause-rows
 base_of-requires-clause-rows g c = c.requires.rows

@@ -11,17 +11,17 @@ use Rattle.proof_choices.proofs.branches.group_of.Goals as goal
 
 pub named_number-requires : goal.named_number-requires
 named_number-requires g c =
-    let b = c.requires.bounded in
+    let b = c.requires.ready.bounded in
     let join = c.args.join.now in
     let q = c.args.node in
     let t = problem_in b.query b.tables join in
     let long : length join.atom ≡ 16 = omega arith in
-    let l : q < t.nodes = omega (arith, all_nodes b.query b.tables join c.requires.ordered long, c.requires.node) in
+    let l : q < t.nodes = omega (arith, all_nodes b.query b.tables join c.requires.ready.ordered long, c.requires.ready.node) in
     let some : 0 < q = let x = c.if-node-eq0.false in omega (arith, x) in
-    let up = parent_at b.query b.tables join c.requires.ordered long q l in
+    let up = parent_at b.query b.tables join c.requires.ready.ordered long q l in
     let row : slice_index c.args.start.now (slice_index join.parent q) < raw_len c.args.tree.now.raw (t.parent q) =
     subst (λ u. slice_index c.args.start.now (slice_index join.parent q) < raw_len c.args.tree.now.raw u) (sym up)
-    (c.requires.rows (slice_index join.parent q) (c.requires.ordered.earlier q some c.requires.node)) in
+    (c.requires.rows (slice_index join.parent q) (c.requires.ready.ordered.earlier q some c.requires.ready.node)) in
     record {
       node = let e = b.bounded.each_node in omega (arith, e, l);
       above = let e = b.bounded.named_length q some l in
@@ -30,19 +30,19 @@ named_number-requires g c =
 
 pub returns : goal.returns
 returns g c =
-    let b = c.requires.bounded in
+    let b = c.requires.ready.bounded in
     let join = c.args.join.now in
     let tree = c.args.tree.now in
     let q = c.args.node in
     let t = problem_in b.query b.tables join in
     let long : length join.atom ≡ 16 = omega arith in
-    let l : q < t.nodes = omega (arith, all_nodes b.query b.tables join c.requires.ordered long, c.requires.node) in
+    let l : q < t.nodes = omega (arith, all_nodes b.query b.tables join c.requires.ready.ordered long, c.requires.ready.node) in
     let some : 0 < q = let x = c.if-node-eq0.false in omega (arith, x) in
-    let up = parent_at b.query b.tables join c.requires.ordered long q l in
+    let up = parent_at b.query b.tables join c.requires.ready.ordered long q l in
     let above : ℕ = slice_index c.args.start.now (slice_index join.parent q) in
     let row : above < raw_len tree.raw (t.parent q) =
     subst (λ u. above < raw_len tree.raw u) (sym up)
-    (c.requires.rows (slice_index join.parent q) (c.requires.ordered.earlier q some c.requires.node)) in
+    (c.requires.rows (slice_index join.parent q) (c.requires.ready.ordered.earlier q some c.requires.ready.node)) in
     subst (λ o. MatchOption o
     ((h : ℕ) → h < length (bound_ranks tree q) → IsGroupOf join tree g.R.Rank.KEYS g.R.Rank.key q c.args.start.now h → ⊥)
     (λ h. (h < length (bound_ranks tree q)) × IsGroupOf join tree g.R.Rank.KEYS g.R.Rank.key q c.args.start.now h))
@@ -69,11 +69,11 @@ returns g c =
 
 pub bound_count-requires : goal.bound_count-requires
 bound_count-requires g c =
-    let b = c.requires.bounded in
+    let b = c.requires.ready.bounded in
     let join = c.args.join.now in
     let long : length join.atom ≡ 16 = omega arith in
-    let nodes = all_nodes b.query b.tables join c.requires.ordered long in
-    let inside = c.requires.node in
+    let nodes = all_nodes b.query b.tables join c.requires.ready.ordered long in
+    let inside = c.requires.ready.node in
     let e = b.bounded.each_node in
     omega (arith, e, nodes, inside)
 

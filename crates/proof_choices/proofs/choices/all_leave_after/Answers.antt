@@ -6,32 +6,25 @@ use Rattle.proof_choices.specs.Levels.{IsPassedAt}
 use Rattle.std.proofs.lemmas.Result.{IfOk-from_err}
 use Rattle.proof_choices.proofs.choices.all_leave_after.Goals as goal
 
-pub node_leaves_after-requires-clause-ordered : goal.node_leaves_after-requires-clause-ordered
-node_leaves_after-requires-clause-ordered g c = c.requires.ordered
-
-pub node_leaves_after-requires-clause-bounded : goal.node_leaves_after-requires-clause-bounded
-node_leaves_after-requires-clause-bounded g c = c.requires.bounded
-
-pub node_leaves_after-requires-clause-formed : goal.node_leaves_after-requires-clause-formed
-node_leaves_after-requires-clause-formed g c =
-    subst (λ z. IsRawFormed g.R.Rank.KEYS g.R.Rank.key z.raw) c.tree.view_is c.nodes-node-end.ensures.formed
-
-pub node_leaves_after-requires-clause-long : goal.node_leaves_after-requires-clause-long
-node_leaves_after-requires-clause-long g c = omega arith
-
-pub node_leaves_after-requires-clause-node : goal.node_leaves_after-requires-clause-node
-node_leaves_after-requires-clause-node g c =
+pub node_leaves_after-requires-clause-ready : goal.node_leaves_after-requires-clause-ready
+node_leaves_after-requires-clause-ready g c =
     let b = c.requires.bounded in
     let join = c.args.join in
     let long : length join.atom ≡ 16 = omega arith in
-    omega (
-      arith,
-      c.loop-node-test.true,
-      c.nodes-node-end.ensures.count,
-      ap (λ z. length z.raw.shapes) c.tree.view_is,
-      b.bounded.rows.nodes,
-      all_nodes b.query b.tables join c.requires.ordered long,
-    )
+    record {
+      ordered = c.requires.ordered;
+      bounded = b;
+      formed = subst (λ z. IsRawFormed g.R.Rank.KEYS g.R.Rank.key z.raw) c.tree.view_is c.nodes-node-end.ensures.formed;
+      long = long;
+      node = omega (
+        arith,
+        c.loop-node-test.true,
+        c.nodes-node-end.ensures.count,
+        ap (λ z. length z.raw.shapes) c.tree.view_is,
+        b.bounded.rows.nodes,
+        all_nodes b.query b.tables join c.requires.ordered long,
+      );
+    }
 
 pub node_leaves_after-requires-clause-within : goal.node_leaves_after-requires-clause-within
 node_leaves_after-requires-clause-within g c = c.requires.within

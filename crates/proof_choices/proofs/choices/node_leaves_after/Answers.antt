@@ -9,17 +9,8 @@ use Rattle.proof_choices.proofs.choices.node_leaves_after.Goals as goal
 pub with_node-requires-clause-prefixes : goal.with_node-requires-clause-prefixes
 with_node-requires-clause-prefixes g c = c.requires.prefixes
 
-pub leaves_after-good-requires-clause-ordered : goal.leaves_after-good-requires-clause-ordered
-leaves_after-good-requires-clause-ordered g c = c.requires.ordered
-
-pub leaves_after-good-requires-clause-bounded : goal.leaves_after-good-requires-clause-bounded
-leaves_after-good-requires-clause-bounded g c = c.requires.bounded
-
-pub leaves_after-good-requires-clause-long : goal.leaves_after-good-requires-clause-long
-leaves_after-good-requires-clause-long g c = c.requires.long
-
-pub leaves_after-good-requires-clause-node : goal.leaves_after-good-requires-clause-node
-leaves_after-good-requires-clause-node g c = c.requires.node
+pub leaves_after-good-requires-clause-ready : goal.leaves_after-good-requires-clause-ready
+leaves_after-good-requires-clause-ready g c = c.requires.ready
 
 pub leaves_after-good-requires-clause-rows : goal.leaves_after-good-requires-clause-rows
 leaves_after-good-requires-clause-rows g c n q l h =
@@ -27,7 +18,7 @@ leaves_after-good-requires-clause-rows g c n q l h =
     let value = c.deref.ensures.value in
     subst (λ xs. slice_index (list_at xs n) q < raw_len c.args.tree.now.raw q) (sym value)
     (start_rows (raw_len c.args.tree.now.raw) c.args.join.now.count c.args.node c.args.places.now before.numbers.items
-    before.starts.items c.requires.node c.requires.within c.requires.prefixes n q (subst (λ xs. n < length xs) value l) h)
+    before.starts.items c.requires.ready.node c.requires.within c.requires.prefixes n q (subst (λ xs. n < length xs) value l) h)
 
 pub returns-clause-prefixes : goal.returns-clause-prefixes
 returns-clause-prefixes g c =
@@ -56,7 +47,7 @@ returns-clause-missed g c =
     let m = before is in
     record {
       at = c.args.node;
-      node = c.requires.node;
+      node = c.requires.ready.node;
       numbers = c.args.prefixes.now.numbers.items;
       starts = c.args.prefixes.now.starts.items;
       pairs = pairs;
@@ -77,6 +68,3 @@ returns-in_err-next-clause-passed g c = IfOk-from_err c.from_residual.result _ c
 
 pub returns-in_err-next-clause-missed : goal.returns-in_err-next-clause-missed
 returns-in_err-next-clause-missed g c = IfOk-from_err c.from_residual.result _ c.from_residual.ensures.0
-
-pub leaves_after-good-requires-clause-formed : goal.leaves_after-good-requires-clause-formed
-leaves_after-good-requires-clause-formed g c = c.requires.formed

@@ -36,17 +36,8 @@ loop-n-preserved g c =
       each = subst (λ xs. (m : ℕ) → m < length xs → Is m (get_or xs m None)) (sym c.in_ok-push.ensures.items) both;
     }
 
-pub branch_of-branch-requires-clause-ordered : goal.branch_of-branch-requires-clause-ordered
-branch_of-branch-requires-clause-ordered g c = c.requires.ordered
-
-pub branch_of-branch-requires-clause-bounded : goal.branch_of-branch-requires-clause-bounded
-branch_of-branch-requires-clause-bounded g c = c.requires.bounded
-
-pub branch_of-branch-requires-clause-node : goal.branch_of-branch-requires-clause-node
-branch_of-branch-requires-clause-node g c = c.requires.node
-
-pub branch_of-branch-requires-clause-long : goal.branch_of-branch-requires-clause-long
-branch_of-branch-requires-clause-long g c = c.requires.long
+pub branch_of-branch-requires-clause-ready : goal.branch_of-branch-requires-clause-ready
+branch_of-branch-requires-clause-ready g c = c.requires.ready
 
 pub returns-in_err-push-clause-count : goal.returns-in_err-push-clause-count
 returns-in_err-push-clause-count g c = IfOk-from_err c.from_residual.result _ c.from_residual.ensures.0
