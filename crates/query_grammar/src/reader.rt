@@ -142,7 +142,7 @@ trait Listed: Part {
             (next_at (lexemes tokens.now)) };
 }
 
-/// Reads a thing behind a token of this kind, if the first token is one.
+/// Reads a thing after a token of this kind, if the first token is one.
 #[tactic(auto, using(crate::proofs::Handed::found_gives))]
 fn behind<'a, 't, T: Part>(
     alloc: Global,
@@ -421,7 +421,7 @@ fn side<'a, 't>(
     Ok((Side::Column(column), rest))
 }
 
-/// The equality of a left side and the right side behind it. One of the two is a column.
+/// The equality of a left side and the right side after it. One of the two is a column.
 fn with_left<'a, 't>(
     alloc: Global,
     left: Side,
