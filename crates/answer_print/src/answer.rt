@@ -158,6 +158,7 @@ pub fn push_sums(
 }
 
 /// Writes the sums of the order keys, as `push_sums` does, of which the first may be known.
+#[inline(always)]
 fn push_each_sum(
     records: &mut RecordWriter,
     query: &Query,
