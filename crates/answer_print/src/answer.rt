@@ -184,6 +184,7 @@ fn push_each_sum(
 }
 
 /// The sum of an order key, as `key_sum` returns it. `first` is that of the first key, if it is known.
+#[inline(always)]
 fn sum_at(query: &Query, tables: &Tables, rows: &[u32; 16], first: Option<i128>, key: u32) -> i128
     requires fits { Fits query.now tables.now }
     requires rows { IsCombination (row_counts query.now.query.items tables.now)
