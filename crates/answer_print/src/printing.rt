@@ -13,20 +13,20 @@ use crate::titles::write_header;
 use bound_query::Query;
 use csv_tables::RecordWriter;
 use outer_io::Sink;
-use refusal_lines::{Refusal, print};
+use refusal_lines::{PrintFault, print};
 use std::alloc::Global;
 use table_store::Tables;
 
 /// Prints the header. `records` keeps the memory for it. `WriteFault` if the write failed, and
 /// `NoMemory` if memory is refused.
-pub fn print_header<'a, S: Sink>(
+pub fn print_header<S: Sink>(
     alloc: Global,
     records: &mut RecordWriter,
     query: &Query,
     tables: &Tables,
     style: &Style<'_>,
     out: &mut S,
-) -> Result<(), Refusal<'a>>
+) -> Result<(), PrintFault>
     requires fits { Fits query.now tables.now }
     ensures { Printed (state_of S.Sink out.old) (state_of S.Sink out.new)
         (header_text query.now.query tables.now (style_view style.now)) result }
@@ -37,14 +37,14 @@ pub fn print_header<'a, S: Sink>(
 
 /// Prints the record of the answer with these rows, one for each item, counted from 1. `records`
 /// keeps the memory for it. `WriteFault` if the write failed, and `NoMemory` if memory is refused.
-pub fn print_answer<'a, S: Sink>(
+pub fn print_answer<S: Sink>(
     records: &mut RecordWriter,
     query: &Query,
     tables: &Tables,
     style: &Style<'_>,
     rows: &[u32; 16],
     out: &mut S,
-) -> Result<(), Refusal<'a>>
+) -> Result<(), PrintFault>
     requires fits { Fits query.now tables.now }
     requires rows { IsCombination (row_counts query.now.query.items tables.now)
         (take (length query.now.query.items) rows.now) }

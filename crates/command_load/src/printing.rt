@@ -12,7 +12,7 @@ use crate::ends::take_ends;
 use crate::text::summary;
 use bound_query::Query;
 use outer_io::Sink;
-use refusal_lines::{Refusal, print};
+use refusal_lines::{PrintFault, print};
 use std::alloc::Global;
 use std::sync::ledger::Ledger;
 use step_counter::Steps;
@@ -21,14 +21,14 @@ use tdp_core::Ranked;
 
 /// Takes the answers that the engine has left, as many as the limit allows, and then prints their
 /// summary. `NoMemory` if memory is refused, and `WriteFault` if the write failed.
-pub fn print_summary<'a, E: Ranked, S: Sink, L: Ledger>(
+pub fn print_summary<E: Ranked, S: Sink, L: Ledger>(
     alloc: Global,
     query: &Query,
     tables: &Tables,
     engine: &mut E,
     out: &mut S,
     steps: &mut Steps<L>,
-) -> Result<(), Refusal<'a>>
+) -> Result<(), PrintFault>
     requires fits { Fits query.now tables.now }
     requires rows { AreCombinations query.now.query tables.now (E.rest engine.old) }
     ensures printed { Printed (state_of S.Sink out.old) (state_of S.Sink out.new)

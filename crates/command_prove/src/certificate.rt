@@ -15,7 +15,7 @@ use outer_io::Sink;
 use plan_build::Plan;
 use plan_engine::engine_over;
 use rank_key::Rank;
-use refusal_lines::Refusal;
+use refusal_lines::PrintFault;
 use std::alloc::Global;
 use std::sync::ledger::Ledger;
 use step_counter::Steps;
@@ -23,14 +23,14 @@ use step_counter::Steps;
 /// Prints the text of a certificate of the query's first answers, as many as the limit allows.
 /// `NoMemory` if memory is refused, before anything is written, and `WriteFault` if the write
 /// failed.
-pub fn print_certificate<'a, R: Rank, S: Sink, L: Ledger>(
+pub fn print_certificate<R: Rank, S: Sink, L: Ledger>(
     alloc: Global,
     engine: Engine,
     plan: &Plan<R>,
     query: &Query,
     out: &mut S,
     steps: &mut Steps<L>,
-) -> Result<(), Refusal<'a>>
+) -> Result<(), PrintFault>
     requires plan { (tables : List Table) × Fits query.now tables
         × IsPlan R.KEYS R.key query.now tables plan.now }
     ensures printed { (tables : List Table) → Fits query.now tables

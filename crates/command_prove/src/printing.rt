@@ -14,7 +14,7 @@ use bound_query::Query;
 use outer_io::Sink;
 use proof_write::prove;
 use rank_key::Rank;
-use refusal_lines::{Refusal, print};
+use refusal_lines::{PrintFault, print};
 use std::alloc::Global;
 use std::sync::ledger::Ledger;
 use step_counter::Steps;
@@ -24,14 +24,14 @@ use tdp_core::{Ranked, Tree};
 /// one write. The tree is that of a plan of the query, and the engine has all answers left.
 /// `NoMemory` if memory is refused, before anything is written, and `WriteFault` if the write
 /// failed.
-pub fn print_proof<'a, R: Rank, E: Ranked<Key = R>, S: Sink, L: Ledger>(
+pub fn print_proof<R: Rank, E: Ranked<Key = R>, S: Sink, L: Ledger>(
     alloc: Global,
     query: &Query,
     tree: &Tree<R>,
     engine: &mut E,
     out: &mut S,
     steps: &mut Steps<L>,
-) -> Result<(), Refusal<'a>>
+) -> Result<(), PrintFault>
     requires planned { (tables : List Table) × (plan : PlanView R) × Fits query.now tables
         × IsPlan R.KEYS R.key query.now tables plan × (plan.tree ≡ tree.now) }
     requires rest { (ks : List (KeyOf R.KEYS 16)) × IsTreeRanking tree.now R.KEYS R.key ks

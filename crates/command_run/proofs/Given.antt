@@ -7,8 +7,8 @@ use Rattle.std.specs.List.{AllByRecursion, flat_map}
 use Rattle.std.specs.Io.KnownBytes.{Appends}
 use Rattle.std.proofs.KnownBytes.{Appends-trans}
 use Rattle.anyk_model.specs.Output.{cut}
-use Rattle.refusal_lines.specs.declared.refusal.Refusal.{Refusal}
-use Rattle.refusal_lines.specs.declared.refusal.Refusal.TheVariants as refusal
+use Rattle.refusal_lines.specs.declared.fault.PrintFault.{PrintFault}
+use Rattle.refusal_lines.specs.declared.fault.PrintFault.TheVariants as fault
 use Rattle.step_bounds.proofs.Calls.{HasCalled}
 use Rattle.refusal_lines.specs.Printing.{Printed}
 use Rattle.refusal_lines.specs.SinkState.{SinkState}
@@ -96,7 +96,7 @@ module _ {A B : Type 0} (P : B → Type 0) (f : A → List ℕ) (seen : B → A)
         )
 
     -- the record of the next member was cut short
-    pub cut_short : (limit : Option ℕ) (old mid now : SinkState) (e : Refusal) → IfSome limit (λ n. i < n)
+    pub cut_short : (limit : Option ℕ) (old mid now : SinkState) (e : PrintFault) → IfSome limit (λ n. i < n)
         → HasGiven P f seen list i left old mid → Printed mid now (f (seen b)) (Err e) → Printed old now (flat_map f (cut limit list)) (Err e)
     cut_short limit old mid now e low g one =
         let parts = part_of limit low in
@@ -119,7 +119,7 @@ module _ {A B : Type 0} (P : B → Type 0) (f : A → List ℕ) (seen : B → A)
 
   -- memory ran out before the next record
   pub stopped_short : (limit : Option ℕ) (left : List B) (old now : SinkState) → IfSome limit (λ n. i ≤ n)
-      → HasGiven P f seen list i left old now → Printed old now (flat_map f (cut limit list)) (Err refusal.NoMemory)
+      → HasGiven P f seen list i left old now → Printed old now (flat_map f (cut limit list)) (Err fault.NoMemory)
   stopped_short limit left old now low g = record {
     whole = tt;
     prefix = (flat_map f (take i list), g.sent, front_of limit low);

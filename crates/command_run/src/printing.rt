@@ -13,7 +13,7 @@ use answer_print::{Style, print_answer, print_header};
 use bound_query::Query;
 use csv_tables::RecordWriter;
 use outer_io::Sink;
-use refusal_lines::Refusal;
+use refusal_lines::PrintFault;
 use std::alloc::Global;
 use std::sync::ledger::Ledger;
 use step_counter::Steps;
@@ -22,7 +22,7 @@ use tdp_core::Ranked;
 
 /// Prints the header, and then the answers that the engine has left, as many as the limit allows.
 /// `NoMemory` if memory is refused, and `WriteFault` if a write failed.
-pub fn print_ranking<'a, E: Ranked, S: Sink, L: Ledger>(
+pub fn print_ranking<E: Ranked, S: Sink, L: Ledger>(
     alloc: Global,
     query: &Query,
     tables: &Tables,
@@ -30,7 +30,7 @@ pub fn print_ranking<'a, E: Ranked, S: Sink, L: Ledger>(
     engine: &mut E,
     out: &mut S,
     steps: &mut Steps<L>,
-) -> Result<(), Refusal<'a>>
+) -> Result<(), PrintFault>
     requires fits { Fits query.now tables.now }
     requires rows { AreCombinations query.now.query tables.now (E.rest engine.old) }
     ensures printed { Printed (state_of S.Sink out.old) (state_of S.Sink out.new)
@@ -52,7 +52,7 @@ pub fn print_ranking<'a, E: Ranked, S: Sink, L: Ledger>(
 }
 
 /// Prints the answers, up to the limit or the engine's end. `records` keeps the memory for them.
-fn print_answers<'a, E: Ranked, S: Sink, L: Ledger>(
+fn print_answers<E: Ranked, S: Sink, L: Ledger>(
     records: &mut RecordWriter,
     query: &Query,
     tables: &Tables,
@@ -60,7 +60,7 @@ fn print_answers<'a, E: Ranked, S: Sink, L: Ledger>(
     engine: &mut E,
     out: &mut S,
     steps: &mut Steps<L>,
-) -> Result<(), Refusal<'a>>
+) -> Result<(), PrintFault>
     requires fits { Fits query.now tables.now }
     requires rows { AreCombinations query.now.query tables.now (E.rest engine.old) }
     ensures printed { Printed (state_of S.Sink out.old) (state_of S.Sink out.new)
@@ -80,7 +80,7 @@ fn print_answers<'a, E: Ranked, S: Sink, L: Ledger>(
         print_answer(records, query, tables, style, &answer.rows, out)?;
     }
     if query.limit().is_none() {
-        return Err(Refusal::NoMemory);
+        return Err(PrintFault::NoMemory);
     }
     Ok(())
 }

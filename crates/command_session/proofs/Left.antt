@@ -2,11 +2,9 @@
 use Rattle.std.proofs.Common.{◌≡◌, ◌≤◌, ℕ, List, [], ◌++◌, Result, Ok, Err, IfErr, refl, sym, ap, subst, ◌∙◌, append_assoc, append-nil, arith}
 use Rattle.std.specs.Io.KnownBytes.{Appends}
 use Rattle.std.proofs.KnownBytes.{Appends-trans}
-use Rattle.refusal_lines.specs.declared.refusal.Refusal.{Refusal}
-use Rattle.refusal_lines.specs.declared.refusal.Refusal.TheVariants as refusal
-use Rattle.refusal_lines.specs.Reason as reason
+use Rattle.refusal_lines.specs.declared.fault.PrintFault.{PrintFault}
+use Rattle.refusal_lines.specs.declared.fault.PrintFault.TheVariants as fault
 use Rattle.refusal_lines.specs.Reason.{Reason}
-use Rattle.refusal_lines.specs.RefusalReasons.{reason_of}
 use Rattle.refusal_lines.specs.Printing.{IsPrintCause, Printed}
 use Rattle.refusal_lines.specs.SinkState.{SinkState}
 use Rattle.refusal_lines.proofs.Prints.{appends_nothing, printed_stopped, printed_then}
@@ -35,7 +33,7 @@ module _ (whole left : List ℕ) (old mid now : SinkState) (so_far : HasLeft who
   }
 
   -- the next piece was cut short
-  pub left_stopped : (text rest : List ℕ) (e : Refusal) → left ≡ text ++ rest → Printed mid now text (Err e) → Printed old now whole (Err e)
+  pub left_stopped : (text rest : List ℕ) (e : PrintFault) → left ≡ text ++ rest → Printed mid now text (Err e) → Printed old now whole (Err e)
   left_stopped text rest e is one =
       let P : List ℕ → Type 0 = λ l. Printed old now l (Err e) in
       subst P (sym (splits text rest is))
@@ -43,7 +41,7 @@ module _ (whole left : List ℕ) (old mid now : SinkState) (so_far : HasLeft who
       (printed_then old mid now so_far.part text (Err e) so_far.sent so_far.later one))
 
   -- the last piece was printed
-  pub left_last : (r : Result (Unit {0}) Refusal) → Printed mid now left r → Printed old now whole r
+  pub left_last : (r : Result (Unit {0}) PrintFault) → Printed mid now left r → Printed old now whole r
   left_last r one =
       let P : List ℕ → Type 0 = λ l. Printed old now l r in
       subst P (sym so_far.split) (printed_then old mid now so_far.part left r so_far.sent so_far.later one)
@@ -58,12 +56,12 @@ left_none whole left old now h e =
 
 -- memory ran out before the next piece
 pub left_unprinted : (whole left : List ℕ) (old now : SinkState) → HasLeft whole left old now
-    → Printed old now whole (Err refusal.NoMemory)
+    → Printed old now whole (Err fault.NoMemory)
 left_unprinted whole left old now h = record { whole = tt; prefix = (h.part, h.sent, (left, h.split)); cause = tt; later = h.later }
 
 -- ---- steps that print nothing
 
-pub printed_nothing : (s : SinkState) (r : Result (Unit {0}) Refusal) → IfErr r (λ e. reason_of e ≡ reason.NoMemory) → Printed s s [] r
+pub printed_nothing : (s : SinkState) (r : Result (Unit {0}) PrintFault) → IfErr r (λ e. e ≡ fault.NoMemory) → Printed s s [] r
 printed_nothing s (Ok done) memory = record {
   whole = appends_nothing s.written;
   prefix = ([], appends_nothing s.written, ([], refl));

@@ -2,9 +2,8 @@
 use Rattle.std.proofs.Common.{◌≡◌, ◌+◌, ◌<◌, ◌≤◌, ℕ, List, [], ◌∷◌, ◌++◌, Bool, Some, None, Result, Ok, Err, OnOk, IfErr, length, drop, get_or, replicate, refl, subst}
 use Rattle.std.specs.Prelude.{slice_set, take}
 use Rattle.cursor_set.specs.CursorSet.{CursorSet}
-use Rattle.refusal_lines.specs.declared.refusal.Refusal.{Refusal}
-use Rattle.refusal_lines.specs.Reason as reason
-use Rattle.refusal_lines.specs.RefusalReasons.{reason_of}
+use Rattle.refusal_lines.specs.declared.fault.PrintFault.{PrintFault}
+use Rattle.refusal_lines.specs.declared.fault.PrintFault.TheVariants as fault
 use Rattle.refusal_lines.specs.Printing.{Printed}
 use Rattle.refusal_lines.specs.SinkState.{SinkState}
 use Rattle.session_script.specs.declared.step.Step.{Step}
@@ -49,7 +48,7 @@ by_quiet P line ends members places (Close name) quiet h = h
 
 pub quiet_taken : (share : List ℕ → ℕ → ℕ) → ((s : List ℕ) (c d : ℕ) → c ≤ d → share s c ≤ share s d) → (line : List ℕ → List ℕ → List ℕ) (ends : Bool)
     (members : List (List ℕ)) (places : Places) (step : Step) (old new : CursorSet) (before after : List Cursor) (sink : SinkState) (steps : ℕ)
-    (r : Result (Unit {0}) Refusal) → PrintsNothing step → new ≡ record old { places = new.places } → IfErr r (λ e. reason_of e ≡ reason.NoMemory)
+    (r : Result (Unit {0}) PrintFault) → PrintsNothing step → new ≡ record old { places = new.places } → IfErr r (λ e. e ≡ fault.NoMemory)
     → OnOk r (IsHeld new after (places_after members places step))
     → IsTaken share line ends members places step (record { set = old; cursors = before; sink = sink; steps = steps }) (record { set = new; cursors = after; sink = sink; steps = steps }) r
 quiet_taken share rises line ends members places step old new before after sink steps r quiet only memory held =
@@ -59,7 +58,7 @@ quiet_taken share rises line ends members places step old new before after sink 
 
 -- the step `next`
 pub next_taken : (share : List ℕ → ℕ → ℕ) (line : List ℕ → List ℕ → List ℕ) (ends : Bool) (members : List (List ℕ)) (places : Places) (number : ℕ) (name : List ℕ)
-    (place count : ℕ) (old : State) (set : CursorSet) (cursor : OpenCursor) (sink : SinkState) (steps : ℕ) (r : Result (Unit {0}) Refusal)
+    (place count : ℕ) (old : State) (set : CursorSet) (cursor : OpenCursor) (sink : SinkState) (steps : ℕ) (r : Result (Unit {0}) PrintFault)
     → IsHeld old.set old.cursors places → Found old.cursors number name place → cursor.name.now ≡ name
     → Printed old.sink sink (next_text (line name) (name ++ 10 ∷ []) (drop place members) count) r
     → OnOk r (cursor.place ≡ place + length (take count (drop place members))) → OnOk r (set.places ≡ slice_set old.set.places number (Some cursor.place))
@@ -78,7 +77,7 @@ next_taken share line ends members places number name place count old set cursor
 -- ---- one step after another
 
 -- what a step does from each places that the cursors may have
-abbrev pub Takes : (List ℕ → ℕ → ℕ) → Listing → List AnswerView → Step → State → State → Result (Unit {0}) Refusal → Type 0
+abbrev pub Takes : (List ℕ → ℕ → ℕ) → Listing → List AnswerView → Step → State → State → Result (Unit {0}) PrintFault → Type 0
 Takes share listing answers step old new result = (places : Places) → IsHeld old.set old.cursors places → CanStep places step
     → IsTaken share (line_in listing) (ends_in listing answers) (members_in listing answers) places step old new result
 
@@ -117,7 +116,7 @@ module _ (share : List ℕ → ℕ → ℕ) (rises : (s : List ℕ) (c d : ℕ) 
     can = (can_step (line_in listing) (members_in listing answers) script i step inside here run.places run.taken.rules).0
 
     -- the next step, over the answers that the first one found
-    one : (r : Result (Unit {0}) Refusal) → Takes share listing mid.set.answers step mid new r
+    one : (r : Result (Unit {0}) PrintFault) → Takes share listing mid.set.answers step mid new r
         → IsTaken share (line_in listing) (ends_in listing answers) (members_in listing answers) run.places step mid new r
     one r takes =
         let P : List AnswerView → Type 0 = λ a. IsTaken share (line_in listing) (ends_in listing a) (members_in listing a) run.places step mid new r in
@@ -135,12 +134,12 @@ module _ (share : List ℕ → ℕ → ℕ) (rises : (s : List ℕ) (c d : ℕ) 
         }
 
     -- it was cut short
-    pub run_stopped : (e : Refusal) → Takes share listing mid.set.answers step mid new (Err e) → Printed start new.sink (text_in listing answers script) (Err e)
+    pub run_stopped : (e : PrintFault) → Takes share listing mid.set.answers step mid new (Err e) → Printed start new.sink (text_in listing answers script) (Err e)
     run_stopped e takes =
         taken_stopped (line_in listing) (members_in listing answers) script i step inside here run.places mid.set mid.cursors start mid.sink new.sink e run.taken
         (one (Err e) takes).printed
 
-    pub run_within : (r : Result (Unit {0}) Refusal) → Takes share listing mid.set.answers step mid new r → CostsWithin share listing answers script first before new.steps
+    pub run_within : (r : Result (Unit {0}) PrintFault) → Takes share listing mid.set.answers step mid new r → CostsWithin share listing answers script first before new.steps
     run_within r takes =
         paid_stopped share rises (ends_in listing answers) (members_in listing answers) script i step inside here run.places first mid.set before mid.steps new.steps run.paid
         (one r takes).paid.within

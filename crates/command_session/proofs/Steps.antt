@@ -3,7 +3,7 @@ use Rattle.std.proofs.Common.{◌≡◌, ◌+◌, ◌<◌, ◌≤◌, ℕ, List,
 use Rattle.std.specs.Prelude.{take}
 use Rattle.std.proofs.lemmas.List.{drop_all, drop_more, get_or-replicate, length-replicate}
 use Rattle.cursor_set.specs.CursorSet.{CursorSet}
-use Rattle.refusal_lines.specs.declared.refusal.Refusal.{Refusal}
+use Rattle.refusal_lines.specs.declared.fault.PrintFault.{PrintFault}
 use Rattle.refusal_lines.specs.Printing.{Printed}
 use Rattle.refusal_lines.specs.SinkState.{SinkState}
 use Rattle.session_script.specs.declared.step.Step.{Step}
@@ -63,7 +63,7 @@ module _ (line : List ℕ → List ℕ → List ℕ) (members : List (List ℕ))
         printed.whole printed.later;
   }
 
-  pub taken_stopped : (set : CursorSet) (cursors : List Cursor) (old mid now : SinkState) (e : Refusal)
+  pub taken_stopped : (set : CursorSet) (cursors : List Cursor) (old mid now : SinkState) (e : PrintFault)
       → (t : HasTaken line members script i places set cursors old mid) → Printed mid now (step_text line members places step) (Err e)
       → Printed old now (steps_text line members no_cursors script) (Err e)
   taken_stopped set cursors old mid now e t printed =

@@ -1,7 +1,7 @@
 -- What one step of a script does.
 use Rattle.std.specs.Prelude.{ℕ, Bool, List, Option, Result, OnOk}
 use Rattle.cursor_set.specs.CursorSet.{CursorSet}
-use Rattle.refusal_lines.specs.declared.refusal.Refusal.{Refusal}
+use Rattle.refusal_lines.specs.declared.fault.PrintFault.{PrintFault}
 use Rattle.refusal_lines.specs.Printing.{Printed}
 use Rattle.refusal_lines.specs.SinkState.{SinkState}
 use Rattle.session_script.specs.declared.step.Step.{Step}
@@ -21,7 +21,7 @@ pub record State : Type 0 where
 -- the step prints its text, moves the cursors, and costs its calls
 pub record IsTaken (share : List ℕ → ℕ → ℕ) (line : List ℕ → List ℕ → List ℕ) (ends : Bool)
     (members : List (List ℕ)) (places : Places) (step : Step) (old new : State)
-    (result : Result (Unit {0}) Refusal) : Type 0 where
+    (result : Result (Unit {0}) PrintFault) : Type 0 where
   pub printed : Printed old.sink new.sink (step_text line members places step) result
   pub held : OnOk result (IsHeld new.set new.cursors (places_after members places step))
   pub paid : Paid share old.set new.set (reach_of_step ends members places step)

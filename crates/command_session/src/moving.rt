@@ -17,7 +17,7 @@ use answer_print::{Style, print_answer};
 use csv_tables::RecordWriter;
 use cursor_set::{CursorId, Cursors};
 use outer_io::Sink;
-use refusal_lines::{Refusal, print};
+use refusal_lines::{PrintFault, print};
 use std::alloc::Global;
 use std::sync::ledger::Ledger;
 use step_counter::{NoMemory, Steps};
@@ -26,7 +26,7 @@ use tdp_core::{Answer, Ranked};
 /// Prints at most `count` members from the place of the cursor `id`, and the cursor's name alone if
 /// the list ends before that. The list is the combinations that the set's answers stand for, cut to
 /// the limit.
-pub(crate) fn print_next<'a, E: Ranked, S: Sink, L: Ledger>(
+pub(crate) fn print_next<E: Ranked, S: Sink, L: Ledger>(
     records: &mut RecordWriter,
     listing: &Listing<'_>,
     name: &[u8],
@@ -36,7 +36,7 @@ pub(crate) fn print_next<'a, E: Ranked, S: Sink, L: Ledger>(
     count: u64,
     out: &mut S,
     steps: &mut Steps<L>,
-) -> Result<(), Refusal<'a>>
+) -> Result<(), PrintFault>
     requires fits { Fits listing.now.query.now listing.now.tables.now }
     requires rows { AreCombinations listing.now.query.now.query listing.now.tables.now
         set.old.answers }
@@ -133,7 +133,7 @@ fn is_reached(limit: Option<u64>, place: u64) -> bool
 }
 
 /// Prints the cursor's name alone.
-fn print_end<'a, S: Sink>(alloc: Global, name: &[u8], out: &mut S) -> Result<(), Refusal<'a>>
+fn print_end<S: Sink>(alloc: Global, name: &[u8], out: &mut S) -> Result<(), PrintFault>
     ensures { Printed (state_of S.Sink out.old) (state_of S.Sink out.new)
         (name.now ++ codes "\n") result }
 {

@@ -24,7 +24,7 @@ use bound_query::Query;
 use csv_tables::RecordWriter;
 use cursor_set::{Cursors, MAX_OPEN};
 use outer_io::Sink;
-use refusal_lines::Refusal;
+use refusal_lines::PrintFault;
 use session_script::Step;
 use std::alloc::Global;
 use std::sync::ledger::Ledger;
@@ -36,7 +36,7 @@ use tdp_core::Ranked;
 /// print of the answers that the engine has left, as far as the limit allows. `NoMemory` if memory
 /// is refused, and `WriteFault` if a write failed. The engine is called only for places that a
 /// cursor reaches for the first time. Each call for a member takes at most 4 more counted steps.
-pub fn print_session<'a, E: Ranked + Drop, S: Sink, L: Ledger>(
+pub fn print_session<E: Ranked + Drop, S: Sink, L: Ledger>(
     alloc: Global,
     query: &Query,
     tables: &Tables,
@@ -45,7 +45,7 @@ pub fn print_session<'a, E: Ranked + Drop, S: Sink, L: Ledger>(
     script: &[Step],
     out: &mut S,
     steps: &mut Steps<L>,
-) -> Result<(), Refusal<'a>>
+) -> Result<(), PrintFault>
     requires fits { Fits query.now tables.now }
     requires rows { AreCombinations query.now.query tables.now (E.rest engine) }
     requires rules { KeepsRules [] script.now }
@@ -76,14 +76,14 @@ pub fn print_session<'a, E: Ranked + Drop, S: Sink, L: Ledger>(
 }
 
 /// Prints the header and what the steps print, over a set without an open cursor.
-fn print_steps<'a, E: Ranked, S: Sink, L: Ledger>(
+fn print_steps<E: Ranked, S: Sink, L: Ledger>(
     records: &mut RecordWriter,
     listing: &Listing<'_>,
     set: &mut Cursors<E>,
     script: &[Step],
     out: &mut S,
     steps: &mut Steps<L>,
-) -> Result<(), Refusal<'a>>
+) -> Result<(), PrintFault>
     requires fits { Fits listing.now.query.now listing.now.tables.now }
     requires rows { AreCombinations listing.now.query.now.query listing.now.tables.now
         set.old.answers }
@@ -121,7 +121,7 @@ fn print_steps<'a, E: Ranked, S: Sink, L: Ledger>(
 
 /// Takes one step of the script, and prints what it gives. An error if a write failed or memory is
 /// refused.
-fn take_step<'a, 's, E: Ranked, S: Sink, L: Ledger>(
+fn take_step<'s, E: Ranked, S: Sink, L: Ledger>(
     records: &mut RecordWriter,
     listing: &Listing<'_>,
     set: &mut Cursors<E>,
@@ -129,7 +129,7 @@ fn take_step<'a, 's, E: Ranked, S: Sink, L: Ledger>(
     step: &'s Step,
     out: &mut S,
     steps: &mut Steps<L>,
-) -> Result<(), Refusal<'a>>
+) -> Result<(), PrintFault>
     requires fits { Fits listing.now.query.now listing.now.tables.now }
     requires rows { AreCombinations listing.now.query.now.query listing.now.tables.now
         set.old.answers }

@@ -15,7 +15,7 @@ use answer_print::Style;
 use bound_query::Query;
 use csv_tables::RecordWriter;
 use outer_io::Sink;
-use refusal_lines::{Refusal, print};
+use refusal_lines::{PrintFault, print};
 use std::alloc::Global;
 use std::sync::ledger::Ledger;
 use step_counter::Steps;
@@ -25,7 +25,7 @@ use union_all::{Merge, Tagged, write_header_of, write_line_of};
 
 /// Prints the header, and then the members that the merge has left, as many as the limit allows.
 /// `NoMemory` if memory is refused, and `WriteFault` if a write failed.
-pub fn print_union<'a, 'q, E: Ranked + Drop, S: Sink, L: Ledger>(
+pub fn print_union<'q, E: Ranked + Drop, S: Sink, L: Ledger>(
     alloc: Global,
     queries: &[Query],
     tables: &Tables,
@@ -34,7 +34,7 @@ pub fn print_union<'a, 'q, E: Ranked + Drop, S: Sink, L: Ledger>(
     merge: &mut Merge<'q, E>,
     out: &mut S,
     steps: &mut Steps<L>,
-) -> Result<(), Refusal<'a>>
+) -> Result<(), PrintFault>
     requires some { 1 ≤ length queries.now }
     requires fits { All (λ q. Fits q tables.now) queries.now }
     requires queries { merge.old.queries ≡ map (λ q. q.query) queries.now }
@@ -69,14 +69,14 @@ pub fn print_union<'a, 'q, E: Ranked + Drop, S: Sink, L: Ledger>(
 
 /// Prints the record above the members. `records` keeps the memory for it. `WriteFault` if the write failed, and `NoMemory` if memory
 /// is refused.
-fn print_union_header<'a, S: Sink>(
+fn print_union_header<S: Sink>(
     alloc: Global,
     records: &mut RecordWriter,
     queries: &[Query],
     tables: &Tables,
     style: &Style<'_>,
     out: &mut S,
-) -> Result<(), Refusal<'a>>
+) -> Result<(), PrintFault>
     requires some { 1 ≤ length queries.now }
     requires fits { All (λ q. Fits q tables.now) queries.now }
     ensures { Printed (state_of S.Sink out.old) (state_of S.Sink out.new)
@@ -89,7 +89,7 @@ fn print_union_header<'a, S: Sink>(
 
 /// Prints the members, up to the limit or the end of the union. `records` keeps the memory for a
 /// record.
-fn print_members<'a, 'q, E: Ranked + Drop, S: Sink, L: Ledger>(
+fn print_members<'q, E: Ranked + Drop, S: Sink, L: Ledger>(
     records: &mut RecordWriter,
     queries: &[Query],
     tables: &Tables,
@@ -98,7 +98,7 @@ fn print_members<'a, 'q, E: Ranked + Drop, S: Sink, L: Ledger>(
     merge: &mut Merge<'q, E>,
     out: &mut S,
     steps: &mut Steps<L>,
-) -> Result<(), Refusal<'a>>
+) -> Result<(), PrintFault>
     requires fits { All (λ q. Fits q tables.now) queries.now }
     requires queries { merge.old.queries ≡ map (λ q. q.query) queries.now }
     requires members { AreMembers (map (λ q. q.query) queries.now) tables.now merge.old.rest }
@@ -119,21 +119,21 @@ fn print_members<'a, 'q, E: Ranked + Drop, S: Sink, L: Ledger>(
         print_member(records, &tagged, queries, tables, style, out)?;
     }
     if limit.is_none() {
-        return Err(Refusal::NoMemory);
+        return Err(PrintFault::NoMemory);
     }
     Ok(())
 }
 
 /// Prints the record of a member. `records` keeps the memory for it. `WriteFault` if the write
 /// failed, and `NoMemory` if memory is refused.
-fn print_member<'a, S: Sink>(
+fn print_member<S: Sink>(
     records: &mut RecordWriter,
     tagged: &Tagged,
     queries: &[Query],
     tables: &Tables,
     style: &Style<'_>,
     out: &mut S,
-) -> Result<(), Refusal<'a>>
+) -> Result<(), PrintFault>
     requires fits { All (λ q. Fits q tables.now) queries.now }
     requires member { let all = map (λ q. q.query) queries.now in
         IsMember all tables.now (tagged_view all tagged.now) }

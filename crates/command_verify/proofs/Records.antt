@@ -5,7 +5,7 @@ use Rattle.std.proofs.lemmas.List.{take_all, take_more}
 use Rattle.std.specs.List.{flat_map}
 use Rattle.std.specs.Io.KnownBytes.{Appends}
 use Rattle.std.proofs.KnownBytes.{Appends-trans}
-use Rattle.refusal_lines.specs.declared.refusal.Refusal.{Refusal}
+use Rattle.refusal_lines.specs.declared.fault.PrintFault.{PrintFault}
 use Rattle.refusal_lines.specs.Printing.{Printed}
 use Rattle.refusal_lines.specs.SinkState.{SinkState}
 use Rattle.refusal_lines.proofs.Prints.{appends_nothing, printed_stopped, printed_then, written}
@@ -46,7 +46,7 @@ module _ {A : Type 0} (f : A → List ℕ) (list : List A) where
     }
 
     -- it was cut short
-    pub cut_short : (old mid now : SinkState) (e : Refusal) → HasPrinted i old mid → Printed mid now (f next) (Err e)
+    pub cut_short : (old mid now : SinkState) (e : PrintFault) → HasPrinted i old mid → Printed mid now (f next) (Err e)
         → Printed old now (flat_map f list) (Err e)
     cut_short old mid now e h one =
         subst (λ (text : List ℕ). Printed old now text (Err e)) (sym whole_text)

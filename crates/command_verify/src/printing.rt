@@ -12,20 +12,20 @@ use answer_print::{Style, print_answer, print_header};
 use bound_query::Query;
 use csv_tables::RecordWriter;
 use outer_io::Sink;
-use refusal_lines::Refusal;
+use refusal_lines::PrintFault;
 use std::alloc::Global;
 use table_store::Tables;
 
 /// Prints the header, and then the record of each answer. An answer is a row for each item, from 1.
 /// `NoMemory` if memory is refused, and `WriteFault` if a write failed.
-pub fn print_listed<'a, S: Sink>(
+pub fn print_listed<S: Sink>(
     alloc: Global,
     query: &Query,
     tables: &Tables,
     style: &Style<'_>,
     answers: &[[u32; 16]],
     out: &mut S,
-) -> Result<(), Refusal<'a>>
+) -> Result<(), PrintFault>
     requires fits { Fits query.now tables.now }
     requires rows { AllByRecursion
         (λ rows. IsCombination (row_counts query.now.query.items tables.now)
@@ -40,14 +40,14 @@ pub fn print_listed<'a, S: Sink>(
 }
 
 /// Prints the record of each answer. `records` keeps the memory for them.
-fn print_records<'a, S: Sink>(
+fn print_records<S: Sink>(
     records: &mut RecordWriter,
     query: &Query,
     tables: &Tables,
     style: &Style<'_>,
     answers: &[[u32; 16]],
     out: &mut S,
-) -> Result<(), Refusal<'a>>
+) -> Result<(), PrintFault>
     requires fits { Fits query.now tables.now }
     requires rows { AllByRecursion
         (λ rows. IsCombination (row_counts query.now.query.items tables.now)

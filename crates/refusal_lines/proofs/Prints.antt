@@ -4,11 +4,8 @@ use Rattle.std.specs.Io.KnownBytes.{Appends}
 use Rattle.std.proofs.KnownBytes.{Appends-trans}
 use Rattle.outer_io.specs.Counts.{Rose}
 use Rattle.outer_io.proofs.Counting.{Rose-after}
-use Rattle.refusal_lines.specs.declared.refusal.Refusal.{Refusal}
-use Rattle.refusal_lines.specs.declared.refusal.Refusal.TheVariants as refusal
-use Rattle.refusal_lines.specs.Reason as reason
-use Rattle.refusal_lines.specs.Reason.{Reason}
-use Rattle.refusal_lines.specs.RefusalReasons.{reason_of}
+use Rattle.refusal_lines.specs.declared.fault.PrintFault.{PrintFault}
+use Rattle.refusal_lines.specs.declared.fault.PrintFault.TheVariants as fault
 use Rattle.refusal_lines.specs.Printing.{GotBeginning, IsBroken, IsPrintCause, Printed, PrintedSome}
 use Rattle.refusal_lines.specs.SinkState.{SinkState}
 
@@ -21,7 +18,7 @@ pub written : (old new : SinkState) (bytes : List ℕ) → Appends old.written n
 written old new bytes all later = record { whole = all; prefix = (bytes, all, ([], sym (append-nil bytes))); cause = tt; later = later }
 
 pub unwritten : (old new : SinkState) (n : ℕ) (bytes : List ℕ) → Appends old.written new.written (take n bytes) → Rose old.faults new.faults → old.faults ≤ new.faults
-    → Printed old new bytes (Err refusal.WriteFault)
+    → Printed old new bytes (Err fault.Write)
 unwritten old new n bytes part cause later = record {
   whole = tt;
   prefix = (take n bytes, part, (drop n bytes, sym (take-append-drop n bytes)));
@@ -30,16 +27,15 @@ unwritten old new n bytes part cause later = record {
 }
 
 -- memory ran out before anything was printed
-pub unprinted : (s : SinkState) (text : List ℕ) → Printed s s text (Err refusal.NoMemory)
+pub unprinted : (s : SinkState) (text : List ℕ) → Printed s s text (Err fault.NoMemory)
 unprinted s text = record { whole = tt; prefix = ([], appends_nothing s.written, (text, refl)); cause = tt; later = omega arith }
 
-later_cause : (m n k : ℕ) (e : Reason) → m ≤ n → IsPrintCause n k e → IsPrintCause m k e
-later_cause m n k reason.WriteFault h cause = Rose-after m n k h cause
-later_cause m n k reason.NoMemory h cause = tt
-later_cause m n k e h cause = absurd cause
+later_cause : (m n k : ℕ) (e : PrintFault) → m ≤ n → IsPrintCause n k e → IsPrintCause m k e
+later_cause m n k fault.Write h cause = Rose-after m n k h cause
+later_cause m n k fault.NoMemory h cause = tt
 
 -- a text after one that was printed whole
-pub printed_then : (a b c : SinkState) (xs ys : List ℕ) (r : Result (Unit {0}) Refusal)
+pub printed_then : (a b c : SinkState) (xs ys : List ℕ) (r : Result (Unit {0}) PrintFault)
     → Appends a.written b.written xs → a.faults ≤ b.faults → Printed b c ys r → Printed a c (xs ++ ys) r
 printed_then a b c xs ys r first earlier second = record {
   whole = by_whole r second.whole;
@@ -49,17 +45,17 @@ printed_then a b c xs ys r first earlier second = record {
   later = let up = second.later in omega (arith, up, earlier);
 }
   where
-    by_whole : (r : Result (Unit {0}) Refusal) → OnOk r (Appends b.written c.written ys) → OnOk r (Appends a.written c.written (xs ++ ys))
+    by_whole : (r : Result (Unit {0}) PrintFault) → OnOk r (Appends b.written c.written ys) → OnOk r (Appends a.written c.written (xs ++ ys))
     by_whole (Ok x) rest = Appends-trans a.written b.written c.written xs ys first rest
     by_whole (Err e) rest = tt
 
-    by_cause : (r : Result (Unit {0}) Refusal) → IfErr r (λ refusal. IsPrintCause b.faults c.faults (reason_of refusal))
-        → IfErr r (λ refusal. IsPrintCause a.faults c.faults (reason_of refusal))
+    by_cause : (r : Result (Unit {0}) PrintFault) → IfErr r (IsPrintCause b.faults c.faults)
+        → IfErr r (IsPrintCause a.faults c.faults)
     by_cause (Ok x) cause = tt
-    by_cause (Err e) cause = later_cause a.faults b.faults c.faults (reason_of e) earlier cause
+    by_cause (Err e) cause = later_cause a.faults b.faults c.faults e earlier cause
 
 -- a text after one that was cut short is not printed
-pub printed_stopped : (a b : SinkState) (xs ys : List ℕ) (e : Refusal) → Printed a b xs (Err e) → Printed a b (xs ++ ys) (Err e)
+pub printed_stopped : (a b : SinkState) (xs ys : List ℕ) (e : PrintFault) → Printed a b xs (Err e) → Printed a b (xs ++ ys) (Err e)
 printed_stopped a b xs ys e first = record {
   whole = tt;
   prefix = let part = first.prefix in (part.0, part.1, (part.2.0 ++ ys, ap (λ l. l ++ ys) part.2.1 ∙ append_assoc part.0 part.2.0 ys));
@@ -70,22 +66,22 @@ printed_stopped a b xs ys e first = record {
 -- ---- a text that is known by what is said of it
 
 module _ (IsText : List ℕ → Type 0) where
-  broken : (old new : SinkState) (e : Reason) → GotBeginning IsText old new → IsBroken IsText old new e
-  broken old new reason.NoMemory got = inr got
-  broken old new e got = got
+  broken : (old new : SinkState) (e : PrintFault) → GotBeginning IsText old new → IsBroken IsText old new e
+  broken old new fault.NoMemory got = inr got
+  broken old new fault.Write got = got
 
   -- a text that is such a text was printed
-  pub printed_some : (old new : SinkState) (text : List ℕ) (r : Result (Unit {0}) Refusal) → IsText text → Printed old new text r
+  pub printed_some : (old new : SinkState) (text : List ℕ) (r : Result (Unit {0}) PrintFault) → IsText text → Printed old new text r
       → PrintedSome IsText old new r
   printed_some old new text (Ok done) is printed =
       record { whole = (text, is, printed.whole); part = tt; cause = tt; later = printed.later }
   printed_some old new text (Err e) is printed = record {
     whole = tt;
-    part = broken old new (reason_of e) (text, is, printed.prefix);
+    part = broken old new e (text, is, printed.prefix);
     cause = printed.cause;
     later = printed.later;
   }
 
   -- memory ran out before anything was printed
-  pub none_printed : (s : SinkState) → PrintedSome IsText s s (Err refusal.NoMemory)
+  pub none_printed : (s : SinkState) → PrintedSome IsText s s (Err fault.NoMemory)
   none_printed s = record { whole = tt; part = inl (appends_nothing s.written); cause = tt; later = omega arith }

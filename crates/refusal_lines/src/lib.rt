@@ -2,12 +2,14 @@
 //! written without taking memory.
 #![tactic(auto)]
 
+mod fault;
 mod line;
 mod memory;
 mod piece;
 mod printing;
 mod refusal;
 
+pub use fault::{PrintFault, refused};
 pub use line::write_line;
 pub use printing::print;
 pub use refusal::Refusal;

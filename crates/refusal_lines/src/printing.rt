@@ -1,16 +1,16 @@
-//! Printing a text by one write, where a failure is a refusal.
+//! Printing a text by one write.
 ghost use Rattle.refusal_lines.specs.Printing.{Printed};
 ghost use Rattle.refusal_lines.specs.SinkState.{state_of};
 
-use crate::refusal::Refusal;
+use crate::fault::PrintFault;
 use outer_io::{Sink, write_all};
 
-/// Prints a text by one write. `WriteFault` if the write failed. It takes no memory.
-pub fn print<'a, S: Sink>(out: &mut S, text: &[u8]) -> Result<(), Refusal<'a>>
+/// Prints a text by one write. `Write` if the write failed. It takes no memory.
+pub fn print<S: Sink>(out: &mut S, text: &[u8]) -> Result<(), PrintFault>
     ensures { Printed (state_of S.Sink out.old) (state_of S.Sink out.new) text.now result }
 {
     match write_all(out, text) {
         Ok(()) => Ok(()),
-        Err(_) => Err(Refusal::WriteFault),
+        Err(_) => Err(PrintFault::Write),
     }
 }

@@ -2,7 +2,7 @@
 use Rattle.std.specs.Prelude.{ℕ, Result}
 use Rattle.refusal_lines.specs.Printing.{PrintedSome}
 use Rattle.refusal_lines.specs.SinkState.{SinkState}
-use Rattle.refusal_lines.specs.declared.refusal.Refusal.{Refusal}
+use Rattle.refusal_lines.specs.declared.fault.PrintFault.{PrintFault}
 use Rattle.verdict.specs.AcceptedInput.{Found}
 use Rattle.verdict.specs.Bound.{IsPaced, IsWithin}
 use Rattle.verdict.specs.Output.{HasOutput}
@@ -11,7 +11,7 @@ use Rattle.verdict.specs.Words.{Command}
 -- The output of the command is printed over what is found. If the plans are prepared within the
 -- steps that preparation may take, the steps are within the bound, and keep pace with the output.
 pub record IsAnswered (command : Command) (found : Found) (IsReady : ℕ → Type 0)
-    (old new : SinkState) (now : ℕ) (result : Result (Unit {0}) Refusal) : Type 0 where
+    (old new : SinkState) (now : ℕ) (result : Result (Unit {0}) PrintFault) : Type 0 where
   pub printed : PrintedSome (HasOutput command found) old new result
   pub bounded : (before : ℕ) → IsReady before → IsWithin command found before now
   pub paced : (before : ℕ) → IsReady before

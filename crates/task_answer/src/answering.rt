@@ -29,7 +29,7 @@ use input_load::Input;
 use outer_io::{Shelf, Sink};
 use plan_build::{Plan, RankedPlan};
 use rank_key::Rank;
-use refusal_lines::Refusal;
+use refusal_lines::{PrintFault, Refusal, refused};
 use session_script::Step;
 use std::alloc::Global;
 use std::sync::ledger::Ledger;
@@ -70,19 +70,19 @@ pub fn answer_task<'a, F: Shelf, S: Sink, L: Ledger>(
         (S.written out.new) steps.old steps.new }
 {
     match plan_task(alloc, task, shelf, keys, steps) {
-        Ok(planned) => print_planned(alloc, task, &planned, out, steps),
+        Ok(planned) => refused(print_planned(alloc, task, &planned, out, steps)),
         Err(refusal) => Err(refusal),
     }
 }
 
 /// Prints the output, with the rank type of the plans.
-fn print_planned<'a, S: Sink, L: Ledger>(
+fn print_planned<S: Sink, L: Ledger>(
     alloc: Global,
     task: &Task,
     planned: &Planned,
     out: &mut S,
     steps: &mut Steps<L>,
-) -> Result<(), Refusal<'a>>
+) -> Result<(), PrintFault>
     requires plans { ArePlans planned.now.input planned.now.plans }
     requires alone { HasOne (command_of task.now) planned.now.input }
     ensures { IsAnswered (command_of task.now) (found_in planned.now)
@@ -99,14 +99,14 @@ fn print_planned<'a, S: Sink, L: Ledger>(
 }
 
 /// Prints the output over one query, with the rank type of its plan.
-fn print_one<'a, S: Sink, L: Ledger>(
+fn print_one<S: Sink, L: Ledger>(
     alloc: Global,
     task: &Task,
     plan: &RankedPlan,
     input: &Input,
     out: &mut S,
     steps: &mut Steps<L>,
-) -> Result<(), Refusal<'a>>
+) -> Result<(), PrintFault>
     requires plan { IsOnePlan input.now.queries input.now.tables input.now.best plan.now }
     requires alone { HasOne (command_of task.now) input.now }
     ensures { IsAnswered (command_of task.now)
@@ -124,14 +124,14 @@ fn print_one<'a, S: Sink, L: Ledger>(
 }
 
 /// Prints the output over one query for one rank type.
-fn print_plan<'a, R: Rank, S: Sink, L: Ledger>(
+fn print_plan<R: Rank, S: Sink, L: Ledger>(
     alloc: Global,
     task: &Task,
     plan: &Plan<R>,
     input: &Input,
     out: &mut S,
     steps: &mut Steps<L>,
-) -> Result<(), Refusal<'a>>
+) -> Result<(), PrintFault>
     requires plan { IsOnePlanOf R.KEYS R.key input.now.queries input.now.tables input.now.best
         plan.now }
     requires alone { HasOne (command_of task.now) input.now }
@@ -149,14 +149,14 @@ fn print_plan<'a, R: Rank, S: Sink, L: Ledger>(
 }
 
 /// Prints the output over several queries, which only `run` may have.
-fn print_branches<'a, R: Rank, S: Sink, L: Ledger>(
+fn print_branches<R: Rank, S: Sink, L: Ledger>(
     alloc: Global,
     task: &Task,
     plans: &[Plan<R>],
     input: &Input,
     out: &mut S,
     steps: &mut Steps<L>,
-) -> Result<(), Refusal<'a>>
+) -> Result<(), PrintFault>
     requires several { 1 < length input.now.queries }
     requires alone { HasOne (command_of task.now) input.now }
     requires plans { HavePlans R.KEYS R.key input.now.tables input.now.queries plans.now }
@@ -181,12 +181,12 @@ fn print_branches<'a, R: Rank, S: Sink, L: Ledger>(
                 steps,
             )
         }
-        _ => Err(Refusal::NoMemory),
+        _ => Err(PrintFault::NoMemory),
     }
 }
 
 /// Prints the output of the command for one rank type.
-fn print_output<'a, R: Rank, S: Sink, L: Ledger>(
+fn print_output<R: Rank, S: Sink, L: Ledger>(
     alloc: Global,
     task: &Task,
     plan: &Plan<R>,
@@ -196,7 +196,7 @@ fn print_output<'a, R: Rank, S: Sink, L: Ledger>(
     script: &[Step],
     out: &mut S,
     steps: &mut Steps<L>,
-) -> Result<(), Refusal<'a>>
+) -> Result<(), PrintFault>
     requires fits { Fits query.now tables.now }
     requires rules { KeepsRules [] script.now }
     requires plan { IsPlanOf R.KEYS R.key query.now tables.now best plan.now }

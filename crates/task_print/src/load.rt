@@ -17,7 +17,7 @@ use outer_io::Sink;
 use plan_build::Plan;
 use plan_engine::engine_over;
 use rank_key::Rank;
-use refusal_lines::Refusal;
+use refusal_lines::PrintFault;
 use std::alloc::Global;
 use std::sync::ledger::Ledger;
 use step_counter::Steps;
@@ -25,7 +25,7 @@ use table_store::Tables;
 
 /// Takes the first answers of the query, as many as the limit allows, and then prints their
 /// summary. `WriteFault` if the write failed, and `NoMemory` if memory is refused.
-pub fn print_load<'a, R: Rank, S: Sink, L: Ledger>(
+pub fn print_load<R: Rank, S: Sink, L: Ledger>(
     alloc: Global,
     engine: Engine,
     plan: &Plan<R>,
@@ -34,7 +34,7 @@ pub fn print_load<'a, R: Rank, S: Sink, L: Ledger>(
     best: Option<u32>,
     out: &mut S,
     steps: &mut Steps<L>,
-) -> Result<(), Refusal<'a>>
+) -> Result<(), PrintFault>
     requires fits { Fits query.now tables.now }
     requires plan { IsPlanOf R.KEYS R.key query.now tables.now best plan.now }
     ensures printed { Printed (state_of S.Sink out.old) (state_of S.Sink out.new)

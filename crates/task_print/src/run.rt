@@ -18,7 +18,7 @@ use outer_io::Sink;
 use plan_build::Plan;
 use plan_engine::engine_over;
 use rank_key::Rank;
-use refusal_lines::Refusal;
+use refusal_lines::PrintFault;
 use std::alloc::Global;
 use std::sync::ledger::Ledger;
 use step_counter::Steps;
@@ -27,7 +27,7 @@ use table_store::Tables;
 /// Prints the header, and then the first answers of the query, as many as the limit allows, each as
 /// soon as it is known: of all its answers, or of the best answer of each row of the item, if one
 /// is named. `WriteFault` if a write failed, and `NoMemory` if memory is refused.
-pub fn print_run<'a, R: Rank, S: Sink, L: Ledger>(
+pub fn print_run<R: Rank, S: Sink, L: Ledger>(
     alloc: Global,
     engine: Engine,
     style: &Style<'_>,
@@ -37,7 +37,7 @@ pub fn print_run<'a, R: Rank, S: Sink, L: Ledger>(
     best: Option<u32>,
     out: &mut S,
     steps: &mut Steps<L>,
-) -> Result<(), Refusal<'a>>
+) -> Result<(), PrintFault>
     requires fits { Fits query.now tables.now }
     requires plan { IsPlanOf R.KEYS R.key query.now tables.now best plan.now }
     ensures printed { Printed (state_of S.Sink out.old) (state_of S.Sink out.new)

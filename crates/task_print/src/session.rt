@@ -21,7 +21,7 @@ use outer_io::Sink;
 use plan_build::Plan;
 use plan_engine::engine_over;
 use rank_key::Rank;
-use refusal_lines::Refusal;
+use refusal_lines::PrintFault;
 use session_script::Step;
 use std::alloc::Global;
 use std::sync::ledger::Ledger;
@@ -32,7 +32,7 @@ use table_store::Tables;
 /// print of the query's answers, as far as the limit allows: of all of them, or of the best answer
 /// of each row of the item, if one is named. `WriteFault` if a write failed, and
 /// `NoMemory` if memory is refused.
-pub fn print_script<'a, R: Rank, S: Sink, L: Ledger>(
+pub fn print_script<R: Rank, S: Sink, L: Ledger>(
     alloc: Global,
     engine: Engine,
     style: &Style<'_>,
@@ -43,7 +43,7 @@ pub fn print_script<'a, R: Rank, S: Sink, L: Ledger>(
     script: &[Step],
     out: &mut S,
     steps: &mut Steps<L>,
-) -> Result<(), Refusal<'a>>
+) -> Result<(), PrintFault>
     requires fits { Fits query.now tables.now }
     requires plan { IsPlanOf R.KEYS R.key query.now tables.now best plan.now }
     requires rules { KeepsRules [] script.now }

@@ -22,7 +22,7 @@ use command_verify::print_listed;
 use hash_keys::Keys;
 use input_load::{Aside, Input};
 use outer_io::{Shelf, Sink};
-use refusal_lines::Refusal;
+use refusal_lines::{PrintFault, Refusal, refused};
 use std::alloc::Global;
 use std::sync::ledger::Ledger;
 use step_counter::Steps;
@@ -62,19 +62,21 @@ pub fn answer_verified<'a, F: Shelf, S: Sink, L: Ledger>(
         (seen_by F.Shelf S.Sink shelf.new out.new) (reason_of refusal)) }
 {
     match check_input(alloc, proof, words, shelf, keys, steps) {
-        Ok(checked) => print_checked(alloc, words, &checked.input, &checked.answers, out),
+        Ok(checked) => {
+            refused(print_checked(alloc, words, &checked.input, &checked.answers, out))
+        }
         Err(refusal) => Err(refusal),
     }
 }
 
 /// Prints the header, and the answers that the certificate lists.
-fn print_checked<'a, S: Sink>(
+fn print_checked<S: Sink>(
     alloc: Global,
     words: &Words,
     input: &Input,
     answers: &[[u32; 16]],
     out: &mut S,
-) -> Result<(), Refusal<'a>>
+) -> Result<(), PrintFault>
     requires { HasAnswers input.now answers.now }
     ensures { (shape : Shape) → Printed (state_of S.Sink out.old) (state_of S.Sink out.new)
         (answers_text (words_of (words_view words.now))

@@ -25,7 +25,7 @@ use outer_io::Sink;
 use plan_build::Plan;
 use plan_engine::engine_over;
 use rank_key::Rank;
-use refusal_lines::Refusal;
+use refusal_lines::PrintFault;
 use std::alloc::Global;
 use std::sync::ledger::Ledger;
 use step_counter::{NoMemory, Steps};
@@ -35,7 +35,7 @@ use union_all::Merge;
 /// Prints the header, and then the first members of the union of the queries' answers, as many as
 /// the limit allows, each as soon as it is known. `WriteFault` if a write failed, and `NoMemory` if
 /// memory is refused.
-pub fn print_union_run<'a, R: Rank, S: Sink, L: Ledger>(
+pub fn print_union_run<R: Rank, S: Sink, L: Ledger>(
     alloc: Global,
     engine: Engine,
     style: &Style<'_>,
@@ -44,7 +44,7 @@ pub fn print_union_run<'a, R: Rank, S: Sink, L: Ledger>(
     tables: &Tables,
     out: &mut S,
     steps: &mut Steps<L>,
-) -> Result<(), Refusal<'a>>
+) -> Result<(), PrintFault>
     requires some { 1 ≤ length queries.now }
     requires few { length queries.now ≤ 8 }
     requires fits { All (λ q. Fits q tables.now) queries.now }

@@ -2,10 +2,9 @@
 use Rattle.std.proofs.Common.{ℕ, List, Option, Some, None, IfSome, Result, Ok, Err, OnOk, IfErr, inl, inr}
 use Rattle.std.specs.Io.KnownBytes.{Appends}
 use Rattle.outer_io.specs.Files.{Files}
-use Rattle.refusal_lines.specs.declared.refusal.Refusal.{Refusal}
-use Rattle.refusal_lines.specs.Printing.{GotBeginning, IsBroken, IsPrintCause}
-use Rattle.refusal_lines.specs.Reason as reason
-use Rattle.refusal_lines.specs.Reason.{Reason}
+use Rattle.refusal_lines.specs.declared.fault.PrintFault.{PrintFault}
+use Rattle.refusal_lines.specs.declared.fault.PrintFault.TheVariants as fault
+use Rattle.refusal_lines.specs.Printing.{GotBeginning, IsBroken, IsPrintCause, refusal_of, refused}
 use Rattle.refusal_lines.specs.RefusalReasons.{reason_of}
 use Rattle.refusal_lines.specs.SinkState.{SinkState}
 use Rattle.verdict.specs.AcceptedInput.{Found}
@@ -19,23 +18,21 @@ abbrev pub Accepts : Command → Option Files → Found → Type 0
 Accepts command told found = IfSome told (λ files. IsVerdict (built command) files (Ok found))
 
 -- the whole output was printed
-pub printed_complete : (command : Command) (told : Option Files) (old new : Outside) (found : Found) (r : Result (Unit {0}) Refusal) → Accepts command told found
-    → OnOk r ((text : List ℕ) × HasOutput command found text × Appends old.output new.output text) → OnOk r (IsComplete (built command) told old new)
+pub printed_complete : (command : Command) (told : Option Files) (old new : Outside) (found : Found) (r : Result (Unit {0}) PrintFault) → Accepts command told found
+    → OnOk r ((text : List ℕ) × HasOutput command found text × Appends old.output new.output text) → OnOk (refused r) (IsComplete (built command) told old new)
 printed_complete command None old new found (Ok done) accepts whole = tt
 printed_complete command (Some files) old new found (Ok done) accepts (text, is_output, whole) = (found, accepts, text, is_output, whole)
 printed_complete command told old new found (Err e) accepts whole = tt
 
-reason_fits : (command : Command) (told : Option Files) (before now : ℕ) (found : Found) (a : Reason) → Accepts command told found → IsPrintCause before now a
-    → IsReason (built command) told a
-reason_fits command None before now found reason.WriteFault accepts cause = tt
-reason_fits command (Some files) before now found reason.WriteFault accepts cause = (found, accepts)
-reason_fits command told before now found reason.NoMemory accepts cause = tt
-reason_fits command told before now found a accepts cause = absurd cause
+reason_fits : (command : Command) (told : Option Files) (before now : ℕ) (found : Found) (a : PrintFault) → Accepts command told found → IsPrintCause before now a
+    → IsReason (built command) told (reason_of (refusal_of a))
+reason_fits command None before now found fault.Write accepts cause = tt
+reason_fits command (Some files) before now found fault.Write accepts cause = (found, accepts)
+reason_fits command told before now found fault.NoMemory accepts cause = tt
 
-reason_caused : (old new : Outside) (a : Reason) → IsPrintCause old.write_faults new.write_faults a → IsCaused old new a
-reason_caused old new reason.WriteFault cause = cause
-reason_caused old new reason.NoMemory cause = tt
-reason_caused old new a cause = absurd cause
+reason_caused : (old new : Outside) (a : PrintFault) → IsPrintCause old.write_faults new.write_faults a → IsCaused old new (reason_of (refusal_of a))
+reason_caused old new fault.Write cause = cause
+reason_caused old new fault.NoMemory cause = tt
 
 -- the sink for the output
 abbrev output_of : Outside → SinkState
@@ -46,27 +43,26 @@ got_accepted : (command : Command) (told : Option Files) (old new : Outside) (fo
 got_accepted command None old new found accepts got = tt
 got_accepted command (Some files) old new found accepts (text, is_output, prefix) = (found, accepts, text, is_output, prefix)
 
-reason_cut : (command : Command) (told : Option Files) (old new : Outside) (found : Found) (a : Reason) → Accepts command told found
+reason_cut : (command : Command) (told : Option Files) (old new : Outside) (found : Found) (a : PrintFault) → Accepts command told found
     → IsPrintCause old.write_faults new.write_faults a → IsBroken (HasOutput command found) (output_of old) (output_of new) a
-    → IsCut (built command) told old new a
-reason_cut command told old new found reason.WriteFault accepts cause got = got_accepted command told old new found accepts got
-reason_cut command told old new found reason.NoMemory accepts cause (inl nothing) = inl nothing
-reason_cut command told old new found reason.NoMemory accepts cause (inr got) = inr (got_accepted command told old new found accepts got)
-reason_cut command told old new found a accepts cause got = absurd cause
+    → IsCut (built command) told old new (reason_of (refusal_of a))
+reason_cut command told old new found fault.Write accepts cause got = got_accepted command told old new found accepts got
+reason_cut command told old new found fault.NoMemory accepts cause (inl nothing) = inl nothing
+reason_cut command told old new found fault.NoMemory accepts cause (inr got) = inr (got_accepted command told old new found accepts got)
 
 module _ (command : Command) (told : Option Files) (old new : Outside) (found : Found) (accepts : Accepts command told found) where
-  pub printed_fits : (r : Result (Unit {0}) Refusal) → IfErr r (λ refusal. IsPrintCause old.write_faults new.write_faults (reason_of refusal))
-      → IfErr r (λ refusal. IsReason (built command) told (reason_of refusal))
+  pub printed_fits : (r : Result (Unit {0}) PrintFault) → IfErr r (IsPrintCause old.write_faults new.write_faults)
+      → IfErr (refused r) (λ refusal. IsReason (built command) told (reason_of refusal))
   printed_fits (Ok done) cause = tt
-  printed_fits (Err e) cause = reason_fits command told old.write_faults new.write_faults found (reason_of e) accepts cause
+  printed_fits (Err e) cause = reason_fits command told old.write_faults new.write_faults found e accepts cause
 
-  pub printed_caused : (r : Result (Unit {0}) Refusal) → IfErr r (λ refusal. IsPrintCause old.write_faults new.write_faults (reason_of refusal))
-      → IfErr r (λ refusal. IsCaused old new (reason_of refusal))
+  pub printed_caused : (r : Result (Unit {0}) PrintFault) → IfErr r (IsPrintCause old.write_faults new.write_faults)
+      → IfErr (refused r) (λ refusal. IsCaused old new (reason_of refusal))
   printed_caused (Ok done) cause = tt
-  printed_caused (Err e) cause = reason_caused old new (reason_of e) cause
+  printed_caused (Err e) cause = reason_caused old new e cause
 
-  pub printed_cut : (r : Result (Unit {0}) Refusal) → IfErr r (λ refusal. IsPrintCause old.write_faults new.write_faults (reason_of refusal))
-      → IfErr r (λ refusal. IsBroken (HasOutput command found) (output_of old) (output_of new) (reason_of refusal))
-      → IfErr r (λ refusal. IsCut (built command) told old new (reason_of refusal))
+  pub printed_cut : (r : Result (Unit {0}) PrintFault) → IfErr r (IsPrintCause old.write_faults new.write_faults)
+      → IfErr r (IsBroken (HasOutput command found) (output_of old) (output_of new))
+      → IfErr (refused r) (λ refusal. IsCut (built command) told old new (reason_of refusal))
   printed_cut (Ok done) cause part = tt
-  printed_cut (Err e) cause part = reason_cut command told old new found (reason_of e) accepts cause part
+  printed_cut (Err e) cause part = reason_cut command told old new found e accepts cause part

@@ -1,16 +1,16 @@
 use Rattle.std.proofs.Common.{◌≡◌, Result, Ok, Err, ap, length, sym, take}
 use Rattle.tdp_core.specs.AnswerView.{AnswerView}
 use Rattle.std.specs.Prelude.{IsErrAnd}
-use Rattle.refusal_lines.specs.declared.refusal.Refusal.{Refusal}
-use Rattle.refusal_lines.specs.declared.refusal.Refusal.TheVariants as refusal
+use Rattle.refusal_lines.specs.declared.fault.PrintFault.{PrintFault}
+use Rattle.refusal_lines.specs.declared.fault.PrintFault.TheVariants as fault
 use Rattle.refusal_lines.proofs.Prints.{unprinted}
 use Rattle.command_load.proofs.Members.{calls_map, ends_text_lem, first_rows, last_rows}
 use Rattle.command_load.proofs.printing.print_summary.Goals as goal
 
 -- memory was refused
-out_of_memory : (r : Result (Unit {0}) Refusal) → IsErrAnd r (λ e. e ≡ refusal.NoMemory) → r ≡ Err refusal.NoMemory
+out_of_memory : (r : Result (Unit {0}) PrintFault) → IsErrAnd r (λ e. e ≡ fault.NoMemory) → r ≡ Err fault.NoMemory
 out_of_memory (Ok done) h = absurd h
-out_of_memory (Err e) h = ap (λ (e : Refusal). Err e) h
+out_of_memory (Err e) h = ap (λ (e : PrintFault). Err e) h
 
 pub returns-in_err-ends-clause-printed : goal.returns-in_err-ends-clause-printed
 returns-in_err-ends-clause-printed g c =

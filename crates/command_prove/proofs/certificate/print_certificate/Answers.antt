@@ -1,6 +1,6 @@
 use Rattle.std.proofs.Common.{◌≡◌, Err, List, refl, rules, subst, sym}
 use Rattle.proof_model.specs.ProofTexts.{IsProofText}
-use Rattle.refusal_lines.specs.declared.refusal.Refusal.TheVariants as refusal
+use Rattle.refusal_lines.specs.declared.fault.PrintFault.TheVariants as fault
 use Rattle.refusal_lines.proofs.Prints.{none_printed}
 use Rattle.tdp_core.specs.Solutions.{IsTreeRanking}
 use Rattle.tdp_core.specs.TreeView.{NodeView}
@@ -12,7 +12,7 @@ engine_over-requires g c = record { tie_free = c.requires.plan.2.whole.tie_free 
 pub returns-in_err-chosen : goal.returns-in_err-chosen
 returns-in_err-chosen g c = record {
   printed = λ tables fits is.
-      let e : c.from_residual.result ≡ Err refusal.NoMemory = search rules in
+      let e : c.from_residual.result ≡ Err fault.NoMemory = search rules in
       rw e (none_printed (IsProofText c.args.query.now.query tables) _);
 }
 

@@ -1,13 +1,13 @@
 use Rattle.std.proofs.Common.{◌≡◌, Err, rules}
 use Rattle.proof_model.specs.ProofTexts.{IsProofText}
-use Rattle.refusal_lines.specs.declared.refusal.Refusal.TheVariants as refusal
+use Rattle.refusal_lines.specs.declared.fault.PrintFault.TheVariants as fault
 use Rattle.refusal_lines.proofs.Prints.{none_printed, printed_some}
 use Rattle.command_prove.proofs.printing.print_proof.Goals as goal
 
 pub returns-in_err-text : goal.returns-in_err-text
 returns-in_err-text g c = record {
   printed = λ tables plan fits is same.
-      let e : c.from_residual.result ≡ Err refusal.NoMemory = search rules in
+      let e : c.from_residual.result ≡ Err fault.NoMemory = search rules in
       rw e (none_printed (IsProofText c.args.query.now.query tables) _);
 }
 

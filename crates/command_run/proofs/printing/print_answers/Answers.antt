@@ -3,7 +3,7 @@ use Rattle.anyk_model.specs.Output.{line_text}
 use Rattle.anyk_model.specs.Query.{IsCombination, row_counts}
 use Rattle.answer_print.specs.StyleView.{style_view}
 use Rattle.tdp_core.specs.AnswerView.{AnswerView}
-use Rattle.refusal_lines.specs.declared.refusal.Refusal.TheVariants as refusal
+use Rattle.refusal_lines.specs.declared.fault.PrintFault.TheVariants as fault
 use Rattle.witness_key.specs.WitnessKey.{combinations_in}
 use Rattle.step_bounds.proofs.Pacing.{calls_more, calls_same, paced}
 use Rattle.refusal_lines.proofs.Prints.{appends_nothing}
@@ -15,7 +15,7 @@ pub returns-in_err-answer-clause-printed : goal.returns-in_err-answer-clause-pri
 returns-in_err-answer-clause-printed g c =
     let query = c.args.query.now.query in
     let tables = c.args.tables.now in
-    let e : c.from_residual.result ≡ Err refusal.NoMemory = search rules in
+    let e : c.from_residual.result ≡ Err fault.NoMemory = search rules in
     let low = limit_within query.limit c.loop-given._given _ _ (rw c.limit.ensures at c.unwrap_or-most.ensures) c.loop-given-test.true in
     rw e (stopped_short (λ (a : AnswerView). IsCombination (row_counts query.items tables) (take (length query.items) a.rows)) (line_text query tables (style_view c.args.style.now)) (λ (a : AnswerView). take (length query.items) a.rows) (combinations_in query (g.E.Ranked.rest c.args.engine.now))
     c.loop-given._given query.limit _ _ _ low c.loop-given.invariant.given)

@@ -2,7 +2,7 @@ use Rattle.std.proofs.Common.{◌≡◌, ◌+◌, ◌-◌, ◌++◌, ℕ, List, 
 use Rattle.std.specs.Prelude.{codes, slice_set}
 use Rattle.std.proofs.lemmas.List.{set-get_or}
 use Rattle.anyk_model.specs.Query.{IsCombination, row_counts}
-use Rattle.refusal_lines.specs.declared.refusal.Refusal.TheVariants as refusal
+use Rattle.refusal_lines.specs.declared.fault.PrintFault.TheVariants as fault
 use Rattle.refusal_lines.specs.Printing.{Printed}
 use Rattle.refusal_lines.specs.SinkState.{state_of}
 use Rattle.verdict.specs.Session.{next_text}
@@ -179,7 +179,7 @@ returns-clause-kept g c = c.loop-given.invariant.answers
 pub returns-in_err-answer : goal.returns-in_err-answer
 returns-in_err-answer g c =
     let loop = (goal.at.returns-in_err-answer g c).At-loop-given in
-    let e : c.from_residual.result ≡ Err refusal.NoMemory = search rules in
+    let e : c.from_residual.result ≡ Err fault.NoMemory = search rules in
     rw e (record {
       printed = left_unprinted (whole g loop) (left g loop) _ _ c.loop-given.invariant.left;
       moved = tt;

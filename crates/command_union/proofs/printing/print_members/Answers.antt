@@ -1,7 +1,7 @@
 use Rattle.std.proofs.Common.{◌≡◌, ◌≤◌, [], ℕ, Option, None, Err, IfSome, map, refl, subst, sym, arith, rules}
 use Rattle.answer_print.specs.StyleView.{style_view}
 use Rattle.bound_query.specs.WeighedQuery.{BoundQuery}
-use Rattle.refusal_lines.specs.declared.refusal.Refusal.TheVariants as refusal
+use Rattle.refusal_lines.specs.declared.fault.PrintFault.TheVariants as fault
 use Rattle.step_bounds.proofs.Calls.{limit_below, limit_reached, limit_within}
 use Rattle.refusal_lines.proofs.Prints.{appends_nothing}
 use Rattle.union_list.specs.TaggedRows.{tagged}
@@ -24,7 +24,7 @@ returns-in_err-tagged-clause-printed g c =
     let all = map (λ (q : BoundQuery). q.query) c.args.queries.now in
     let tables = c.args.tables.now in
     let f = union_line_text all tables (style_view c.args.style.now) in
-    let e : c.from_residual.result ≡ Err refusal.NoMemory = search rules in
+    let e : c.from_residual.result ≡ Err fault.NoMemory = search rules in
     let low = limit_within c.args.limit c.loop-given._given _ _ c.unwrap_or-most.ensures c.loop-given-test.true in
     rw e (stopped_short (IsMember all tables) f itself c.args.merge.now.rest
     c.loop-given._given c.args.limit _ _ _ low c.loop-given.invariant.given)

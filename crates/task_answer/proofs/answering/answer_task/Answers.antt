@@ -55,7 +55,7 @@ returns-in-Ok-clause-done g c =
     let after : Shelved = shelved g.F.Shelf c.plan_task.new.shelf in
     let found : Found = found_in c.in-Ok.planned in
     let accepts = judged_accepts (command_of c.args.task.now) before after found c.in-Ok.ensures.judged in
-    printed_complete (command_of c.args.task.now) (known_to (built (command_of c.args.task.now)) (g.F.Shelf.files c.args.shelf.now)) old new found c.print_planned.result accepts c.print_planned.ensures.printed.whole
+    rw c.refused.ensures (printed_complete (command_of c.args.task.now) (known_to (built (command_of c.args.task.now)) (g.F.Shelf.files c.args.shelf.now)) old new found c.print_planned.result accepts c.print_planned.ensures.printed.whole)
 
 pub returns-in-Ok-clause-fits : goal.returns-in-Ok-clause-fits
 returns-in-Ok-clause-fits g c =
@@ -65,7 +65,7 @@ returns-in-Ok-clause-fits g c =
     let after : Shelved = shelved g.F.Shelf c.plan_task.new.shelf in
     let found : Found = found_in c.in-Ok.planned in
     let accepts = judged_accepts (command_of c.args.task.now) before after found c.in-Ok.ensures.judged in
-    printed_fits (command_of c.args.task.now) (known_to (built (command_of c.args.task.now)) (g.F.Shelf.files c.args.shelf.now)) old new found accepts c.print_planned.result c.print_planned.ensures.printed.cause
+    rw c.refused.ensures (printed_fits (command_of c.args.task.now) (known_to (built (command_of c.args.task.now)) (g.F.Shelf.files c.args.shelf.now)) old new found accepts c.print_planned.result c.print_planned.ensures.printed.cause)
 
 pub returns-in-Ok-clause-caused : goal.returns-in-Ok-clause-caused
 returns-in-Ok-clause-caused g c =
@@ -75,7 +75,7 @@ returns-in-Ok-clause-caused g c =
     let after : Shelved = shelved g.F.Shelf c.plan_task.new.shelf in
     let found : Found = found_in c.in-Ok.planned in
     let accepts = judged_accepts (command_of c.args.task.now) before after found c.in-Ok.ensures.judged in
-    printed_caused (command_of c.args.task.now) (known_to (built (command_of c.args.task.now)) (g.F.Shelf.files c.args.shelf.now)) old new found accepts c.print_planned.result c.print_planned.ensures.printed.cause
+    rw c.refused.ensures (printed_caused (command_of c.args.task.now) (known_to (built (command_of c.args.task.now)) (g.F.Shelf.files c.args.shelf.now)) old new found accepts c.print_planned.result c.print_planned.ensures.printed.cause)
 
 pub returns-in-Ok-clause-cut : goal.returns-in-Ok-clause-cut
 returns-in-Ok-clause-cut g c =
@@ -85,7 +85,7 @@ returns-in-Ok-clause-cut g c =
     let after : Shelved = shelved g.F.Shelf c.plan_task.new.shelf in
     let found : Found = found_in c.in-Ok.planned in
     let accepts = judged_accepts (command_of c.args.task.now) before after found c.in-Ok.ensures.judged in
-    printed_cut (command_of c.args.task.now) (known_to (built (command_of c.args.task.now)) (g.F.Shelf.files c.args.shelf.now)) old new found accepts c.print_planned.result c.print_planned.ensures.printed.cause c.print_planned.ensures.printed.part
+    rw c.refused.ensures (printed_cut (command_of c.args.task.now) (known_to (built (command_of c.args.task.now)) (g.F.Shelf.files c.args.shelf.now)) old new found accepts c.print_planned.result c.print_planned.ensures.printed.cause c.print_planned.ensures.printed.part)
 
 pub returns-in-Ok-clause-bounded : goal.returns-in-Ok-clause-bounded
 returns-in-Ok-clause-bounded g c =

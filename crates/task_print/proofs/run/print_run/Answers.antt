@@ -1,6 +1,6 @@
 use Rattle.std.proofs.Common.{◌≡◌, Err, rules}
 use Rattle.engine_choice.specs.Engines.{calls_of, tree_of}
-use Rattle.refusal_lines.specs.declared.refusal.Refusal.TheVariants as refusal
+use Rattle.refusal_lines.specs.declared.fault.PrintFault.TheVariants as fault
 use Rattle.refusal_lines.proofs.Prints.{unprinted}
 use Rattle.plan_build.proofs.Rooted.{whole_of}
 use Rattle.plan_build.proofs.ShapeIs.{rows_counted}
@@ -9,7 +9,7 @@ use Rattle.task_print.proofs.run.print_run.Goals as goal
 
 pub returns-in_err-chosen-clause-printed : goal.returns-in_err-chosen-clause-printed
 returns-in_err-chosen-clause-printed g c =
-    let e : c.from_residual.result ≡ Err refusal.NoMemory = search rules in
+    let e : c.from_residual.result ≡ Err fault.NoMemory = search rules in
     rw e (unprinted _ _)
 
 pub engine_over-requires : goal.engine_over-requires

@@ -1,7 +1,7 @@
 use Rattle.std.proofs.Common.{◌≡◌, ◌≤◌, ◌+◌, ◌-◌, ◌*◌, ℕ, Err, arith, rules}
 use Rattle.best_list.specs.BestList.{list_of}
 use Rattle.engine_choice.specs.Engines.{calls_of, tree_of}
-use Rattle.refusal_lines.specs.declared.refusal.Refusal.TheVariants as refusal
+use Rattle.refusal_lines.specs.declared.fault.PrintFault.TheVariants as fault
 use Rattle.refusal_lines.proofs.Prints.{unprinted}
 use Rattle.step_bounds.specs.Steps.{steps_for}
 use Rattle.tdp_core.specs.Shares.{share_of, size_of}
@@ -13,7 +13,7 @@ use Rattle.task_print.proofs.session.print_script.Goals as goal
 
 pub returns-in_err-chosen-clause-printed : goal.returns-in_err-chosen-clause-printed
 returns-in_err-chosen-clause-printed g c =
-    let e : c.from_residual.result ≡ Err refusal.NoMemory = search rules in
+    let e : c.from_residual.result ≡ Err fault.NoMemory = search rules in
     rw e (unprinted _ _)
 
 pub engine_over-requires : goal.engine_over-requires

@@ -63,23 +63,23 @@ returns-in-Err-clause-cut g c =
 pub returns-in-Ok-clause-done : goal.returns-in-Ok-clause-done
 returns-in-Ok-clause-done g c =
     let end = (goal.at.returns-in-Ok-clause-done g c).After-print_checked in
-    printed_complete (command g end) (g.F.Shelf.files c.args.shelf.now) (old g end) (new g end) (found g end) c.print_checked.result
-    (accepts g end) (shown g end).whole
+    rw c.refused.ensures (printed_complete (command g end) (g.F.Shelf.files c.args.shelf.now) (old g end) (new g end) (found g end) c.print_checked.result
+    (accepts g end) (shown g end).whole)
 
 pub returns-in-Ok-clause-fits : goal.returns-in-Ok-clause-fits
 returns-in-Ok-clause-fits g c =
     let end = (goal.at.returns-in-Ok-clause-fits g c).After-print_checked in
-    printed_fits (command g end) (g.F.Shelf.files c.args.shelf.now) (old g end) (new g end) (found g end) (accepts g end)
-    c.print_checked.result (shown g end).cause
+    rw c.refused.ensures (printed_fits (command g end) (g.F.Shelf.files c.args.shelf.now) (old g end) (new g end) (found g end) (accepts g end)
+    c.print_checked.result (shown g end).cause)
 
 pub returns-in-Ok-clause-caused : goal.returns-in-Ok-clause-caused
 returns-in-Ok-clause-caused g c =
     let end = (goal.at.returns-in-Ok-clause-caused g c).After-print_checked in
-    printed_caused (command g end) (g.F.Shelf.files c.args.shelf.now) (old g end) (new g end) (found g end) (accepts g end)
-    c.print_checked.result (shown g end).cause
+    rw c.refused.ensures (printed_caused (command g end) (g.F.Shelf.files c.args.shelf.now) (old g end) (new g end) (found g end) (accepts g end)
+    c.print_checked.result (shown g end).cause)
 
 pub returns-in-Ok-clause-cut : goal.returns-in-Ok-clause-cut
 returns-in-Ok-clause-cut g c =
     let end = (goal.at.returns-in-Ok-clause-cut g c).After-print_checked in
-    printed_cut (command g end) (g.F.Shelf.files c.args.shelf.now) (old g end) (new g end) (found g end) (accepts g end)
-    c.print_checked.result (shown g end).cause (shown g end).part
+    rw c.refused.ensures (printed_cut (command g end) (g.F.Shelf.files c.args.shelf.now) (old g end) (new g end) (found g end) (accepts g end)
+    c.print_checked.result (shown g end).cause (shown g end).part)

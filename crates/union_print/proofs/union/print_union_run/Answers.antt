@@ -2,7 +2,7 @@ use Rattle.std.proofs.Common.{◌≡◌, ◌∙◌, ℕ, List, Err, sym, subst, 
 use Rattle.anyk_model.specs.Query.{Query}
 use Rattle.command_union.specs.UnionSteps.{AreMembers}
 use Rattle.engine_choice.specs.Engines.{rest_of}
-use Rattle.refusal_lines.specs.declared.refusal.Refusal.TheVariants as refusal
+use Rattle.refusal_lines.specs.declared.fault.PrintFault.TheVariants as fault
 use Rattle.refusal_lines.proofs.Prints.{unprinted}
 use Rattle.union_all.specs.Merge.{AreLeft, rests_of}
 use Rattle.union_all.proofs.Rankings.{rankings_left}
@@ -33,7 +33,7 @@ module _ (g : Over) where
 
 pub returns-in_err-arenas-clause-printed : goal.returns-in_err-arenas-clause-printed
 returns-in_err-arenas-clause-printed g c =
-    let e : c.from_residual.result ≡ Err refusal.NoMemory = search rules in
+    let e : c.from_residual.result ≡ Err fault.NoMemory = search rules in
     rw e (unprinted _ _)
 
 pub returns-in_err-arenas-clause-bounded : goal.returns-in_err-arenas-clause-bounded
@@ -50,7 +50,7 @@ engines_over-requires-clause-tie_free g c =
 
 pub returns-in_err-engines-clause-printed : goal.returns-in_err-engines-clause-printed
 returns-in_err-engines-clause-printed g c =
-    let e : c.from_residual-in_err-engines.result ≡ Err refusal.NoMemory = search rules in
+    let e : c.from_residual-in_err-engines.result ≡ Err fault.NoMemory = search rules in
     rw e (unprinted _ _)
 
 pub returns-in_err-engines-clause-bounded : goal.returns-in_err-engines-clause-bounded
@@ -81,7 +81,7 @@ new-requires-clause-left g c =
 
 pub returns-in_err-merge-clause-printed : goal.returns-in_err-merge-clause-printed
 returns-in_err-merge-clause-printed g c =
-    let e : c.from_residual-in_err-merge.result ≡ Err refusal.NoMemory = search rules in
+    let e : c.from_residual-in_err-merge.result ≡ Err fault.NoMemory = search rules in
     rw e (unprinted _ _)
 
 pub returns-in_err-merge-clause-bounded : goal.returns-in_err-merge-clause-bounded
