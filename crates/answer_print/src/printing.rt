@@ -17,7 +17,7 @@ use refusal_lines::{PrintFault, print};
 use std::alloc::Global;
 use table_store::Tables;
 
-/// Prints the header. `records` keeps the memory for it. `WriteFault` if the write failed, and
+/// Prints the header. `records` keeps the memory for it. `Write` if the write failed, and
 /// `NoMemory` if memory is refused.
 pub fn print_header<S: Sink>(
     alloc: Global,
@@ -36,7 +36,7 @@ pub fn print_header<S: Sink>(
 }
 
 /// Prints the record of the answer with these rows, one for each item, counted from 1. `records`
-/// keeps the memory for it. `WriteFault` if the write failed, and `NoMemory` if memory is refused.
+/// keeps the memory for it. `Write` if the write failed, and `NoMemory` if memory is refused.
 pub fn print_answer<S: Sink>(
     records: &mut RecordWriter,
     query: &Query,

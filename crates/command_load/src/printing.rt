@@ -20,7 +20,7 @@ use table_store::Tables;
 use tdp_core::Ranked;
 
 /// Takes the answers that the engine has left, as many as the limit allows, and then prints their
-/// summary. `NoMemory` if memory is refused, and `WriteFault` if the write failed.
+/// summary. `NoMemory` if memory is refused, and `Write` if the write failed.
 pub fn print_summary<E: Ranked, S: Sink, L: Ledger>(
     alloc: Global,
     query: &Query,

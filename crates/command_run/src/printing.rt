@@ -21,7 +21,7 @@ use table_store::Tables;
 use tdp_core::Ranked;
 
 /// Prints the header, and then the answers that the engine has left, as many as the limit allows.
-/// `NoMemory` if memory is refused, and `WriteFault` if a write failed.
+/// `NoMemory` if memory is refused, and `Write` if a write failed.
 pub fn print_ranking<E: Ranked, S: Sink, L: Ledger>(
     alloc: Global,
     query: &Query,

@@ -34,7 +34,7 @@ use tdp_core::Ranked;
 
 /// Prints the header with the title of the cursors' names, and then what the steps of the script
 /// print of the answers that the engine has left, as far as the limit allows. `NoMemory` if memory
-/// is refused, and `WriteFault` if a write failed. The engine is called only for places that a
+/// is refused, and `Write` if a write failed. The engine is called only for places that a
 /// cursor reaches for the first time. Each call for a member takes at most 4 more counted steps.
 pub fn print_session<E: Ranked + Drop, S: Sink, L: Ledger>(
     alloc: Global,

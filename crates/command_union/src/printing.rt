@@ -24,7 +24,7 @@ use tdp_core::Ranked;
 use union_all::{Merge, Tagged, write_header_of, write_line_of};
 
 /// Prints the header, and then the members that the merge has left, as many as the limit allows.
-/// `NoMemory` if memory is refused, and `WriteFault` if a write failed.
+/// `NoMemory` if memory is refused, and `Write` if a write failed.
 pub fn print_union<'q, E: Ranked + Drop, S: Sink, L: Ledger>(
     alloc: Global,
     queries: &[Query],
@@ -67,7 +67,7 @@ pub fn print_union<'q, E: Ranked + Drop, S: Sink, L: Ledger>(
     )
 }
 
-/// Prints the record above the members. `records` keeps the memory for it. `WriteFault` if the write failed, and `NoMemory` if memory
+/// Prints the record above the members. `records` keeps the memory for it. `Write` if the write failed, and `NoMemory` if memory
 /// is refused.
 fn print_union_header<S: Sink>(
     alloc: Global,
@@ -124,7 +124,7 @@ fn print_members<'q, E: Ranked + Drop, S: Sink, L: Ledger>(
     Ok(())
 }
 
-/// Prints the record of a member. `records` keeps the memory for it. `WriteFault` if the write
+/// Prints the record of a member. `records` keeps the memory for it. `Write` if the write
 /// failed, and `NoMemory` if memory is refused.
 fn print_member<S: Sink>(
     records: &mut RecordWriter,

@@ -17,7 +17,7 @@ use std::alloc::Global;
 use table_store::Tables;
 
 /// Prints the header, and then the record of each answer. An answer is a row for each item, from 1.
-/// `NoMemory` if memory is refused, and `WriteFault` if a write failed.
+/// `NoMemory` if memory is refused, and `Write` if a write failed.
 pub fn print_listed<S: Sink>(
     alloc: Global,
     query: &Query,

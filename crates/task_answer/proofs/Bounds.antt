@@ -28,7 +28,7 @@ use Rattle.verdict.specs.Verdict.{IsStructured}
 use Rattle.verdict.specs.Words.{Asked, Command, Words, built, run, plan, session, load, prove, verify}
 use Rattle.verdict.proofs.Structure.{shapes_had}
 use Rattle.task_plan.specs.Plans.{IsEarlyFor, IsEarlyWithin}
-use Rattle.union_print.proofs.Prepared.{prepared_over, union_prepared}
+use Rattle.task_answer.proofs.Prepared.{prepared_over, union_prepared}
 use Rattle.task_plan.proofs.Judging.{verdict_structured}
 
 -- ---- the steps of a preparation

@@ -21,9 +21,14 @@ ghost use Rattle.task_plan.specs.Plans.{found_in, shape_in, shapes_of};
 ghost use Rattle.task_plan.specs.Tasks.{command_of};
 ghost use Rattle.verdict.specs.Sides.{seen_by};
 
+use crate::certificate::print_certificate;
+use crate::load::print_load;
+use crate::plan::print_report;
+use crate::run::print_run;
+use crate::session::print_script;
 use crate::style::style_in;
+use crate::union::print_union_run;
 use bound_query::Query;
-use command_prove::print_certificate;
 use hash_keys::Keys;
 use input_load::Input;
 use outer_io::{Shelf, Sink};
@@ -36,8 +41,6 @@ use std::sync::ledger::Ledger;
 use step_counter::Steps;
 use table_store::Tables;
 use task_plan::{Planned, Plans, Task, plan_task};
-use task_print::{print_load, print_report, print_run, print_script};
-use union_print::print_union_run;
 
 /// Reads or makes the input of the command, plans its query, and prints the command's output. The
 /// result is an error if the input is refused, if a read or a write failed, or if memory is

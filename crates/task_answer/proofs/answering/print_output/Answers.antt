@@ -11,7 +11,7 @@ use Rattle.task_plan.specs.Judgement.{IsUnnamed}
 use Rattle.task_plan.specs.Tasks.{command_of}
 use Rattle.task_plan.specs.declared.task.Task.{Task}
 use Rattle.plan_build.proofs.ShapeIs.{plan_shape}
-use Rattle.union_print.proofs.Prepared.{prepared_over}
+use Rattle.task_answer.proofs.Prepared.{prepared_over}
 use Rattle.plan_build.proofs.Rooted.{whole_of}
 use Rattle.task_answer.proofs.answering.print_output.Goals as goal
 

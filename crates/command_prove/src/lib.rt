@@ -1,8 +1,0 @@
-//! The command `prove`: the text of a certificate, by one write.
-#![tactic(auto)]
-
-mod certificate;
-mod printing;
-
-pub use certificate::print_certificate;
-pub use printing::print_proof;

@@ -1,0 +1,34 @@
+use Rattle.std.proofs.Common.{◌≡◌, Err, List, refl, rules, subst, sym}
+use Rattle.proof_model.specs.ProofTexts.{IsProofText}
+use Rattle.refusal_lines.specs.declared.fault.PrintFault.TheVariants as fault
+use Rattle.refusal_lines.proofs.Prints.{none_printed}
+use Rattle.tdp_core.specs.Solutions.{IsTreeRanking}
+use Rattle.tdp_core.specs.TreeView.{NodeView}
+use Rattle.task_answer.proofs.certificate.print_certificate.Goals as goal
+
+pub engine_over-requires : goal.engine_over-requires
+engine_over-requires g c = record { tie_free = c.requires.plan.2.whole.tie_free }
+
+pub returns-in_err-chosen : goal.returns-in_err-chosen
+returns-in_err-chosen g c = record {
+  printed = λ tables fits is.
+      let e : c.from_residual.result ≡ Err fault.NoMemory = search rules in
+      rw e (none_printed (IsProofText c.args.query.now.query tables) _);
+}
+
+pub print_proof-printed-requires : goal.print_proof-printed-requires
+print_proof-printed-requires g c =
+    let plan = c.requires.plan in
+    let ranking = c.in_ok-chosen.ensures.ranking refl in
+    record {
+      planned = (plan.0, c.args.plan.now, plan.1, plan.2, sym c.tree.ensures);
+      rest = (
+        ranking.0,
+        subst (λ (t : List (NodeView g.row.R.Denot)). IsTreeRanking t g.R.Rank.KEYS g.R.Rank.key ranking.0) (sym c.tree.ensures) ranking.1,
+        ranking.2,
+      );
+    }
+
+pub returns : goal.returns
+returns g c =
+    record { printed = λ tables fits is. c.print_proof-printed.ensures.printed tables c.args.plan.now fits is (sym c.tree.ensures) }

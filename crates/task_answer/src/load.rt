@@ -1,0 +1,52 @@
+//! The command `load`.
+ghost use Rattle.std.specs.Prelude.{ℕ};
+ghost use Rattle.anyk_model.specs.Output.{cut};
+ghost use Rattle.best_list.specs.BestList.{list_of};
+ghost use Rattle.plan_model.specs.Plan.{IsPlanOf};
+ghost use Rattle.bound_query.specs.WeighedQuery.{Fits};
+ghost use Rattle.refusal_lines.specs.Printing.{Printed};
+ghost use Rattle.refusal_lines.specs.SinkState.{state_of};
+ghost use Rattle.step_bounds.specs.RunBounds.{IsPrepared, KeepsBound};
+ghost use Rattle.verdict.specs.Summary.{summary_text};
+
+use bound_query::Query;
+use bumpalo::Bump;
+use cmd_words::Engine;
+use command_load::print_summary;
+use outer_io::Sink;
+use plan_build::Plan;
+use plan_engine::engine_over;
+use rank_key::Rank;
+use refusal_lines::PrintFault;
+use std::alloc::Global;
+use std::sync::ledger::Ledger;
+use step_counter::Steps;
+use table_store::Tables;
+
+/// Takes the first answers of the query, as many as the limit allows, and then prints their
+/// summary. `Write` if the write failed, and `NoMemory` if memory is refused.
+pub fn print_load<R: Rank, S: Sink, L: Ledger>(
+    alloc: Global,
+    engine: Engine,
+    plan: &Plan<R>,
+    query: &Query,
+    tables: &Tables,
+    best: Option<u32>,
+    out: &mut S,
+    steps: &mut Steps<L>,
+) -> Result<(), PrintFault>
+    requires fits { Fits query.now tables.now }
+    requires plan { IsPlanOf R.KEYS R.key query.now tables.now best plan.now }
+    ensures printed { Printed (state_of S.Sink out.old) (state_of S.Sink out.new)
+        (summary_text query.now.query tables.now
+        (cut query.now.query.limit (list_of query.now.query tables.now best))) result }
+    ensures bounded { (before : ℕ) → IsPrepared query.now.query tables.now before steps.old
+        → KeepsBound query.now.query tables.now
+        (list_of query.now.query tables.now best) before steps.new }
+{
+    let arena = Bump::new(alloc);
+    let mut chosen = engine_over(alloc, engine, plan, best, &arena, steps)?;
+    let printed = print_summary(alloc, query, tables, &mut chosen, out, steps);
+    drop(chosen);
+    printed
+}

@@ -1,0 +1,60 @@
+//! The command `session`.
+ghost use Rattle.std.specs.Prelude.{[], ℕ};
+ghost use Rattle.anyk_model.specs.Output.{cut};
+ghost use Rattle.answer_print.specs.StyleView.{style_view};
+ghost use Rattle.best_list.specs.BestList.{list_of};
+ghost use Rattle.plan_model.specs.Plan.{IsPlanOf};
+ghost use Rattle.bound_query.specs.WeighedQuery.{Fits};
+ghost use Rattle.refusal_lines.specs.Printing.{Printed};
+ghost use Rattle.refusal_lines.specs.SinkState.{state_of};
+ghost use Rattle.session_script.specs.Script.{KeepsRules};
+ghost use Rattle.step_bounds.specs.RunBounds.{IsPrepared};
+ghost use Rattle.verdict.specs.Session.{session_text};
+ghost use Rattle.verdict.specs.SessionBound.{KeepsSessionBound};
+
+use answer_print::Style;
+use bound_query::Query;
+use bumpalo::Bump;
+use cmd_words::Engine;
+use command_session::print_session;
+use outer_io::Sink;
+use plan_build::Plan;
+use plan_engine::engine_over;
+use rank_key::Rank;
+use refusal_lines::PrintFault;
+use session_script::Step;
+use std::alloc::Global;
+use std::sync::ledger::Ledger;
+use step_counter::Steps;
+use table_store::Tables;
+
+/// Prints the header with the title of the cursors' names, and then what the steps of the script
+/// print of the query's answers, as far as the limit allows: of all of them, or of the best answer
+/// of each row of the item, if one is named. `Write` if a write failed, and
+/// `NoMemory` if memory is refused.
+pub fn print_script<R: Rank, S: Sink, L: Ledger>(
+    alloc: Global,
+    engine: Engine,
+    style: &Style<'_>,
+    plan: &Plan<R>,
+    query: &Query,
+    tables: &Tables,
+    best: Option<u32>,
+    script: &[Step],
+    out: &mut S,
+    steps: &mut Steps<L>,
+) -> Result<(), PrintFault>
+    requires fits { Fits query.now tables.now }
+    requires plan { IsPlanOf R.KEYS R.key query.now tables.now best plan.now }
+    requires rules { KeepsRules [] script.now }
+    ensures printed { Printed (state_of S.Sink out.old) (state_of S.Sink out.new)
+        (session_text query.now.query tables.now (style_view style.now)
+        (cut query.now.query.limit (list_of query.now.query tables.now best)) script.now) result }
+    ensures bounded { (before : ℕ) → IsPrepared query.now.query tables.now before steps.old
+        → KeepsSessionBound query.now.query tables.now
+        (list_of query.now.query tables.now best) script.now before steps.new }
+{
+    let arena = Bump::new(alloc);
+    let chosen = engine_over(alloc, engine, plan, best, &arena, steps)?;
+    print_session(alloc, query, tables, style, chosen, script, out, steps)
+}

@@ -1,0 +1,112 @@
+//! The command `run` over several queries.
+ghost use Rattle.std.specs.Prelude.{◌≡◌, ◌≤◌, ◌+◌, None, IfOk, length, vec_len, ℕ};
+ghost use Rattle.std.specs.List.{All};
+ghost use Rattle.anyk_model.specs.Output.{cut};
+ghost use Rattle.answer_print.specs.StyleView.{style_view};
+ghost use Rattle.plan_model.specs.Plans.{ArePrepared, HavePlans};
+ghost use Rattle.bound_query.specs.WeighedQuery.{Fits};
+ghost use Rattle.refusal_lines.specs.Printing.{Printed};
+ghost use Rattle.refusal_lines.specs.SinkState.{state_of};
+ghost use Rattle.tdp_core.specs.WellFormed.{IsTieFreeTree};
+ghost use Rattle.union_list.specs.TaggedRows.{branch_at};
+ghost use Rattle.union_list.specs.Union.{union_of};
+ghost use Rattle.union_list.specs.UnionOutput.{union_output_of};
+ghost use Rattle.verdict.specs.AcceptedInput.{queries_in};
+ghost use Rattle.verdict.specs.UnionBound.{KeepsUnionBound, KeepsUnionPace};
+ghost use Rattle.task_answer.specs.Begun.{AreStarted, starts_of};
+
+use answer_print::Style;
+use bound_query::Query;
+use bumpalo::Bump;
+use cmd_words::Engine;
+use command_union::print_union;
+use engine_choice::ChosenEngine;
+use outer_io::Sink;
+use plan_build::Plan;
+use plan_engine::engine_over;
+use rank_key::Rank;
+use refusal_lines::PrintFault;
+use std::alloc::Global;
+use std::sync::ledger::Ledger;
+use step_counter::{NoMemory, Steps};
+use table_store::Tables;
+use union_all::Merge;
+
+/// Prints the header, and then the first members of the union of the queries' answers, as many as
+/// the limit allows, each as soon as it is known. `Write` if a write failed, and `NoMemory` if
+/// memory is refused.
+pub fn print_union_run<R: Rank, S: Sink, L: Ledger>(
+    alloc: Global,
+    engine: Engine,
+    style: &Style<'_>,
+    plans: &[Plan<R>],
+    queries: &[Query],
+    tables: &Tables,
+    out: &mut S,
+    steps: &mut Steps<L>,
+) -> Result<(), PrintFault>
+    requires some { 1 ≤ length queries.now }
+    requires few { length queries.now ≤ 8 }
+    requires fits { All (λ q. Fits q tables.now) queries.now }
+    requires plans { HavePlans R.KEYS R.key tables.now queries.now plans.now }
+    ensures printed { let all = queries_in queries.now in
+        Printed (state_of S.Sink out.old) (state_of S.Sink out.new)
+        (union_output_of all tables.now (style_view style.now)
+        (cut (branch_at all 0).limit (union_of all tables.now))) result }
+    ensures bounded { let all = queries_in queries.now in
+        (before : ℕ) → ArePrepared all tables.now before steps.old
+        → KeepsUnionBound all tables.now (cut (branch_at all 0).limit (union_of all tables.now))
+        before steps.new }
+    ensures paced { let all = queries_in queries.now in
+        (before : ℕ) → ArePrepared all tables.now before steps.old
+        → KeepsUnionPace all tables.now (cut (branch_at all 0).limit (union_of all tables.now))
+        (style_view style.now) (S.written out.old) (S.written out.new) before steps.new }
+{
+    let arenas = arenas_for(alloc, plans.len())?;
+    let engines = engines_over(alloc, engine, plans, arenas.as_slice(), steps)?;
+    let mut merge = Merge::new(alloc, queries, tables, engines, steps)?;
+    print_union(
+        alloc,
+        queries,
+        tables,
+        style,
+        queries[0].limit(),
+        &mut merge,
+        out,
+        steps,
+    )
+}
+
+/// This many arenas. `NoMemory` if memory is refused.
+fn arenas_for(alloc: Global, count: usize) -> Result<Vec<Bump>, NoMemory>
+    ensures { IfOk result (λ arenas. vec_len arenas ≡ count) }
+{
+    let mut arenas = Vec::with_capacity(alloc, count)?;
+    for _ in 0..count {
+        arenas.push(Bump::new(alloc))?;
+    }
+    Ok(arenas)
+}
+
+/// The engine over each plan, before its first answer, with the arena at its place. `NoMemory` if
+/// memory is refused.
+fn engines_over<'t, R: Rank, L: Ledger>(
+    alloc: Global,
+    engine: Engine,
+    plans: &'t [Plan<R>],
+    arenas: &'t [Bump],
+    steps: &mut Steps<L>,
+) -> Result<Vec<ChosenEngine<'t, R>>, NoMemory>
+    requires each { length arenas.now ≡ length plans.now }
+    requires tie_free { All (λ p. IsTieFreeTree p.tree) plans.now }
+    ensures started { IfOk result (λ engines. AreStarted R.KEYS R.key plans.now engines.items) }
+    ensures cost { steps.new ≤ steps.old + starts_of plans.now }
+{
+    let mut engines = Vec::with_capacity(alloc, plans.len())?;
+    for plan in plans {
+        let arena = &arenas[engines.len()];
+        let started = engine_over(alloc, engine, plan, None, arena, steps)?;
+        engines.push(started)?;
+    }
+    Ok(engines)
+}

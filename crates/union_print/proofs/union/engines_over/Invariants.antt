@@ -1,5 +1,0 @@
-use Rattle.union_print.proofs.UnionRun.{HasStarted}
-use Rattle.union_print.proofs.union.engines_over.Given as goal
-
-abbrev pub invariant-loop-plan : goal.invariant-loop-plan
-invariant-loop-plan g l = HasStarted g.R.Rank.KEYS g.R.Rank.key l.plans l.plan-index l.engines.items l.fn.steps l.steps
