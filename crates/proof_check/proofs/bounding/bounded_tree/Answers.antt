@@ -1,6 +1,6 @@
 use Rattle.std.proofs.Common.{◌≡◌, Err, rules}
 use Rattle.proof_text.specs.ProofView.{proof_view}
-use Rattle.proof_rows.proofs.bounding.bounded_tree.Goals as goal
+use Rattle.proof_check.proofs.bounding.bounded_tree.Goals as goal
 
 pub returns-in_err-raw-clause-fault : goal.returns-in_err-raw-clause-fault
 returns-in_err-raw-clause-fault g c =
