@@ -12,3 +12,5 @@ pub mod Witnesses
 pub mod PlanRows
 pub mod Lines
 pub mod ShapeIs
+pub mod AnswersAgree
+pub mod Places

@@ -9,7 +9,7 @@ use Rattle.bound_query.specs.WeighedQuery.{BoundQuery}
 use Rattle.join_tree.specs.Rerooting.{IsTree}
 use Rattle.query_shape.specs.Shape.{Shape}
 use Rattle.query_shape.specs.JoinTreeView.{HasItems}
-use Rattle.plan_model.specs.Plan.{IsPlanFor, PlanView, shape_of}
+use Rattle.plan_build.specs.Plan.{IsPlanFor, PlanView, shape_of}
 
 map_same : (ns : List ℕ) → map (λ (n : ℕ). n) ns ≡ ns
 map_same [] = sym (append-nil [])

@@ -16,7 +16,7 @@ use Rattle.witness_key.specs.WitnessKey.{witness_key}
 use Rattle.witness_key.proofs.Rankings.{rankings_agree_lem}
 use Rattle.semi_join.specs.ReducedTrees.{IsReduced}
 use Rattle.tree_dp.specs.SolvedTrees.{IsSolved}
-use Rattle.plan_model.specs.Plan.{HasWitnesses}
+use Rattle.plan_build.specs.Plan.{HasWitnesses}
 use Rattle.plan_build.proofs.TreeSolutions.{has_solution, solution_has, solutions_once}
 
 module _ {R : Type 0} (d : ℕ) (key : R → KeyOf d 16) (query : Query) (tables : List Table) where

@@ -25,8 +25,8 @@ use Rattle.semi_join.proofs.NodeRows.{row_field, rows_count}
 use Rattle.semi_join.proofs.SameShapes.{count_same, parent_same, shape_same}
 use Rattle.tree_dp.specs.SolvedTrees.{IsReordered, IsSolved}
 use Rattle.tree_dp.proofs.Reordered.{group_number_same}
-use Rattle.plan_model.specs.Plan.{HasReducedRows, RowPasses, RowsJoined, numbers}
-use Rattle.plan_model.proofs.Places.{Rises, extends_in, extends_out, member_place, place_member, rises_at, rises_of}
+use Rattle.plan_build.specs.Plan.{HasReducedRows, RowPasses, RowsJoined, numbers}
+use Rattle.plan_build.proofs.Places.{Rises, extends_in, extends_out, member_place, place_member, rises_at, rises_of}
 
 -- a group has the same members before and after the reduction
 group_same : {R : Type 0} (before after : List (NodeView R)) (nodes : (v : ℕ) → IsReordered (node_at before v) (node_at after v)) (q r : ℕ)

@@ -20,7 +20,7 @@ use Rattle.node_build.proofs.ShapeOf.{flaw_if_many, join_tree_of, numbers_in_all
 use Rattle.step_bounds.proofs.NodeSums.{sum_fewer, sum_of_lengths}
 use Rattle.semi_join.specs.ReducedTrees.{IsReduced}
 use Rattle.tree_dp.specs.SolvedTrees.{IsSolved}
-use Rattle.plan_model.specs.Plan.{IsPlanFor, shape_view}
+use Rattle.plan_build.specs.Plan.{IsPlanFor, shape_view}
 use Rattle.plan_build.proofs.Kept.{kept_in_all}
 use Rattle.plan_build.proofs.PlanOf.{AreWitnesses, has_witnesses, ranking_agrees}
 use Rattle.plan_build.proofs.PlanRows.{ranks_are, reduced_rows}

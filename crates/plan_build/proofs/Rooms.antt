@@ -5,7 +5,7 @@ use Rattle.rank_key.specs.declared.fixed_rank.FixedRank.{FixedRank}
 use Rattle.anyk_model.specs.Table.{Table}
 use Rattle.bound_query.specs.WeighedQuery.{BoundQuery, Fits}
 use Rattle.node_build.proofs.Shaped.{caps_small}
-use Rattle.plan_model.specs.Plan.{PlanView}
+use Rattle.plan_build.specs.Plan.{PlanView}
 use Rattle.plan_build.specs.RankedPlan.{HasLeastRoom, HasRoom, fixed_room, packed_room}
 use Rattle.plan_build.specs.declared.ranked_plan.RankedPlan.TheVariants.{Lex, MiddleSum, SmallLex, Sum}
 

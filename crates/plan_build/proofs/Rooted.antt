@@ -15,7 +15,7 @@ use Rattle.query_shape.specs.Shape.{Shape}
 use Rattle.node_build.specs.Nodes.{IsJoinTreeOf, item_of, parent_of}
 use Rattle.plan_build.proofs.Witnesses.{items_ordered}
 use Rattle.plan_build.specs.declared.fault.PlanFault.{PlanFault}
-use Rattle.plan_model.specs.Plan.{IsPlan, IsPlanAt, IsPlanFor, IsPlanOf, PlanView, nodes_in, shape_view}
+use Rattle.plan_build.specs.Plan.{IsPlan, IsPlanAt, IsPlanFor, IsPlanOf, PlanView, nodes_in, shape_view}
 
 -- ---- trees that are equal node by node
 

@@ -8,7 +8,7 @@ use Rattle.bound_query.specs.WeighedQuery.{BoundQuery}
 use Rattle.query_shape.specs.Shape.{Flaw, IsShape, Shape}
 use Rattle.query_shape.proofs.OneShape.{one_shape}
 use Rattle.query_shape.specs.Report.{total_rows}
-use Rattle.plan_model.specs.Plan.{IsPlanFor, PlanView, shape_of}
+use Rattle.plan_build.specs.Plan.{IsPlanFor, PlanView, shape_of}
 
 -- a query has one shape
 pub shape_is : (query : Query) (tables : List Table) (x y : Shape) → IsShape query tables (Ok x) → IsShape query tables (Ok y) → x ≡ y

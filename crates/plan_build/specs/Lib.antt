@@ -1,2 +1,4 @@
 pub mod Faults
 pub mod RankedPlan
+pub mod Plan
+pub mod Plans

@@ -9,7 +9,7 @@ use Rattle.packed_rank.specs.Packed.{packed_key}
 use Rattle.anyk_model.specs.Table.{Table}
 use Rattle.bound_query.specs.WeighedQuery.{BoundQuery}
 use Rattle.node_build.specs.Nodes.{CapsBelow}
-use Rattle.plan_model.specs.Plan.{IsPlanOf}
+use Rattle.plan_build.specs.Plan.{IsPlanOf}
 use Rattle.plan_build.specs.declared.ranked_plan.RankedPlan.{RankedPlan}
 use Rattle.plan_build.specs.declared.ranked_plan.RankedPlan.TheVariants.{Lex, MiddleSum, Packed, SmallLex, Sum}
 

@@ -12,7 +12,7 @@ ghost use Rattle.tdp_core.specs.Solutions.{IsTieFreeRaw};
 ghost use Rattle.tdp_core.specs.TreeView.{item, parent};
 ghost use Rattle.node_build.specs.Nodes.{CapsBelow, IsBuilt, IsJoinTreeOf, item_of, parent_of};
 ghost use Rattle.step_bounds.specs.RunBounds.{IsPrepared};
-ghost use Rattle.plan_model.specs.Plan.{IsPlan, IsPlanAt, IsPlanFor};
+ghost use Rattle.plan_build.specs.Plan.{IsPlan, IsPlanAt, IsPlanFor};
 ghost use Rattle.plan_build.specs.Faults.{TellsFlaw};
 
 use crate::fault::PlanFault;
@@ -46,7 +46,7 @@ pub struct Plan<R: Rank> {
 }
 
 impl<R: Rank> Model for Plan<R> {
-    ghost use Rattle.plan_model.specs.Plan.{PlanView};
+    ghost use Rattle.plan_build.specs.Plan.{PlanView};
 
     ghost Value = { PlanView R };
 

@@ -4,7 +4,7 @@ ghost use Rattle.anyk_model.specs.Table.{Table};
 ghost use Rattle.bound_query.specs.WeighedQuery.{Fits};
 ghost use Rattle.node_build.specs.Nodes.{CapsBelow};
 ghost use Rattle.step_bounds.specs.RunBounds.{IsPrepared};
-ghost use Rattle.plan_model.specs.Plan.{IsPlanOf};
+ghost use Rattle.plan_build.specs.Plan.{IsPlanOf};
 ghost use Rattle.plan_build.specs.Faults.{TellsFlaw};
 ghost use Rattle.plan_build.specs.RankedPlan.{HasLeastRoom, HasRoom, IsRankedPlan, packed_room};
 

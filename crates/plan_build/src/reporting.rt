@@ -3,7 +3,7 @@ ghost use Rattle.std.specs.Prelude.{◌≡◌, ◌<◌, ◌≤◌, ◌+◌, ◌+
 ghost use Rattle.join_tree.specs.Rerooting.{IsTree};
 ghost use Rattle.query_shape.specs.Report.{node_line, node_text, parent_number, report_of};
 ghost use Rattle.query_shape.specs.JoinTreeView.{HasItems};
-ghost use Rattle.plan_model.specs.Plan.{IsPlanFor, shape_of, shape_view};
+ghost use Rattle.plan_build.specs.Plan.{IsPlanFor, shape_of, shape_view};
 
 use crate::plan::Plan;
 use bound_query::Query;

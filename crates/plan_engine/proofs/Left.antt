@@ -5,7 +5,7 @@ use Rattle.anyk_model.specs.Table.{Table}
 use Rattle.anyk_model.specs.Query.{IsCombination, row_counts}
 use Rattle.anyk_model.specs.Ranking.{ranking_of}
 use Rattle.anyk_model.proofs.Exists.{ranking_is}
-use Rattle.best_key.proofs.Bests.{bests_agree_lem}
+use Rattle.plan_engine.proofs.Bests.{bests_agree_lem}
 use Rattle.best_list.specs.BestList.{best_list, list_of}
 use Rattle.best_list.proofs.Least.{best_ranking}
 use Rattle.bound_query.specs.WeighedQuery.{BoundQuery}
@@ -16,8 +16,8 @@ use Rattle.tdp_core.specs.WellFormed.{IsFormed}
 use Rattle.tree_dp.specs.BestRanking.{IsBestRanking}
 use Rattle.witness_key.specs.WitnessKey.{AreCombinations, answers_of_ranking, combinations_in, witness_key}
 use Rattle.witness_key.proofs.Combinations.{combinations_all, combinations_told, members_combine}
-use Rattle.plan_model.specs.Plan.{IsPlan, IsPlanAt, IsPlanFor, PlanView}
-use Rattle.plan_model.proofs.AnswersAgree.{answers_agree}
+use Rattle.plan_build.specs.Plan.{IsPlan, IsPlanAt, IsPlanFor, PlanView}
+use Rattle.plan_build.proofs.AnswersAgree.{answers_agree}
 use Rattle.plan_engine.specs.AskedList.{IsAskedList}
 
 module _ {R : Type 0} (d : ℕ) (key : R → KeyOf d 16) (bound : BoundQuery) (tables : List Table) where

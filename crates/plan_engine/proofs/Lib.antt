@@ -1,2 +1,4 @@
 pub mod Left
 pub mod RunBounds
+pub mod Bests
+pub mod RootSlots

@@ -11,7 +11,7 @@ use Rattle.tdp_core.specs.TreeView.{NodeView, group_count, row_count}
 use Rattle.tdp_core.specs.Shares.{most_steps, share_of, size_of}
 use Rattle.step_bounds.specs.Steps.{steps_for}
 use Rattle.step_bounds.proofs.Shares.{shares}
-use Rattle.plan_model.specs.Plan.{PlanView}
+use Rattle.plan_build.specs.Plan.{PlanView}
 use Rattle.query_shape.specs.Report.{total_rows}
 use Rattle.step_bounds.specs.RunBounds.{cost_over}
 

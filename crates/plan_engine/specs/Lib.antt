@@ -1,1 +1,2 @@
 pub mod AskedList
+pub mod BestKey

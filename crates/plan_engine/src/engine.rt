@@ -2,7 +2,7 @@
 ghost use Rattle.std.specs.Prelude.{◌≡◌, ◌+◌, ◌*◌, ◌≤◌, IfOk, List, None, length};
 ghost use Rattle.anyk_model.specs.Table.{Table};
 ghost use Rattle.engine_choice.specs.Engines.{calls_of, rest_of, tree_of};
-ghost use Rattle.plan_model.specs.Plan.{IsPlanOf};
+ghost use Rattle.plan_build.specs.Plan.{IsPlanOf};
 ghost use Rattle.bound_query.specs.WeighedQuery.{BoundQuery};
 ghost use Rattle.tdp_core.specs.AnswerView.{answers_of};
 ghost use Rattle.tdp_core.specs.Solutions.{IsTreeRanking};

@@ -2,6 +2,8 @@
 //! the best answers of an item's rows.
 #![tactic(auto)]
 
+mod bests;
 mod engine;
 
+pub use bests::bests_agree;
 pub use engine::engine_over;

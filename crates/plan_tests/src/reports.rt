@@ -2,7 +2,7 @@
 ghost use Rattle.std.specs.Prelude.{◌≡◌, ◌<◌, ◌≤◌, IfSome, Option, length, ℕ};
 ghost use Rattle.std.specs.List.{AllByRecursion};
 ghost use Rattle.bound_query.specs.WeighedQuery.{Fits};
-ghost use Rattle.plan_model.specs.Plan.{IsPlanFor};
+ghost use Rattle.plan_build.specs.Plan.{IsPlanFor};
 ghost use Rattle.plan_build.specs.RankedPlan.{IsRankedPlan};
 
 use crate::fixtures::{TWO, query_of, read_two};

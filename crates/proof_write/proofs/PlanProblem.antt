@@ -18,8 +18,8 @@ use Rattle.bound_query.specs.Classes.{AreVariables}
 use Rattle.bound_query.specs.WeighedQuery.{BoundQuery}
 use Rattle.bound_query.specs.Weights.{part_of}
 use Rattle.rank_key.specs.Keys.{row_key}
-use Rattle.plan_model.specs.Plan.{HasReducedRows, RowPasses, RowsJoined, numbers}
-use Rattle.plan_model.proofs.Places.{member_place, place_member, rises_apart}
+use Rattle.plan_build.specs.Plan.{HasReducedRows, RowPasses, RowsJoined, numbers}
+use Rattle.plan_build.proofs.Places.{member_place, place_member, rises_apart}
 use Rattle.proof_model.specs.Problem.{Problem}
 use Rattle.proof_model.specs.QueryProblem.{IsPassing, RowsEqual, RowsMatch, row_rank}
 use Rattle.proof_model.specs.Laws.{IsProblem, IsSubtree, subtree_key}

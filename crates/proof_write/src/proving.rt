@@ -5,7 +5,7 @@ ghost use Rattle.bound_query.specs.WeighedQuery.{Fits};
 ghost use Rattle.tdp_model.specs.KeyTuple.{KeyOf};
 ghost use Rattle.tdp_core.specs.AnswerView.{answers_of};
 ghost use Rattle.tdp_core.specs.Solutions.{IsTreeRanking};
-ghost use Rattle.plan_model.specs.Plan.{IsPlan, PlanView};
+ghost use Rattle.plan_build.specs.Plan.{IsPlan, PlanView};
 ghost use Rattle.proof_model.specs.ProofTexts.{IsProofText};
 
 use crate::answers::push_answers;

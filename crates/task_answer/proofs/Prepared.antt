@@ -5,7 +5,7 @@ use Rattle.std.proofs.lemmas.List.Sums.{sum_by-cons}
 use Rattle.std.proofs.lemmas.Nat.{mul-le}
 use Rattle.anyk_model.specs.Query.{Query, row_counts}
 use Rattle.anyk_model.specs.Table.{Table}
-use Rattle.plan_model.specs.Plans.{preparation_of}
+use Rattle.plan_build.specs.Plans.{preparation_of}
 use Rattle.bound_query.specs.Parts.{sum_of_all}
 use Rattle.query_shape.specs.Shape.{Shape}
 use Rattle.rank_key.specs.Bits.{bit_length}

@@ -13,10 +13,10 @@ use Rattle.anyk_model.specs.Table.{Table}
 use Rattle.command_union.specs.UnionSteps.{AreMembers, IsMember as IsUnionMember, steps_from}
 use Rattle.engine_choice.specs.Engines.{calls_of, rest_of, tree_of}
 use Rattle.engine_choice.specs.declared.engine.ChosenEngine.{ChosenEngine}
-use Rattle.plan_model.specs.Plan.{IsPlanOf, PlanView}
+use Rattle.plan_build.specs.Plan.{IsPlanOf, PlanView}
 use Rattle.plan_build.proofs.ShapeIs.{rows_counted}
 use Rattle.plan_build.proofs.Rooted.{whole_of}
-use Rattle.plan_model.specs.Plans.{ArePrepared, HavePlans, preparation_of}
+use Rattle.plan_build.specs.Plans.{ArePrepared, HavePlans, preparation_of}
 use Rattle.bound_query.specs.WeighedQuery.{BoundQuery, Fits}
 use Rattle.query_shape.specs.Shape.{IsShape, Shape}
 use Rattle.rankings.specs.Order.{IsMember}

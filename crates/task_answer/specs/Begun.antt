@@ -4,7 +4,7 @@ use Rattle.std.specs.List.{AllZip, sum_by}
 use Rattle.anyk_model.specs.Table.{Table}
 use Rattle.engine_choice.specs.Engines.{calls_of, rest_of, tree_of}
 use Rattle.engine_choice.specs.declared.engine.ChosenEngine.{ChosenEngine}
-use Rattle.plan_model.specs.Plan.{IsPlanOf, PlanView}
+use Rattle.plan_build.specs.Plan.{IsPlanOf, PlanView}
 use Rattle.bound_query.specs.WeighedQuery.{BoundQuery}
 use Rattle.tdp_model.specs.KeyTuple.{KeyOf}
 use Rattle.tdp_core.specs.TreeView.{row_count}

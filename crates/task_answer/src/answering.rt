@@ -1,8 +1,8 @@
 //! A command that plans its queries, from its input to its output.
 ghost use Rattle.std.specs.Prelude.{◌<◌, [], ◌∷◌, IfErr, OnOk, length};
 ghost use Rattle.input_load.specs.Input.{loaded_of};
-ghost use Rattle.plan_model.specs.Plan.{IsPlanOf, shape_of};
-ghost use Rattle.plan_model.specs.Plans.{ArePrepared, HavePlans};
+ghost use Rattle.plan_build.specs.Plan.{IsPlanOf, shape_of};
+ghost use Rattle.plan_build.specs.Plans.{ArePrepared, HavePlans};
 ghost use Rattle.proof_text.specs.Certificate.{Certificate};
 ghost use Rattle.bound_query.specs.WeighedQuery.{Fits};
 ghost use Rattle.refusal_lines.specs.RefusalReasons.{reason_of};

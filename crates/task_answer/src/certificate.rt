@@ -1,7 +1,7 @@
 //! The command `prove`: the text of a certificate, by one write.
 ghost use Rattle.std.specs.Prelude.{◌≡◌, None, List};
 ghost use Rattle.anyk_model.specs.Table.{Table};
-ghost use Rattle.plan_model.specs.Plan.{IsPlan, PlanView};
+ghost use Rattle.plan_build.specs.Plan.{IsPlan, PlanView};
 ghost use Rattle.proof_model.specs.ProofTexts.{IsProofText};
 ghost use Rattle.bound_query.specs.WeighedQuery.{Fits};
 ghost use Rattle.refusal_lines.specs.Printing.{PrintedSome};

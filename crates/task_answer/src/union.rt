@@ -3,7 +3,7 @@ ghost use Rattle.std.specs.Prelude.{◌≡◌, ◌≤◌, ◌+◌, None, IfOk, l
 ghost use Rattle.std.specs.List.{All};
 ghost use Rattle.anyk_model.specs.Output.{cut};
 ghost use Rattle.answer_print.specs.StyleView.{style_view};
-ghost use Rattle.plan_model.specs.Plans.{ArePrepared, HavePlans};
+ghost use Rattle.plan_build.specs.Plans.{ArePrepared, HavePlans};
 ghost use Rattle.bound_query.specs.WeighedQuery.{Fits};
 ghost use Rattle.refusal_lines.specs.Printing.{Printed};
 ghost use Rattle.refusal_lines.specs.SinkState.{state_of};

@@ -11,7 +11,7 @@ use Rattle.query_shape.specs.Shape.{Shape}
 use Rattle.union_list.specs.TaggedRows.{branch_at}
 use Rattle.input_load.specs.Input.{InputView, loaded_of}
 use Rattle.input_load.specs.Turns.{IsTurn}
-use Rattle.plan_model.specs.Plans.{ArePrepared, preparation_of}
+use Rattle.plan_build.specs.Plans.{ArePrepared, preparation_of}
 use Rattle.refusal_lines.specs.Reason.{Reason}
 use Rattle.step_bounds.specs.RunBounds.{IsPrepared}
 use Rattle.verdict.specs.AcceptedInput.{Found, found_of, queries_in}

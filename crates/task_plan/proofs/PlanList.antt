@@ -11,7 +11,7 @@ use Rattle.std.proofs.Math.Seq.{take-length}
 use Rattle.anyk_model.specs.Query.{Query}
 use Rattle.anyk_model.specs.Table.{Table}
 use Rattle.hyper_graph.specs.Items.{items_of}
-use Rattle.plan_model.specs.Plan.{IsPlanOf, PlanView, shape_of}
+use Rattle.plan_build.specs.Plan.{IsPlanOf, PlanView, shape_of}
 use Rattle.plan_build.specs.Faults.{TellsFlaw}
 use Rattle.plan_build.specs.RankedPlan.{IsRankedPlan, fixed_key, key_of_packed}
 use Rattle.plan_build.specs.declared.fault.PlanFault.{PlanFault}
@@ -20,7 +20,7 @@ use Rattle.plan_build.specs.declared.ranked_plan.RankedPlan.{RankedPlan}
 use Rattle.plan_build.specs.declared.ranked_plan.RankedPlan.TheVariants.{Lex, MiddleSum, Packed, SmallLex, Sum}
 use Rattle.plan_build.proofs.Rooted.{whole_of}
 use Rattle.plan_build.proofs.ShapeIs.{plan_shape}
-use Rattle.plan_model.specs.Plans.{ArePrepared, HavePlans, preparation_of}
+use Rattle.plan_build.specs.Plans.{ArePrepared, HavePlans, preparation_of}
 use Rattle.node_build.specs.Nodes.{CapsBelow}
 use Rattle.node_build.proofs.Shaped.{caps_small}
 use Rattle.bound_query.specs.WeighedQuery.{BoundQuery, Fits}

@@ -5,8 +5,8 @@ use Rattle.std.specs.Global.{Global}
 use Rattle.anyk_model.specs.Table.{Table}
 use Rattle.hyper_graph.specs.Items.{items_of}
 use Rattle.outer_io.specs.Files.{Files}
-use Rattle.plan_model.specs.Plan.{IsPlanOf, PlanView, shape_of}
-use Rattle.plan_model.specs.Plans.{ArePrepared, HavePlans}
+use Rattle.plan_build.specs.Plan.{IsPlanOf, PlanView, shape_of}
+use Rattle.plan_build.specs.Plans.{ArePrepared, HavePlans}
 use Rattle.plan_build.specs.RankedPlan.{fixed_key, key_of_packed}
 use Rattle.plan_build.specs.declared.fault.PlanFault.{PlanFault}
 use Rattle.plan_build.specs.declared.fault.PlanFault.TheVariants as fault

@@ -3,7 +3,7 @@ ghost use Rattle.std.specs.Prelude.{◌≡◌, ◌<◌, ◌≤◌, None, true, I
 ghost use Rattle.std.specs.List.{All};
 ghost use Rattle.input_load.specs.Input.{loaded_of};
 ghost use Rattle.node_build.specs.Nodes.{CapsBelow};
-ghost use Rattle.plan_model.specs.Plans.{ArePrepared, HavePlans};
+ghost use Rattle.plan_build.specs.Plans.{ArePrepared, HavePlans};
 ghost use Rattle.plan_build.specs.RankedPlan.{IsRankedPlan};
 ghost use Rattle.bound_query.specs.WeighedQuery.{Fits};
 ghost use Rattle.refusal_lines.specs.RefusalReasons.{reason_of};

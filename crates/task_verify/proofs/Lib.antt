@@ -1,1 +1,2 @@
 pub mod Verifying
+pub mod Records

@@ -12,7 +12,7 @@ use Rattle.proof_text.specs.Certificate.{Certificate}
 use Rattle.proof_text.specs.declared.fault.ProofFault.{ProofFault}
 use Rattle.proof_text.specs.declared.fault.ProofFault.TheVariants as fault
 use Rattle.proof_check.specs.RowLists.{item_rows}
-use Rattle.proof_laws.proofs.Ranked.{cut_member}
+use Rattle.proof_check.proofs.Ranked.{cut_member}
 use Rattle.proof_model.specs.Faults.{TellsFirst, TellsFlaw, fault_of}
 use Rattle.proof_model.specs.QueryProblem.{problem_in, problem_of}
 use Rattle.proof_model.specs.Valid.{Flaw, IsFirst, IsValid}

@@ -3,6 +3,8 @@
 #![tactic(auto)]
 
 mod checking;
+mod printing;
 mod verify;
 
+pub use printing::print_listed;
 pub use verify::answer_verified;

@@ -16,9 +16,9 @@ ghost use Rattle.task_verify.specs.Verifications.{HasAnswers, IsChecked, IsVerif
 ghost use Rattle.verdict.specs.Sides.{seen_by};
 
 use crate::checking::check_proof;
+use crate::printing::print_listed;
 use answer_print::Style;
 use cmd_words::Words;
-use command_verify::print_listed;
 use hash_keys::Keys;
 use input_load::{Aside, Input};
 use outer_io::{Shelf, Sink};

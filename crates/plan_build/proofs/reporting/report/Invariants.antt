@@ -1,6 +1,6 @@
 use Rattle.std.proofs.Common.{◌≡◌}
 use Rattle.std.specs.List.{flat_map, range_with_len}
-use Rattle.plan_model.specs.Plan.{shape_of}
+use Rattle.plan_build.specs.Plan.{shape_of}
 use Rattle.query_shape.specs.Report.{node_line}
 use Rattle.plan_build.proofs.reporting.report.Given as goal
 

@@ -4,7 +4,7 @@ use Rattle.cmd_words.specs.ArgumentMeaning.{words_view}
 use Rattle.refusal_lines.proofs.Prints.{printed_some}
 use Rattle.refusal_lines.specs.SinkState.{state_of}
 use Rattle.input_load.specs.Input.{InputView, loaded_of}
-use Rattle.plan_model.specs.Plans.{ArePrepared, HavePlans}
+use Rattle.plan_build.specs.Plans.{ArePrepared, HavePlans}
 use Rattle.union_list.specs.TaggedRows.{branch_at}
 use Rattle.union_list.specs.Union.{union_of}
 use Rattle.union_list.specs.UnionOutput.{union_output_of}

@@ -1,7 +1,7 @@
 use Rattle.std.proofs.Common.{◌∷◌, [], ℕ, sym, subst}
 use Rattle.input_load.specs.Input.{InputView, loaded_of}
-use Rattle.plan_model.specs.Plan.{shape_of}
-use Rattle.plan_model.specs.Plans.{ArePrepared}
+use Rattle.plan_build.specs.Plan.{shape_of}
+use Rattle.plan_build.specs.Plans.{ArePrepared}
 use Rattle.refusal_lines.specs.SinkState.{state_of}
 use Rattle.verdict.specs.AcceptedInput.{Found, found_of, queries_in}
 use Rattle.task_plan.specs.Judgement.{IsUnnamed}

@@ -1,6 +1,6 @@
 use Rattle.std.proofs.Common.{◌≡◌, ◌<◌, ◌∷◌, [], ◌∙◌, Err, Ok, length, sym, subst, ap, rules, arith}
 use Rattle.std.proofs.lemmas.Result.{IfOk-from_err}
-use Rattle.plan_model.specs.Plans.{ArePrepared, HavePlans}
+use Rattle.plan_build.specs.Plans.{ArePrepared, HavePlans}
 use Rattle.plan_build.specs.RankedPlan.{fixed_key}
 use Rattle.bound_query.specs.WeighedQuery.{BoundQuery, Fits}
 use Rattle.refusal_lines.specs.RefusalReasons.{reason_of}

@@ -1,2 +1,0 @@
-pub mod AnswersAgree
-pub mod Places

@@ -1,5 +1,0 @@
-use Rattle.plan_model.proofs.AnswersAgree.{answers_agree}
-use Rattle.plan_model.proofs.keys_tell_answers.Goals as goal
-
-pub returns : goal.returns
-returns c = λ d query tables list keys same. answers_agree d query tables list keys same

@@ -1,8 +1,0 @@
-use Rattle.proof_laws.proofs.Ranked.{begins, ends}
-use Rattle.proof_laws.proofs.answers_begin_ranking.Goals as goal
-
-pub returns : goal.returns
-returns c = λ query tables atoms parents proof within hung valid. (
-  begins query tables atoms parents within hung proof valid,
-  ends query tables atoms parents within hung proof valid,
-)
