@@ -2,8 +2,8 @@
 //! the best answers of an item's rows.
 #![tactic(auto)]
 
-mod bests;
 mod engine;
+mod laws;
 
-pub use bests::bests_agree;
 pub use engine::engine_over;
+pub use laws::bests_agree;

@@ -8,7 +8,7 @@ ghost use Rattle.proof_text.specs.ProofView.{proof_view};
 ghost use Rattle.proof_model.specs.Faults.{TellsFlaw};
 ghost use Rattle.proof_bounds.specs.BoundedRows.{IsBounded};
 
-use crate::rows::query_rows;
+use crate::node_rows::query_rows;
 use bound_query::Query;
 use join_tree::JoinTree;
 use proof_bounds::{BoundedTree, with_bounds};

@@ -8,7 +8,7 @@
 mod bounding;
 mod checking;
 mod laws;
-mod rows;
+mod node_rows;
 
 pub use bounding::bounded_tree;
 pub use checking::verify;

@@ -6,7 +6,7 @@ use Rattle.node_build.specs.Nodes.{PassesBudget, TellsFault}
 use Rattle.node_build.specs.declared.built.BuildFault.TheVariants as fault
 use Rattle.node_build.proofs.ShapeOf.{join_tree_of}
 use Rattle.proof_check.proofs.ProblemRows.{problem_rows, shape_known, too_many}
-use Rattle.proof_check.proofs.rows.query_rows.Goals as goal
+use Rattle.proof_check.proofs.node_rows.query_rows.Goals as goal
 
 passed : (bound : BoundQuery) (tables : List Table) (join : JoinTree) (budget told : ℕ)
     → TellsFault bound tables join budget (fault.TooManyRows told) → PassesBudget bound tables join budget
