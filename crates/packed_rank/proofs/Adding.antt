@@ -1,8 +1,9 @@
 -- Adding the numbers of ranks adds their keys, if some rank has the sum of the keys.
-use Rattle.std.proofs.Common.{◌≡◌, ℕ, ◌+◌, ◌/◌, ◌%◌, ◌^◌, ℤ, pos, ◌+ℤ◌, ◌-ℤ◌, sym, ap, ◌∙◌, arith}
+use mir.Val.{of_z, to_z}
+use Rattle.std.proofs.Common.{◌≡◌, ℕ, ◌+◌, ◌/◌, ◌%◌, ◌^◌, ℤ, pos, ◌+ℤ◌, ◌-ℤ◌, sym, ap, subst, ◌∙◌, arith, rules}
 use Rattle.std.specs.Prelude.{FitsSigned}
 use Rattle.std.specs.Int.{w128}
-use Rattle.std.proofs.lemmas.Int.{ints}
+use Rattle.std.proofs.lemmas.Int.{ints, to_z-of_z}
 use Rattle.tdp_model.specs.KeyTuple.{KeyOf, key_add, slot_of}
 use Rattle.tdp_model.specs.KeyNumbers.{sum_of}
 use Rattle.packed_rank.specs.Packed.{lifted, packed_key}
@@ -27,3 +28,21 @@ pub number_rest : (t o r : ℤ) (rest : KeyOf 1 16) → FitsSigned w128 t → Fi
 number_rest t o r rest fits-t fits-o fits-r whole is =
     let sum = number_sum r o t fits-r fits-o fits-t (whole ∙ ap (λ k. key_add 1 16 k (packed_key o)) (sym is)) in
     omega (arith, ints, sum)
+
+-- a number as it is read back from its bits
+abbrev pub read : ℤ → ℤ
+read z = to_z w128 (of_z w128 z)
+
+-- a number that fits is read as it is
+pub number_read : (x a : ℤ) → x ≡ a → FitsSigned w128 a → read x ≡ a
+number_read x a is fits = ap read is ∙ to_z-of_z w128 a fits
+
+pub sum_read : (x y a b : ℤ) → x ≡ a → y ≡ b → FitsSigned w128 a → FitsSigned w128 b → read x +ℤ read y ≡ a +ℤ b
+sum_read x y a b p q fits-a fits-b = λ i. number_read x a p fits-a i +ℤ number_read y b q fits-b i
+
+pub difference_read : (x y a b : ℤ) → x ≡ a → y ≡ b → FitsSigned w128 a → FitsSigned w128 b → read x -ℤ read y ≡ a -ℤ b
+difference_read x y a b p q fits-a fits-b = λ i. number_read x a p fits-a i -ℤ number_read y b q fits-b i
+
+-- what is read fits
+pub read_fits : (x z : ℤ) → x ≡ read z → FitsSigned w128 x
+read_fits x z is = let fits : FitsSigned w128 (read z) = search rules in subst (FitsSigned w128) (sym is) fits

@@ -1,11 +1,11 @@
 -- The number of the key of one row.
-use Rattle.std.proofs.Common.{◌≡◌, ℕ, zero, suc, ◌^◌, ◌<◌, ℤ, pos, ◌+ℤ◌, ◌*ℤ◌, List, [], ◌∷◌, All, replicate, get_or, sym, ap, ◌∙◌, inl, inr, arith}
+use Rattle.std.proofs.Common.{◌≡◌, ℕ, zero, suc, ◌^◌, ◌<◌, ℤ, pos, ◌+ℤ◌, ◌*ℤ◌, List, [], ◌∷◌, All, replicate, get_or, sym, ap, subst, ◌∙◌, inl, inr, arith}
 use Rattle.std.specs.Prelude.{unsigned_abs, FitsSigned}
 use Rattle.std.specs.Int.{w128}
 use Rattle.std.proofs.Math.ListN.{set}
 use Rattle.std.proofs.lemmas.Bool.{cases_eq}
 use Rattle.std.proofs.lemmas.Grind.{get_or-set_at}
-use Rattle.std.proofs.lemmas.Int.{ints}
+use Rattle.std.proofs.lemmas.Int.{ints, to_z-of_z}
 use Rattle.std.proofs.lemmas.List.{get_or-set_other, get_or-replicate}
 use Rattle.std.proofs.lemmas.List.Elements.{All-head}
 use Rattle.tdp_model.specs.KeyTuple.{slot_of}
@@ -14,6 +14,7 @@ use Rattle.tdp_model.proofs.KeyNumbers.{slot_of_lists}
 use Rattle.rank_key.specs.Keys.{IsWithin, row_key}
 use Rattle.packed_rank.specs.Packed.{number_of, packed_key, unit_of}
 use Rattle.packed_rank.specs.Digits.{key_of_number}
+use Rattle.packed_rank.proofs.Adding.{read, number_read}
 
 module _ (row : ℕ) where
   number_is : (sum : ℤ) (slot : ℕ) → slot < 4 → number_of (row_key 1 (sum ∷ []) slot row) ≡ sum *ℤ pos (2 ^ 84) +ℤ pos row *ℤ unit_of slot
@@ -76,3 +77,34 @@ module _ (row : ℕ) where
       → z ≡ get_or sums 0 (pos 0) *ℤ pos (2 ^ 84) +ℤ pos row *ℤ unit_of slot → packed_key z ≡ row_key 1 sums slot row
   key_of_row sums slot z few low small is =
       ap packed_key (is ∙ sym (number_of_row sums slot few)) ∙ key_of_number (row_key 1 sums slot row) (within sums slot few low small)
+
+-- the sum in its place, as it is computed
+module _ (row : ℕ) (x : ℤ) (small : unsigned_abs x < 2 ^ 43) where
+  sum_is : read x *ℤ pos (2 ^ 84) ≡ x *ℤ pos (2 ^ 84)
+  sum_is = let fits : FitsSigned w128 x = omega (arith, ints) in ap (λ z. z *ℤ pos (2 ^ 84)) (to_z-of_z w128 x fits)
+
+  pub sum_in_place_fits : FitsSigned w128 (read x *ℤ pos (2 ^ 84))
+  sum_in_place_fits = subst (FitsSigned w128) (sym sum_is) (sum_fits row x small)
+
+unit_held : (slot : ℕ) → FitsSigned w128 (unit_of slot)
+unit_held zero = omega (arith, ints)
+unit_held (suc zero) = omega (arith, ints)
+unit_held (suc (suc zero)) = omega (arith, ints)
+unit_held (suc (suc (suc slot))) = omega (arith, ints)
+
+-- the row number in its place, and the number that is made of both
+module _ (f u : ℤ) (row slot : ℕ) (is-f : f ≡ pos row) (is-u : u ≡ unit_of slot) (few : slot < 4) (low : row < 2 ^ 21) where
+  row_is : read f *ℤ read u ≡ pos row *ℤ unit_of slot
+  row_is =
+      let fits : FitsSigned w128 (pos row) = omega (arith, ints) in
+      λ i. number_read f (pos row) is-f fits i *ℤ number_read u (unit_of slot) is-u (unit_held slot) i
+
+  pub row_in_place_fits : FitsSigned w128 (read f *ℤ read u)
+  row_in_place_fits = subst (FitsSigned w128) (sym row_is) (unit_fits row slot few low)
+
+  module _ (x : ℤ) (small : unsigned_abs x < 2 ^ 43) where
+    pub both_are : read (read x *ℤ pos (2 ^ 84)) +ℤ read (read f *ℤ read u) ≡ x *ℤ pos (2 ^ 84) +ℤ pos row *ℤ unit_of slot
+    both_are = λ i. (to_z-of_z w128 _ (sum_in_place_fits row x small) ∙ sum_is row x small) i +ℤ (to_z-of_z w128 _ row_in_place_fits ∙ row_is) i
+
+    pub both_in_place_fit : FitsSigned w128 (read (read x *ℤ pos (2 ^ 84)) +ℤ read (read f *ℤ read u))
+    both_in_place_fit = subst (FitsSigned w128) (sym both_are) (both_fit row x slot small few low)

@@ -48,6 +48,10 @@ shares (suc m) t n k some a b =
 pub row_count_at : (items : List Item) (tables : List Table) (i : ℕ) → i < length items → get_or (row_counts items tables) i 0 ≡ length (table_at tables (item_at items i).table).rows
 row_count_at items tables i l = get_or-map (λ (i : Item). length ((table_at tables i.table).rows)) items i _ 0 l
 
+-- the steps of building
+pub steps_of_build : (before now l t : ℕ) → 1 ≤ l → now ≤ before + l * t → now ≤ before + 16 * (l * l * (1 + t))
+steps_of_build before now l t some low = omega (arith, shares l t 0 0 some (omega arith) (omega arith), low)
+
 -- the steps of building and reducing
 pub steps_of_reduction : (before built now l t m n : ℕ) → 1 ≤ l → n ≤ t → m ≡ l → built ≤ before + l * t → now ≤ built + 2 * m * (1 + n)
     → now ≤ before + 16 * (l * l * (1 + t))

@@ -71,7 +71,8 @@ vector_read vs k v l is = get_or-map (λ u. u.items) vs k v [] l ∙ ap (λ u. u
 
 module _ {R Z : Type 0} (d : ℕ) (key : R → KeyOf d 16) (t : List (NodeView R)) (v : ℕ) (vs : List (Vec R Z)) (leasts : AreLeastsFrom d key t (v + 1) (map (λ u. u.items) vs)) (q : ℕ) (after : v < q)
     (inside : q < length t) where
-  node_within : q - v - 1 < length vs
+  -- the list of a later node is among them
+  pub node_within : q - v - 1 < length vs
   node_within = omega (arith, leasts.all_nodes, length-map vs (λ u. u.items), after, inside)
 
   module _ (own : Vec R Z) (is : own ≡ get_or vs (q - v - 1) own) where

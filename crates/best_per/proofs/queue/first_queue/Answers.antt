@@ -1,4 +1,6 @@
-use Rattle.std.proofs.Common.{rules, ◌≡◌, ◌+◌, ◌≤◌, ◌∙◌, ℕ, List, [], length, ap, sym, subst, arith}
+use Rattle.std.proofs.Common.{◌≡◌, ◌+◌, ◌≤◌, ◌∙◌, ℕ, Bool, false, nat_lt, List, [], length, inl, inr, ap, sym, subst, arith}
+use Rattle.std.specs.List.{All}
+use Rattle.std.proofs.lemmas.Bool.{false≢true, lt-ltb, cases_lt}
 use Rattle.std.proofs.lemmas.List.{get_or_past}
 use Rattle.std.proofs.lemmas.List.Elements.{All-nil}
 use Rattle.take2_heap.specs.declared.entry.Entry.{Entry}
@@ -13,6 +15,10 @@ use Rattle.best_per.proofs.Places.{none_past, nothing_held}
 use Rattle.best_per.proofs.Queues.{queue_begins}
 use Rattle.best_per.proofs.queue.first_queue.Goals as goal
 
+-- what a test that failed says
+none_below : (n : ℕ) (b : Bool) → b ≡ nat_lt 0 n → b ≡ false → n ≤ 0
+none_below n b is fails = elim (cases_lt 0 n) [ inl some ↦ absurd (false≢true (sym fails ∙ is ∙ lt-ltb 0 n some)) | inr none ↦ none ]
+
 -- the queue over a tree without solutions
 none_begins : {R : Type 0} (d : ℕ) (key : R → KeyOf d 16) (t : List (NodeView R)) (es : List (Entry R ℕ)) (spare : ℕ) → IsFormed d key t → IsTieFreeTree t → group_count t 0 ≤ 0 → es ≡ []
     → IsQueue d key t es spare × IsBestRanking t d key (rest_keys d key t es)
@@ -23,13 +29,19 @@ none_begins {R} d key t es spare formed apart dead is =
 
 pub returns-then-not-live-clause-queue : goal.returns-then-not-live-clause-queue
 returns-then-not-live-clause-queue g c =
-    let dead : group_count c.args.tree.now 0 ≤ 0 = search rules in
+    let dead = none_below (group_count c.args.tree.now 0) c.live.result c.live.ensures.live c.if-not-live.true in
     (none_begins g.R.Rank.KEYS g.R.Rank.key c.args.tree.now c.new-queue.result.entries c.new-queue.result.spare c.live.ensures.formed c.requires.tie_free dead c.new-queue.ensures.entries).0
 
 pub returns-then-not-live-clause-best : goal.returns-then-not-live-clause-best
 returns-then-not-live-clause-best g c =
-    let dead : group_count c.args.tree.now 0 ≤ 0 = search rules in
+    let dead = none_below (group_count c.args.tree.now 0) c.live.result c.live.ensures.live c.if-not-live.true in
     (none_begins g.R.Rank.KEYS g.R.Rank.key c.args.tree.now c.new-queue.result.entries c.new-queue.result.spare c.live.ensures.formed c.requires.tie_free dead c.new-queue.ensures.entries).1
+
+pub offer-requires-clause-entries : goal.offer-requires-clause-entries
+offer-requires-clause-entries g c =
+    let Placed : Entry g.row.R.Denot ℕ → Type 0 = IsPlace g.R.Rank.KEYS g.R.Rank.key c.args.tree.now in
+    let empty : c.reserve.new.self.entries ≡ [] = c.reserve.ensures.entries ∙ c.new-queue.ensures.entries in
+    subst (All Placed) (sym empty) (All-nil Placed)
 
 pub returns-clause-queue : goal.returns-clause-queue
 returns-clause-queue g c =

@@ -17,3 +17,6 @@ returns-in-Err-TooManyRows-clause-refusal g c =
     let past = passed c.args.query.now c.args.tables.now c.args.join.now 4194304 c.in-Err-TooManyRows.budget (rw c.in-Err-TooManyRows.field-0-is at c.in-Err-TooManyRows.ensures.refusal) in
     let other = c.requires.acyclic in
     (past.0, too_many c.args.query.now c.args.tables.now other.0 other.1 other.2 c.args.join.now c.requires.tree 4194304 refl past.1)
+
+pub returns-in-Ok-clause-tie_free : goal.returns-in-Ok-clause-tie_free
+returns-in-Ok-clause-tie_free g c = c.in-Ok.ensures.tie_free

@@ -1,12 +1,19 @@
-use Rattle.std.proofs.Common.{◌≡◌, refl, arith, length, sym, ap, ◌∙◌}
+use Rattle.std.proofs.Common.{◌≡◌, ℕ, ◌<◌, ◌≤◌, refl, arith, length, sym, ap, subst, ◌∙◌}
 use Rattle.std.proofs.lemmas.Result.{IfOk-from_err}
 use Rattle.std.proofs.lemmas.List.{length-map}
 use Rattle.tdp_core.specs.RawView.{row_total}
 use Rattle.tdp_core.specs.TreeView.{node_view, tree_view, row_count}
 use Rattle.plan_build.proofs.Kept.{kept_in_all}
 use Rattle.plan_build.proofs.Planned.{items_are, parents_are, planned}
-use Rattle.plan_build.proofs.Sizes.{steps_of_plan, steps_of_reduction}
+use Rattle.plan_build.proofs.Sizes.{steps_of_build, steps_of_plan, steps_of_reduction}
 use Rattle.plan_build.proofs.plan.plan_over.Goals as goal
+
+-- an item of a query that has few items
+within_all : (a items count : ℕ) → a < items → count ≡ items → count ≤ 16 → a < 16
+within_all a items count low same few = omega (arith, low, same, few)
+
+pub returns-in_err-built-clause-cost : goal.returns-in_err-built-clause-cost
+returns-in_err-built-clause-cost g c = steps_of_build _ _ _ _ c.requires.fits.some c.nodes_of.ensures.cost
 
 pub returns-in_err-reduced-clause-cost : goal.returns-in_err-reduced-clause-cost
 returns-in_err-reduced-clause-cost g c =
@@ -118,3 +125,16 @@ rows_of_tables-requires g c = record { fits = c.requires.fits }
 
 pub in_order-node_rows-requires-clause-from : goal.in_order-node_rows-requires-clause-from
 in_order-node_rows-requires-clause-from g c = c.requires.over_ordered
+
+pub in_order-node_rows-requires-clause-from_atoms : goal.in_order-node_rows-requires-clause-from_atoms
+in_order-node_rows-requires-clause-from_atoms g c = λ v l.
+    let built = c.in_ok-built.ensures in
+    subst (λ a. a < 16) (built.built.items v l) (built.formed.shaped.items v (subst (λ n. v < n) (sym built.built.nodes) l))
+
+pub in_order-node_rows-requires-clause-to_atoms : goal.in_order-node_rows-requires-clause-to_atoms
+in_order-node_rows-requires-clause-to_atoms g c = λ v l. within_all _ _ _ (c.requires.atoms v l) c.requires.count c.requires.ordered.few
+
+pub in_order-node_rows-requires-clause-counted : goal.in_order-node_rows-requires-clause-counted
+in_order-node_rows-requires-clause-counted g c =
+    let built = c.in_ok-built.ensures in
+    ap length built.rows_of ∙ length-map c.in_ok-built.built.tree.rows length ∙ built.formed.each_node ∙ built.built.nodes

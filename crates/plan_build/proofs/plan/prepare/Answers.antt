@@ -13,3 +13,12 @@ returns-clause-plan g c =
     let made = c.plan_over.ensures in
     plan_given g.R.Rank.KEYS g.R.Rank.key c.args.query.now c.args.tables.now join join c.in_ok-join.ensures.joined
     c.plan_over.result made.plan made.join made.items made.parents refl
+
+pub plan_over-requires-clause-ordered : goal.plan_over-requires-clause-ordered
+plan_over-requires-clause-ordered g c = c.in_ok-join.ensures.ordered
+
+pub plan_over-requires-clause-over_ordered : goal.plan_over-requires-clause-over_ordered
+plan_over-requires-clause-over_ordered g c = c.in_ok-join.ensures.ordered
+
+pub plan_over-requires-clause-atoms : goal.plan_over-requires-clause-atoms
+plan_over-requires-clause-atoms g c = c.in_ok-join.ensures.items

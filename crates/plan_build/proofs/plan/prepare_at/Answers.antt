@@ -23,3 +23,18 @@ returns-clause-plan g c =
     plan_at_given g.R.Rank.KEYS g.R.Rank.key query c.args.tables.now c.in_ok-tree.tree c.reroot-rooted.result
     (joined_again query.query c.in_ok-tree.tree c.in_ok-tree.ensures.joined c.reroot-rooted.result rooted.count rooted.graphs)
     c.plan_over.result made.plan made.join made.items made.parents c.args.item c.requires.fits.some rooted.root rooted.count rooted.same
+
+pub reroot-rooted-requires-clause-tree : goal.reroot-rooted-requires-clause-tree
+reroot-rooted-requires-clause-tree g c = c.in_ok-tree.ensures.ordered
+
+pub plan_over-requires-clause-ordered : goal.plan_over-requires-clause-ordered
+plan_over-requires-clause-ordered g c = c.in_ok-tree.ensures.ordered
+
+pub plan_over-requires-clause-over_ordered : goal.plan_over-requires-clause-over_ordered
+plan_over-requires-clause-over_ordered g c = c.reroot-rooted.ensures.tree
+
+pub plan_over-requires-clause-atoms : goal.plan_over-requires-clause-atoms
+plan_over-requires-clause-atoms g c = c.in_ok-tree.ensures.items
+
+pub plan_over-requires-clause-limit : goal.plan_over-requires-clause-limit
+plan_over-requires-clause-limit g c = c.requires.limit

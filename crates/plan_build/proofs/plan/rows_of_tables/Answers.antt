@@ -1,9 +1,19 @@
-use Rattle.std.proofs.Common.{◌<◌, length, arith}
+use Rattle.std.proofs.Common.{◌<◌, length, sym, subst, arith}
 use Rattle.anyk_model.specs.Query.{Item, row_counts}
 use Rattle.anyk_model.specs.Table.{table_at}
+use Rattle.bound_query.specs.Inside.{HasTable}
+use Rattle.bound_query.proofs.Lists.{all_at}
 use Rattle.plan_build.proofs.Sizes.{row_count_at, sum_one_more}
 use Rattle.std.proofs.lemmas.List.{length-map}
 use Rattle.plan_build.proofs.plan.rows_of_tables.Goals as goal
+
+pub len-requires : goal.len-requires
+len-requires c =
+    let items = c.args.query.now.query.items in
+    let tables = c.args.tables.now in
+    let i = c.loop-item.item in
+    let low : i < length items = subst (λ n. i < n) c.items-item-end.ensures.items c.loop-item-test.true in
+    subst (λ t. t < length tables) (sym c.table_of.ensures) (all_at (HasTable tables) items i _ c.requires.fits.within.items low)
 
 pub loop-item-preserved : goal.loop-item-preserved
 loop-item-preserved c =

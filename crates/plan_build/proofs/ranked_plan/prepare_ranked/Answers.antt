@@ -1,4 +1,4 @@
-use Rattle.std.proofs.Common.{arith}
+use Rattle.std.proofs.Common.{arith, refl}
 use Rattle.std.proofs.lemmas.Result.{IfOk-from_err}
 use Rattle.node_build.proofs.Shaped.{caps_small}
 use Rattle.plan_build.proofs.Rooms.{denied, lex_least, middle_least, small_lex_least, sum_least}
@@ -101,3 +101,12 @@ prepare_of-requires-2-clause-fits g c = c.requires.fits
 
 pub prepare_of-requires-2-clause-item : goal.prepare_of-requires-2-clause-item
 prepare_of-requires-2-clause-item g c = c.requires.item
+
+pub prepare_of-requires-then-has_places-2-clause-keys : goal.prepare_of-requires-then-has_places-2-clause-keys
+prepare_of-requires-then-has_places-2-clause-keys g c = (c.if-has_places-2.ensures.0 refl).0
+
+pub prepare_of-requires-then-has_places-2-clause-slots : goal.prepare_of-requires-then-has_places-2-clause-slots
+prepare_of-requires-then-has_places-2-clause-slots g c = (c.if-has_places-2.ensures.0 refl).1
+
+pub prepare_of-requires-then-has_places-3-clause-keys : goal.prepare_of-requires-then-has_places-3-clause-keys
+prepare_of-requires-then-has_places-3-clause-keys g c = (c.if-has_places-3.ensures.0 refl).0

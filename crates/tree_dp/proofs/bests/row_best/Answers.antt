@@ -1,4 +1,4 @@
-use Rattle.std.proofs.Common.{◌≡◌, ◌≢◌, suc, ◌+◌, ◌-◌, ◌<◌, [], length, get_or, sym, ap, subst, ◌∙◌, arith}
+use Rattle.std.proofs.Common.{◌≡◌, ◌≢◌, ℕ, suc, ◌+◌, ◌-◌, ◌<◌, ◌≤◌, [], length, get_or, sym, ap, subst, ◌∙◌, arith}
 use Rattle.std.proofs.lemmas.List.{length-map}
 use Rattle.tdp_model.specs.KeyTuple.{key_below, key_add, key_none}
 use Rattle.tdp_model.proofs.KeyTuples.{tuple_keys}
@@ -9,10 +9,17 @@ use Rattle.tdp_core.proofs.NodeViews.{rank_read}
 use Rattle.tree_dp.specs.Progress.{IsSolvedFrom}
 use Rattle.tree_dp.proofs.FirstParts.{first_part, first_part_none, first_part_child, first_part_other}
 use Rattle.tree_dp.proofs.LaterNodes.{no_kids_yet, child_within, group_is, group_within, first_part_fits}
-use Rattle.tree_dp.proofs.Leasts.{group_within_lem, least_read}
+use Rattle.tree_dp.proofs.Leasts.{node_within, group_within_lem, least_read}
 use Rattle.tree_dp.proofs.NodeReads.{read_node}
 use Rattle.tree_dp.proofs.bests.row_best.Goals.{then-nodes-child, else-nodes-child}
 use Rattle.tree_dp.proofs.bests.row_best.Goals as goal
+
+-- the child at which the loop ends
+end_is : (node child nodes : ℕ) → node < nodes → (node + 1 ≤ nodes → child ≤ nodes) → nodes ≤ child → child ≡ nodes
+end_is node child nodes inside below past = omega (arith, below (omega arith))
+
+pub get-best-requires : goal.get-best-requires
+get-best-requires g c = subst (λ n. c.args.row < length n.rows) (read_node c.args.nodes.now c.args.node c.index-nodes-node.result c.requires.node) c.requires.row
 
 pub loop-child-init : goal.loop-child-init
 loop-child-init g c =
@@ -60,6 +67,14 @@ named_group-group-requires-clause-few g c =
       length-map c.args.nodes.now node_view,
       c.requires.laid_out.shaped.few_nodes,
     )
+
+pub bounds-leasts-child : goal.bounds-leasts-child
+bounds-leasts-child g c =
+    let t = tree_view c.args.nodes.now in
+    let q = c.loop-child.child in
+    let after : c.args.node < q = omega arith in
+    let inside : q < length t = omega (arith, c.loop-child-test.true, length-map c.args.nodes.now node_view) in
+    node_within g.R.Rank.KEYS g.R.Rank.key t c.args.node c.args.leasts.now c.requires.leasts q after inside
 
 pub index-requires : goal.index-requires
 index-requires g c =
@@ -171,3 +186,13 @@ loop-child-preserved g c =
             counted = omega (arith, w.steps-is, c.loop-child.invariant.counted);
           }
     ]
+
+pub returns-clause-best : goal.returns-clause-best
+returns-clause-best g c =
+    let d = g.R.Rank.KEYS in
+    let key = g.R.Rank.key in
+    let t = tree_view c.args.nodes.now in
+    let v = c.args.node in
+    let all : c.loop-child.child ≡ length t = end_is v c.loop-child.child (length c.args.nodes.now) c.requires.node c.loop-child.auto.child-end c.loop-child-test.false ∙ sym (length-map c.args.nodes.now node_view) in
+    c.loop-child.invariant.added
+    ∙ ap (first_part (key_below d 16) (key_add d 16) (key_none d 16) (tuple_keys d 16) (length t) (parent t) (rank t d key) (group t) (best t d key) v c.args.row) (ap (λ n. n - suc v) all)

@@ -1,10 +1,15 @@
-use Rattle.std.proofs.Common.{◌≡◌, ◌<◌, ℕ, List, length, get_or, replicate, take, refl, sym, ap, ◌∙◌, arith}
+use Rattle.std.proofs.Common.{◌≡◌, ◌<◌, ℕ, List, length, get_or, replicate, take, refl, sym, ap, subst, ◌∙◌, arith}
 use Rattle.std.proofs.Math.ListN.{set}
 use Rattle.std.proofs.lemmas.List.{get_or-replicate, length-set}
 use Rattle.tdp_model.specs.KeyTuple.{slot_of}
 use Rattle.tdp_core.specs.TreeView.{item, best}
 use Rattle.tree_dp.proofs.FirstWalk.{least_with, key_of_rows, no_slots, root_lives, walk_begins, walk_goes_on, reached_kept, slots_go_on, walk_ends}
 use Rattle.tree_dp.proofs.first_answer.best_rows.Goals as goal
+
+pub bounds-rows-shape : goal.bounds-rows-shape
+bounds-rows-shape g c =
+    let formed = c.nodes-nodes.ensures.formed in
+    subst (λ s. s.item < 16) (sym c.shape.ensures) (formed.shaped.items 0 (omega (arith, formed.shaped.some_node)))
 
 pub loop-node-init : goal.loop-node-init
 loop-node-init g c =
@@ -28,6 +33,14 @@ loop-node-init g c =
           ∙ slots_go_on d key t formed live none 0 row inside room c.requires.tie_free none refl (λ j h. get_or-replicate 16 j 0 0 h ∙ sym (no_slots d key t j)) i l;
       counted = omega (arith, c.row_at.ensures.counted);
     }
+
+pub first_row-below-requires-clause-above : goal.first_row-below-requires-clause-above
+first_row-below-requires-clause-above g c = c.loop-node.invariant.reached
+
+pub bounds-rows-shape-in-loop-node : goal.bounds-rows-shape-in-loop-node
+bounds-rows-shape-in-loop-node g c =
+    let inside : c.loop-node.node < length c.args.tree.now = subst (λ n. c.loop-node.node < n) c.nodes-nodes.ensures.count c.loop-node-test.true in
+    subst (λ s. s.item < 16) (sym c.shape-in-loop-node.ensures) (c.nodes-nodes.ensures.formed.shaped.items c.loop-node.node inside)
 
 pub loop-node-preserved : goal.loop-node-preserved
 loop-node-preserved g c =

@@ -34,6 +34,9 @@ pub best-rank-requires-clause-row : goal.best-rank-requires-clause-row
 best-rank-requires-clause-row g c =
     top_row g.R.Rank.KEYS g.R.Rank.key c.args.tree.now c.live.ensures.formed (is_live (group_count c.args.tree.now 0) c.live.result c.live.ensures.live c.if-not-live.false) c.member-row.result c.member-row.ensures.member
 
+pub best_rows-rows-requires-clause-tie_free : goal.best_rows-rows-requires-clause-tie_free
+best_rows-rows-requires-clause-tie_free g c = c.requires
+
 pub best_rows-rows-requires-clause-row : goal.best_rows-rows-requires-clause-row
 best_rows-rows-requires-clause-row g c =
     top_row g.R.Rank.KEYS g.R.Rank.key c.args.tree.now c.live.ensures.formed (is_live (group_count c.args.tree.now 0) c.live.result c.live.ensures.live c.if-not-live.false) c.member-row.result c.member-row.ensures.member

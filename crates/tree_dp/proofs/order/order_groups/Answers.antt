@@ -1,13 +1,23 @@
-use Rattle.std.proofs.Common.{◌≡◌, ◌+◌, ◌<◌, [], ◌∷◌, All, length, length-append, get_or, inl, inr, sym, ap, subst, ◌∙◌, arith}
+use Rattle.std.proofs.Common.{◌≡◌, ◌+◌, ◌<◌, [], ◌∷◌, All, length, length-append, get_or, refl, inl, inr, sym, ap, subst, ◌∙◌, arith}
 use Rattle.std.proofs.Math.ListN.{set}
 use Rattle.std.specs.List.Sorted.{IsPermutation}
 use Rattle.std.proofs.lemmas.Bool.{cases_lt}
 use Rattle.std.proofs.lemmas.List.{length-set, get_or_past}
-use Rattle.std.proofs.lemmas.List.Sorted.{IsPermutation-trans, All-permutation, length_permutation}
+use Rattle.std.proofs.lemmas.List.Sorted.{IsPermutation-refl, IsPermutation-trans, All-permutation, length_permutation}
 use Rattle.tree_dp.specs.Orders.{key_at, IsHeapOver}
 use Rattle.tree_dp.proofs.Grouping.{members_from, same_members, below_next}
 use Rattle.tree_dp.proofs.Leasts.{leasts_pushed}
 use Rattle.tree_dp.proofs.order.order_groups.Goals as goal
+
+pub loop-number-init : goal.loop-number-init
+loop-number-init g c = record {
+  group_count = refl;
+  same_rows = λ m. IsPermutation-refl (get_or c.args.groups.now m []);
+  heaps = λ m l. absurd (omega arith);
+  least_count = ap length c.in_ok-leasts.ensures.items;
+  leasts = λ m l. absurd (omega arith);
+  counted = omega arith;
+}
 
 pub order_group-requires-clause-rows : goal.order_group-requires-clause-rows
 order_group-requires-clause-rows g c =

@@ -1,16 +1,29 @@
-use Rattle.std.proofs.Common.{◌≡◌, ℕ, length, sym, ap, ◌∙◌, subst, arith}
+use Rattle.std.proofs.Common.{◌≡◌, ℕ, ◌+◌, ◌*◌, ◌<◌, ◌≤◌, length, sym, ap, ◌∙◌, subst, arith}
 use Rattle.std.proofs.lemmas.List.{length-map}
-use Rattle.tdp_core.specs.TreeView.{node_view, tree_view, node_at}
+use Rattle.tdp_model.proofs.Ranges.{times_small}
+use Rattle.tdp_core.specs.TreeView.{node_view, tree_view, node_at, row_count}
 use Rattle.tdp_core.specs.WellFormed.{IsLaidOut, IsFormed}
 use Rattle.tree_dp.specs.SolvedTrees.{IsReordered, IsSolved}
 use Rattle.tree_dp.proofs.Grouping.{items_written}
 use Rattle.tree_dp.proofs.Reordered.{layout_kept, solved_of}
 use Rattle.tree_dp.proofs.solving.solve.Goals as goal
 
+-- where there is a node, a step for each row is no more than a step for each row and node
+steps_within : (nodes rows before after : ℕ) → 0 < nodes → after ≤ before + rows * (nodes + 2) → after ≤ before + 4 * nodes * (1 + rows)
+steps_within nodes rows before after some h = omega (arith, times_small 1 nodes rows (omega arith), h)
+
 pub solve_nodes-requires : goal.solve_nodes-requires
 solve_nodes-requires g c =
     subst (λ ns. IsLaidOut g.R.Rank.KEYS g.R.Rank.key (tree_view ns)) (sym c.as_mut_slice.ensures.value)
     c.requires.laid_out
+
+pub returns-in_err-solve_nodes-clause-cost : goal.returns-in_err-solve_nodes-clause-cost
+returns-in_err-solve_nodes-clause-cost g c =
+    let items = c.args.reduced.nodes.items in
+    let after = c.solve_nodes.new.steps in
+    let some : 0 < length items = omega (arith, c.requires.shaped.some_node, length-map items node_view) in
+    steps_within (length items) (row_count (tree_view items)) c.args.steps.now after some
+    (subst (λ ns. after ≤ c.args.steps.now + row_count (tree_view ns) * (length ns + 2)) c.as_mut_slice.ensures.value c.solve_nodes.ensures.cost)
 
 pub from_parts-requires : goal.from_parts-requires
 from_parts-requires g c =
@@ -42,3 +55,11 @@ returns-clause-solved g c =
     subst (λ ns. (v : ℕ) → IsReordered (node_at (tree_view ns) v) (node_at (tree_view new) v)) c.as_mut_slice.ensures.value c.in_ok-solve_nodes.ensures.reordered
     in
     subst (IsSolved (tree_view items)) (sym (c.from_parts.ensures ∙ ap tree_view (items_written c.args.reduced.nodes new long))) (solved_of (tree_view items) (tree_view new) count nodes)
+
+pub returns-clause-cost : goal.returns-clause-cost
+returns-clause-cost g c =
+    let items = c.args.reduced.nodes.items in
+    let after = c.solve_nodes.new.steps in
+    let some : 0 < length items = omega (arith, c.requires.shaped.some_node, length-map items node_view) in
+    steps_within (length items) (row_count (tree_view items)) c.args.steps.now after some
+    (subst (λ ns. after ≤ c.args.steps.now + row_count (tree_view ns) * (length ns + 2)) c.as_mut_slice.ensures.value c.solve_nodes.ensures.cost)

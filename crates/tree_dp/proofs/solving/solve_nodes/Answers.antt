@@ -1,11 +1,44 @@
-use Rattle.std.proofs.Common.{◌≡◌, ◌+◌, ◌-◌, ◌*◌, ◌<◌, ◌≤◌, ◌∷◌, length, map, sym, ap, subst, ◌∙◌, arith}
+use Rattle.std.proofs.Common.{◌≡◌, ℕ, ◌+◌, ◌-◌, ◌*◌, ◌<◌, ◌≤◌, List, ◌∷◌, length, map, sym, ap, subst, ◌∙◌, arith}
 use Rattle.std.proofs.lemmas.List.{length-map}
+use Rattle.tdp_model.specs.KeyTuple.{KeyOf}
 use Rattle.tdp_model.proofs.Ranges.{times_small}
-use Rattle.tdp_core.specs.TreeView.{node_view, tree_view, node_at, rows}
-use Rattle.tree_dp.specs.Progress.{AreLeastsFrom}
-use Rattle.tree_dp.proofs.Reordered.{reordered_trans, rows_same, layout_kept}
+use Rattle.tdp_core.specs.TreeView.{NodeView, node_view, tree_view, node_at, rows}
+use Rattle.tree_dp.specs.Progress.{IsSolvedFrom, AreLeastsFrom}
+use Rattle.tree_dp.proofs.Reordered.{reordered_refl, reordered_trans, rows_same, layout_kept}
 use Rattle.tree_dp.proofs.RowTotals.{total_from_before, total_from_most}
 use Rattle.tree_dp.proofs.solving.solve_nodes.Goals as goal
+
+module _ {R : Type 0} (d : ℕ) (key : R → KeyOf d 16) (t : List (NodeView R)) (n : ℕ) (past : length t ≤ n) where
+  -- the nodes past the last one are solved
+  solved_past : IsSolvedFrom d key t n
+  solved_past = record {
+    all_best = λ v l h. absurd (omega arith);
+    bests = λ v r l h k. absurd (omega arith);
+    heaps = λ v g i l h. absurd (omega arith);
+  }
+
+  leasts_past : (leasts : List (List R)) → length leasts + n ≡ length t → AreLeastsFrom d key t n leasts
+  leasts_past leasts all = record {
+    all_nodes = all;
+    all_groups = λ v l h. absurd (omega arith);
+    firsts = λ v g l h k. absurd (omega arith);
+  }
+
+pub loop-node-init : goal.loop-node-init
+loop-node-init g c =
+    let d = g.R.Rank.KEYS in
+    let key = g.R.Rank.key in
+    let parts = c.args.nodes.now in
+    let t = tree_view parts in
+    let whole : length t ≡ length parts = length-map parts node_view in
+    let past : length t ≤ length parts = omega arith in
+    let none = c.new-leasts.result.items in
+    record {
+      reordered = λ v. reordered_refl (node_at t v);
+      solved = solved_past d key t (length parts) past;
+      leasts = leasts_past d key t (length parts) past (map (λ ls. ls.items) none) (omega (arith, whole, length-map none (λ ls. ls.items), ap length c.new-leasts.ensures.items));
+      counted = omega arith;
+    }
 
 pub solve_node-requires-clause-laid_out : goal.solve_node-requires-clause-laid_out
 solve_node-requires-clause-laid_out g c =
@@ -83,3 +116,13 @@ returns-in_err-insert-clause-cost g c =
       ap (λ n. rows now (v - 1) * n) c.loop-node.auto.nodes,
       times_small _ _ long (total_from_most (rows before) (length before) (v - 1) (omega arith)),
     )
+
+pub solve_node-requires-clause-solved : goal.solve_node-requires-clause-solved
+solve_node-requires-clause-solved g c =
+    let next : c.loop-node.node ≡ c.loop-node.node - 1 + 1 = omega arith in
+    subst (IsSolvedFrom g.R.Rank.KEYS g.R.Rank.key (tree_view c.loop-node.nodes)) next c.loop-node.invariant.solved
+
+pub returns-clause-solved : goal.returns-clause-solved
+returns-clause-solved g c =
+    let end : c.loop-node.node ≡ 0 = omega arith in
+    subst (IsSolvedFrom g.R.Rank.KEYS g.R.Rank.key (tree_view c.loop-node.nodes)) end c.loop-node.invariant.solved

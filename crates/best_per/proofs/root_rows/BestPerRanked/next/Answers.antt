@@ -1,18 +1,24 @@
-use Rattle.std.proofs.Common.{rules, ◌≡◌, ◌+◌, ◌<◌, ◌≤◌, ◌∙◌, ℕ, ℤ, List, [], ◌∷◌, length, sym, ap, subst, arith}
+use Rattle.std.proofs.Common.{◌≡◌, ◌+◌, ◌<◌, ◌≤◌, ◌∙◌, ℕ, ℤ, true, false, List, [], ◌∷◌, length, inl, inr, sym, ap, subst, arith}
+use Rattle.std.proofs.lemmas.Bool.{false≢true, cases_lt}
 use Rattle.std.proofs.lemmas.List.Sorted.{length_permutation}
 use Rattle.take2_heap.specs.declared.entry.Entry.{Entry}
+use Rattle.take2_heap.specs.Heap.{Heap}
 use Rattle.rank_key.specs.Bits.{bit_length}
 use Rattle.rank_key.proofs.BitLemmas.{bit_length_rises, bit_length_zero}
 use Rattle.tdp_model.specs.KeyTuple.{KeyOf}
 use Rattle.tdp_model.specs.KeyNumbers.{numbers}
-use Rattle.tdp_core.specs.AnswerView.{AnswerView, answers_of, rows_of_key}
+use Rattle.tdp_core.specs.AnswerView.{AnswerView, counted, answers_of, rows_of_key}
 use Rattle.tdp_core.specs.Shares.{share_of, size_of}
 use Rattle.tdp_core.specs.TreeView.{rows, row_count, group_count, best}
 use Rattle.tdp_core.proofs.TreeFacts.{member_is_row}
-use Rattle.best_per.specs.RootHeap.{BestView, rest_keys, place_key}
+use Rattle.best_per.specs.RootHeap.{BestView, IsQueue, rest_keys, place_key}
 use Rattle.best_per.proofs.Counts.{call_within}
 use Rattle.best_per.proofs.Queues.{top_place, others_placed, top_lives, heap_within, tag_small, rows_counted, some_left, queue_next, none_rest}
 use Rattle.best_per.proofs.root_rows.BestPerRanked.next.Goals as goal
+
+-- a queue from which nothing came has no entries
+none_waits : (n : ℕ) → (0 < n → false ≡ true) → n ≤ 0
+none_waits n given = elim (cases_lt 0 n) [ inl some ↦ absurd (false≢true (given some)) | inr none ↦ none ]
 
 pub returns-in_default-clause-end : goal.returns-in_default-clause-end
 returns-in_default-clause-end g c =
@@ -20,9 +26,9 @@ returns-in_default-clause-end g c =
     let key = g.R.Rank.key in
     let t = c.self.inside.tree.now in
     let entries : List (Entry g.row.R.Denot ℕ) = c.self.inside.queue.entries in
-    let empty : length entries ≤ 0 = search rules in
+    let empty = none_waits (length entries) c.in_default.ensures.variant.1 in
     let none : answers_of d (rest_keys d key t entries) ≡ [] = ap (answers_of d) (none_rest d key t entries empty) in
-    let same : c.pop.new.self.entries ≡ entries = search rules in (
+    let same : c.pop.new.self.entries ≡ entries = ap (λ (q : Heap g.row.R.Denot ℕ). q.entries) c.in_default.ensures.none in (
       ap (λ (s : BestView g.row.R.Denot). s.rest) (sym c.self.view_is) ∙ none,
       ap (λ (es : List (Entry g.row.R.Denot ℕ)). answers_of d (rest_keys d key t es)) same ∙ none,
     )
@@ -30,7 +36,7 @@ returns-in_default-clause-end g c =
 pub returns-in_default-clause-cost : goal.returns-in_default-clause-cost
 returns-in_default-clause-cost g c =
     let entries : List (Entry g.row.R.Denot ℕ) = c.self.inside.queue.entries in
-    let empty : length entries ≤ 0 = search rules in
+    let empty = none_waits (length entries) c.in_default.ensures.variant.1 in
     let zero_digits : bit_length (length entries) ≡ 0 = ap bit_length (let e : length entries ≡ 0 = omega (arith, empty) in e) ∙ bit_length_zero in
     omega (arith, c.pop.ensures.cost, zero_digits)
 
@@ -43,6 +49,27 @@ pub overflow_add-top : goal.overflow_add-top
 overflow_add-top g c =
     let small = tag_small g.R.Rank.KEYS g.R.Rank.key c.self.inside.tree.now c.self.inside.queue.entries c.self.inside.queue.spare c.self.invariant c.in-Some.top c.pop.new.self.entries c.in-Some.ensures.permutation in
     omega (arith, small)
+
+pub invariant_of-self : goal.invariant_of-self
+invariant_of-self g c =
+    subst (λ (q : Heap g.row.R.Denot ℕ). IsQueue g.R.Rank.KEYS g.R.Rank.key c.self.inside.tree.now q.entries q.spare) (sym c.in_default.ensures.none) c.self.invariant
+
+pub offer-requires-clause-live : goal.offer-requires-clause-live
+offer-requires-clause-live g c = top_lives g.R.Rank.KEYS g.R.Rank.key c.self.inside.tree.now c.self.inside.queue.entries c.self.inside.queue.spare c.self.invariant c.in-Some.top c.pop.new.self.entries c.in-Some.ensures.permutation
+
+pub offer-requires-2-clause-live : goal.offer-requires-2-clause-live
+offer-requires-2-clause-live g c = top_lives g.R.Rank.KEYS g.R.Rank.key c.self.inside.tree.now c.self.inside.queue.entries c.self.inside.queue.spare c.self.invariant c.in-Some.top c.pop.new.self.entries c.in-Some.ensures.permutation
+
+pub member-row-requires-clause-group : goal.member-row-requires-clause-group
+member-row-requires-clause-group g c = top_lives g.R.Rank.KEYS g.R.Rank.key c.self.inside.tree.now c.self.inside.queue.entries c.self.inside.queue.spare c.self.invariant c.in-Some.top c.pop.new.self.entries c.in-Some.ensures.permutation
+
+pub member-row-requires-clause-place : goal.member-row-requires-clause-place
+member-row-requires-clause-place g c =
+    let place = top_place g.R.Rank.KEYS g.R.Rank.key c.self.inside.tree.now c.self.inside.queue.entries c.self.inside.queue.spare c.self.invariant c.in-Some.top c.pop.new.self.entries c.in-Some.ensures.permutation in
+    place.within
+
+pub best_rows-rows-requires-clause-tie_free : goal.best_rows-rows-requires-clause-tie_free
+best_rows-rows-requires-clause-tie_free g c = c.self.invariant.tie_free
 
 pub offer-requires-clause-entries : goal.offer-requires-clause-entries
 offer-requires-clause-entries g c =
@@ -125,3 +152,6 @@ returns-clause-cost g c =
     (omega (arith, c.offer-2.ensures.cost, second)) c.member-row.ensures.counted c.best_rows-rows.ensures.cost
     in
     subst (λ (s : BestView g.row.R.Denot). c.best_rows-rows.new.steps ≤ c.args.steps.now + share_of (size_of s.tree) 0) c.self.view_is all
+
+pub returns-clause-counted : goal.returns-clause-counted
+returns-clause-counted g c = c.saturating_add-self-inside.ensures ∙ ap (λ (s : BestView g.row.R.Denot). counted s.calls) c.self.view_is

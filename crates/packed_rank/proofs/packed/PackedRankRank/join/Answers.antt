@@ -1,19 +1,26 @@
-use Rattle.std.proofs.Common.{◌≡◌, ◌+ℤ◌, sym, ap, subst, ◌∙◌, rules}
+use Rattle.std.proofs.Common.{◌≡◌, ◌+ℤ◌, sym, ap, subst, ◌∙◌}
 use Rattle.std.specs.Prelude.{FitsSigned}
 use Rattle.std.specs.Int.{w128}
-use Rattle.std.proofs.lemmas.Int.{to_z-of_z}
 use Rattle.packed_rank.specs.Packed.{packed_key}
-use Rattle.packed_rank.proofs.Adding.{number_sum}
+use Rattle.packed_rank.proofs.Adding.{number_sum, number_read, sum_read, read, read_fits}
 use Rattle.packed_rank.proofs.packed.PackedRankRank.join.Goals as goal
+
+pub overflow_add-get : goal.overflow_add-get
+overflow_add-get g c =
+    let held = c.requires.2 in
+    let a = c.args.a in let b = c.args.b in
+    let sum = number_sum a.number b.number held.0.number a.fits b.fits held.0.fits held.1 in
+    let parts = sum_read c.get.result c.get-2.result a.number b.number c.get.ensures c.get-2.ensures a.fits b.fits in
+    subst (FitsSigned w128) (sum ∙ sym parts) held.0.fits
+
+pub invariant_of-result : goal.invariant_of-result
+invariant_of-result g c = record { fits = read_fits c.new.result (read c.get.result +ℤ read c.get-2.result) c.new.ensures }
 
 pub returns-clause-sum : goal.returns-clause-sum
 returns-clause-sum g c =
     let held = c.requires.2 in
     let a = c.args.a in let b = c.args.b in
     let sum = number_sum a.number b.number held.0.number a.fits b.fits held.0.fits held.1 in
-    let first : FitsSigned w128 c.get.result = search rules in
-    let second : FitsSigned w128 c.get-2.result = search rules in
-    let parts : c.get.result +ℤ c.get-2.result ≡ a.number +ℤ b.number = λ i. c.get.ensures i +ℤ c.get-2.ensures i in
-    let fits : FitsSigned w128 (c.get.result +ℤ c.get-2.result) = subst (FitsSigned w128) (sum ∙ sym parts) held.0.fits in
-    let made : c.new.result ≡ c.get.result +ℤ c.get-2.result = c.new.ensures ∙ simp to_z-of_z in
-    ap packed_key (made ∙ parts ∙ sym sum) ∙ held.1
+    let parts = sum_read c.get.result c.get-2.result a.number b.number c.get.ensures c.get-2.ensures a.fits b.fits in
+    let made : c.new.result ≡ held.0.number = c.new.ensures ∙ number_read _ held.0.number (parts ∙ sym sum) held.0.fits in
+    ap packed_key made ∙ held.1
