@@ -2,7 +2,7 @@
 use Rattle.std.proofs.Common.{◌≡◌, ◌+◌, ◌<◌, ◌≤◌, ℕ, zero, suc, Bool, true, false, if◌then◌else◌, ℤ, pos, ◌+ℤ◌, ◌-ℤ◌, neg_ℤ, nat_abs, unwrap_or, List, [], ◌∷◌, ◌++◌, map, length, take, get_or, slice_index, subst, sym, ap, ◌∙◌, arith, FitsSigned}
 use mir.Syntax.{w128}
 use Rattle.std.proofs.lemmas.Int.{ints, fits_signed_from_abs}
-use Rattle.std.proofs.lemmas.List.{get_or-map, length-map, map-append, take_more}
+use Rattle.std.proofs.lemmas.List.{get_or-map, length-map, map-append, take_all, take_more}
 use Rattle.anyk_model.specs.Table.{Table}
 use Rattle.anyk_model.specs.Weight.{weight_of}
 use Rattle.anyk_model.specs.Query.{OrderKey, Query, Term, term_value, total, value_of}
@@ -55,6 +55,10 @@ module _ (query : Query) (tables : List Table) (rows : List ℕ) where
       ∙ sym (total_more (map (term_value query tables rows) (take n terms)) (term_value query tables rows (get_or terms n d)))
       ∙ ap total (sym (map-append (term_value query tables rows) (take n terms) (get_or terms n d ∷ [])))
       ∙ ap (λ (l : List Term). total (map (term_value query tables rows) l)) (sym (take_more terms n d inside))
+
+  -- no term is left
+  pub added_all : (n : ℕ) (terms : List Term) → length terms ≤ n → added n terms ≡ total (map (term_value query tables rows) terms)
+  added_all n terms all = ap (λ (l : List Term). total (map (term_value query tables rows) l)) (take_all n terms all)
 
   -- the sum fits, if the greatest weights of the columns of all terms have a sum that does
   pub added_fits : (n : ℕ) (terms : List Term) (z : ℤ) → terms_size tables query.items terms ≤ most_sum → z ≡ added n terms → FitsSigned w128 z

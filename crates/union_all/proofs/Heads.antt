@@ -1,5 +1,5 @@
 -- The first answer of a branch and those that are left after it.
-use Rattle.std.proofs.Common.{◌≡◌, ◌++◌, ◌∙◌, ℕ, Option, None, Some, List, [], ◌∷◌, length, take, MatchOption, refl, ap}
+use Rattle.std.proofs.Common.{◌≡◌, ◌++◌, ◌∙◌, ℕ, ℤ, Option, None, Some, List, [], ◌∷◌, length, take, MatchOption, IfSome, IfNone, option_map, refl, ap, sym}
 use Rattle.anyk_model.specs.Query.{Query}
 use Rattle.tdp_core.specs.AnswerView.{AnswerView}
 use Rattle.witness_key.specs.WitnessKey.{combinations_in}
@@ -11,3 +11,14 @@ pub head_told : (query : Query) (head : Option (List ℕ)) (rest : List AnswerVi
     → MatchOption head (left ≡ []) (λ rows. (later : List (List ℕ)) × (left ≡ take (length query.items) rows ∷ later))
 head_told query None rest left none is = is ∙ ap (combinations_in query) (none refl)
 head_told query (Some rows) rest left none is = (combinations_in query rest, is)
+
+-- the engine's next answer, and those that it has left after it
+pub next_told : {A : Type 0} (query : Query) (rows : A → List ℕ) (key : A → List ℤ) (next : Option A) (old new : List AnswerView)
+    → IfSome next (λ a. old ≡ record { rows = rows a; key = key a } ∷ new) → IfNone next ((old ≡ []) × (new ≡ []))
+    → combinations_in query old ≡ first_of (length query.items) (option_map rows next) ++ combinations_in query new
+next_told query rows key None old new some none = ap (combinations_in query) (none.0 ∙ sym none.1)
+next_told query rows key (Some a) old new some none = ap (combinations_in query) some
+
+pub none_told : {A : Type 0} (rows : A → List ℕ) (next : Option A) (old new : List AnswerView) → IfNone next ((old ≡ []) × (new ≡ [])) → option_map rows next ≡ None → new ≡ []
+none_told rows None old new none is = none.1
+none_told rows (Some a) old new none is = absurd (cc is)

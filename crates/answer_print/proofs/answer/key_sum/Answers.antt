@@ -1,10 +1,11 @@
-use Rattle.std.proofs.Common.{◌≡◌, ◌+◌, ◌∙◌, ◌+ℤ◌, SFits, length, take, get_or, rules}
+use Rattle.std.proofs.Common.{◌≡◌, ◌≤◌, ◌+◌, ◌∙◌, ◌+ℤ◌, SFits, length, take, get_or, ap, arith, rules}
 use mir.Syntax.{w128}
 use mir.Val.{of_z, to_z}
 use Rattle.std.proofs.lemmas.Int.{to_z-of_z}
+use Rattle.std.proofs.lemmas.List.{length-map}
 use Rattle.bound_query.specs.StoredParts.{term_view}
 use Rattle.bound_query.specs.Weights.{key_at}
-use Rattle.answer_print.proofs.Sums.{added, added_fits, added_more, no_term, term_there}
+use Rattle.answer_print.proofs.Sums.{added, added_all, added_fits, added_more, no_term, term_there}
 use Rattle.answer_print.proofs.answer.key_sum.Goals as goal
 
 pub term_value-sum-requires-clause-inside : goal.term_value-sum-requires-clause-inside
@@ -46,3 +47,11 @@ loop-term-preserved c =
     added_more query tables rows i terms (term_view (get_or stored i no_term)) (term_view no_term) (to_z w128 c.loop-term.sum-bits) (to_z w128 (of_z w128 c.term_value-sum.result))
     c.loop-term.invariant t.same (value ∙ c.term_value-sum.ensures) t.place in
     to_z-of_z w128 sum (added_fits query tables rows (i + 1) terms sum t.range more) ∙ more
+
+pub returns : goal.returns
+returns c =
+    let query = c.args.query.now.query in
+    let terms = (key_at query.order c.args.key).terms in
+    let stored = c.terms-term-items in
+    let all : length terms ≤ c.loop-term.term-index = omega (arith, ap length stored.ensures, length-map stored.result.now term_view) in
+    c.loop-term.invariant ∙ added_all query c.args.tables.now (take (length query.items) c.args.rows.now) c.loop-term.term-index terms all

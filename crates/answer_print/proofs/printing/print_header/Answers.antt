@@ -1,0 +1,12 @@
+use Rattle.std.proofs.Common.{◌≡◌, Err, rules}
+use Rattle.refusal_lines.specs.declared.refusal.Refusal.TheVariants as refusal
+use Rattle.refusal_lines.proofs.Prints.{unprinted}
+use Rattle.answer_print.proofs.printing.print_header.Goals as goal
+
+pub returns-in_err-write_header : goal.returns-in_err-write_header
+returns-in_err-write_header g c =
+    let e : c.from_residual.result ≡ Err refusal.NoMemory = search rules in
+    rw e (unprinted _ _)
+
+pub returns : goal.returns
+returns g c = rw (c.text.ensures, c.in_ok-write_header.ensures) at c.print.ensures
