@@ -2,6 +2,7 @@ use Rattle.std.proofs.Common.{◌≡◌, ◌+◌, ◌≤◌, ◌∙◌, ℕ, Boo
 use Rattle.std.specs.List.{All}
 use Rattle.std.proofs.lemmas.Bool.{false≢true, lt-ltb, cases_lt}
 use Rattle.std.proofs.lemmas.List.{get_or_past}
+use Rattle.std.proofs.lemmas.Result.{IfOk-from_err}
 use Rattle.std.proofs.lemmas.List.Elements.{All-nil}
 use Rattle.take2_heap.specs.declared.entry.Entry.{Entry}
 use Rattle.rank_key.specs.Bits.{bit_length}
@@ -27,42 +28,41 @@ none_begins {R} d key t es spare formed apart dead is =
     subst (λ (xs : List (Entry R ℕ)). IsQueue d key t xs spare × IsBestRanking t d key (rest_keys d key t xs)) (sym is)
     (queue_begins d key t [] spare formed apart (All-nil (IsPlace d key t)) (λ i. omega (arith, none_past (root_len t) 0 i none)) (omega (arith, none)) (omega arith))
 
-pub returns-then-not-live-clause-queue : goal.returns-then-not-live-clause-queue
-returns-then-not-live-clause-queue g c =
-    let dead = none_below (group_count c.args.tree.now 0) c.live.result c.live.ensures.live c.if-not-live.true in
-    (none_begins g.R.Rank.KEYS g.R.Rank.key c.args.tree.now c.new-queue.result.entries c.new-queue.result.spare c.live.ensures.formed c.requires.tie_free dead c.new-queue.ensures.entries).0
-
-pub returns-then-not-live-clause-best : goal.returns-then-not-live-clause-best
-returns-then-not-live-clause-best g c =
-    let dead = none_below (group_count c.args.tree.now 0) c.live.result c.live.ensures.live c.if-not-live.true in
-    (none_begins g.R.Rank.KEYS g.R.Rank.key c.args.tree.now c.new-queue.result.entries c.new-queue.result.spare c.live.ensures.formed c.requires.tie_free dead c.new-queue.ensures.entries).1
-
 pub offer-requires-clause-entries : goal.offer-requires-clause-entries
 offer-requires-clause-entries g c =
     let Placed : Entry g.row.R.Denot ℕ → Type 0 = IsPlace g.R.Rank.KEYS g.R.Rank.key c.args.tree.now in
     let empty : c.reserve.new.self.entries ≡ [] = c.reserve.ensures.entries ∙ c.new-queue.ensures.entries in
     subst (All Placed) (sym empty) (All-nil Placed)
 
-pub returns-clause-queue : goal.returns-clause-queue
-returns-clause-queue g c =
+pub returns-in_err-reserve : goal.returns-in_err-reserve
+returns-in_err-reserve g c =
+    record {
+      queue = IfOk-from_err c.from_residual.result _ c.from_residual.ensures.0;
+      best = IfOk-from_err c.from_residual.result _ c.from_residual.ensures.0;
+      cost = omega arith;
+    }
+
+pub returns-then-not-live : goal.returns-then-not-live
+returns-then-not-live g c =
+    let dead = none_below (group_count c.args.tree.now 0) c.live.result c.live.ensures.live c.if-not-live.true in
+    let both = none_begins g.R.Rank.KEYS g.R.Rank.key c.args.tree.now c.new-queue.result.entries c.new-queue.result.spare c.live.ensures.formed c.requires.tie_free dead c.new-queue.ensures.entries in
+    record {
+      queue = both.0;
+      best = both.1;
+      cost = omega arith;
+    }
+
+pub returns : goal.returns
+returns g c =
     let t = c.args.tree.now in
     let empty : c.reserve.new.self.entries ≡ [] = c.reserve.ensures.entries ∙ c.new-queue.ensures.entries in
     let none : length c.reserve.new.self.entries ≡ 0 = ap (λ (es : List (Entry g.row.R.Denot ℕ)). length es) empty in
-    (queue_begins g.R.Rank.KEYS g.R.Rank.key t c.offer.new.queue.entries c.offer.new.queue.spare c.live.ensures.formed c.requires.tie_free c.offer.ensures.entries
+    let both = queue_begins g.R.Rank.KEYS g.R.Rank.key t c.offer.new.queue.entries c.offer.new.queue.spare c.live.ensures.formed c.requires.tie_free c.offer.ensures.entries
     (λ i. omega (arith, c.offer.ensures.held i, nothing_held (root_len t) c.reserve.new.self.entries i none))
-    (omega (arith, c.offer.ensures.room, c.in_ok-reserve.ensures.ok, c.group_len.ensures)) (omega (arith, c.offer.ensures.length, none))).0
-
-pub returns-clause-best : goal.returns-clause-best
-returns-clause-best g c =
-    let t = c.args.tree.now in
-    let empty : c.reserve.new.self.entries ≡ [] = c.reserve.ensures.entries ∙ c.new-queue.ensures.entries in
-    let none : length c.reserve.new.self.entries ≡ 0 = ap (λ (es : List (Entry g.row.R.Denot ℕ)). length es) empty in
-    (queue_begins g.R.Rank.KEYS g.R.Rank.key t c.offer.new.queue.entries c.offer.new.queue.spare c.live.ensures.formed c.requires.tie_free c.offer.ensures.entries
-    (λ i. omega (arith, c.offer.ensures.held i, nothing_held (root_len t) c.reserve.new.self.entries i none))
-    (omega (arith, c.offer.ensures.room, c.in_ok-reserve.ensures.ok, c.group_len.ensures)) (omega (arith, c.offer.ensures.length, none))).1
-
-pub returns-clause-cost : goal.returns-clause-cost
-returns-clause-cost g c =
-    let empty : length c.reserve.new.self.entries ≡ 0 = ap (λ (es : List (Entry g.row.R.Denot ℕ)). length es) (c.reserve.ensures.entries ∙ c.new-queue.ensures.entries) in
-    let one : bit_length (length c.reserve.new.self.entries + 1) ≡ 1 = ap (λ n. bit_length (n + 1)) empty ∙ bit_length_is 1 1 (omega arith) (λ _. omega arith) in
-    omega (arith, c.offer.ensures.cost, one, c.live.ensures.formed.shaped.some_node)
+    (omega (arith, c.offer.ensures.room, c.in_ok-reserve.ensures.ok, c.group_len.ensures)) (omega (arith, c.offer.ensures.length, none)) in
+    let one : bit_length (length c.reserve.new.self.entries + 1) ≡ 1 = ap (λ n. bit_length (n + 1)) none ∙ bit_length_is 1 1 (omega arith) (λ _. omega arith) in
+    record {
+      queue = both.0;
+      best = both.1;
+      cost = omega (arith, c.offer.ensures.cost, one, c.live.ensures.formed.shaped.some_node);
+    }

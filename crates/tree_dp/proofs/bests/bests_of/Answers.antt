@@ -41,18 +41,6 @@ loop-row-preserved g c =
       counted = omega (arith, l.invariant.counted, c.row_best-best.ensures.cost);
     }
 
-pub returns-in_err-bests-clause-count : goal.returns-in_err-bests-clause-count
-returns-in_err-bests-clause-count g c =
-    none_given _ _ c.from_residual.ensures.0
-
-pub returns-in_err-bests-clause-bests : goal.returns-in_err-bests-clause-bests
-returns-in_err-bests-clause-bests g c =
-    none_given _ _ c.from_residual.ensures.0
-
-pub returns-in_err-bests-clause-cost : goal.returns-in_err-bests-clause-cost
-returns-in_err-bests-clause-cost g c =
-    steps_more c.args.steps.now _
-
 pub loop-row-init : goal.loop-row-init
 loop-row-init g c =
     record { long = ap length c.in_ok-bests.ensures.items; bests = λ r h. absurd (omega arith); counted = steps_more c.args.steps.now _ }
@@ -63,37 +51,31 @@ row_best-best-requires g c =
     let count = row_count g at.After-len-row-end in
     record { node = c.requires.node; row = omega (arith, count, c.loop-row-test.true); laid_out = c.requires.laid_out; solved = c.requires.solved; leasts = c.requires.leasts }
 
-pub returns-in_err-push-clause-count : goal.returns-in_err-push-clause-count
-returns-in_err-push-clause-count g c =
-    none_given _ _ c.from_residual-in_err-push.ensures.0
+pub returns-in_err-bests : goal.returns-in_err-bests
+returns-in_err-bests g c =
+    record {
+      count = none_given _ _ c.from_residual.ensures.0;
+      bests = none_given _ _ c.from_residual.ensures.0;
+      cost = steps_more c.args.steps.now _;
+    }
 
-pub returns-in_err-push-clause-bests : goal.returns-in_err-push-clause-bests
-returns-in_err-push-clause-bests g c =
-    none_given _ _ c.from_residual-in_err-push.ensures.0
-
-pub returns-in_err-push-clause-cost : goal.returns-in_err-push-clause-cost
-returns-in_err-push-clause-cost g c =
-    let at = goal.at.returns-in_err-push-clause-cost g c in
+pub returns-in_err-push : goal.returns-in_err-push
+returns-in_err-push g c =
+    let at = goal.at.returns-in_err-push g c in
     let count = row_count g at.After-len-row-end in
-    row_within c.args.steps.now c.loop-row.steps c.row_best-best.new.steps c.loop-row.row (rows (tree_view c.args.nodes.now) c.args.node) (length c.args.nodes.now) c.loop-row.invariant.counted c.row_best-best.ensures.cost (omega (arith, count, c.loop-row-test.true))
+    record {
+      count = none_given _ _ c.from_residual-in_err-push.ensures.0;
+      bests = none_given _ _ c.from_residual-in_err-push.ensures.0;
+      cost = row_within c.args.steps.now c.loop-row.steps c.row_best-best.new.steps c.loop-row.row (rows (tree_view c.args.nodes.now) c.args.node) (length c.args.nodes.now) c.loop-row.invariant.counted c.row_best-best.ensures.cost (omega (arith, count, c.loop-row-test.true));
+    }
 
-pub returns-clause-count : goal.returns-clause-count
-returns-clause-count g c =
-    let at = goal.at.returns-clause-count g c in
-    let count = row_count g at.After-len-row-end in
-    let all : c.loop-row.row ≡ rows (tree_view c.args.nodes.now) c.args.node = omega (arith, count, c.loop-row-test.false, c.loop-row.auto.row-end) in
-    c.loop-row.invariant.long ∙ all
-
-pub returns-clause-bests : goal.returns-clause-bests
-returns-clause-bests g c =
-    let at = goal.at.returns-clause-bests g c in
+pub returns : goal.returns
+returns g c =
+    let at = goal.at.returns g c in
     let count = row_count g at.After-len-row-end in
     let all : c.loop-row.row ≡ rows (tree_view c.args.nodes.now) c.args.node = omega (arith, count, c.loop-row-test.false, c.loop-row.auto.row-end) in
-    λ r h. c.loop-row.invariant.bests r (omega (arith, h, all))
-
-pub returns-clause-cost : goal.returns-clause-cost
-returns-clause-cost g c =
-    let at = goal.at.returns-clause-cost g c in
-    let count = row_count g at.After-len-row-end in
-    let all : c.loop-row.row ≡ rows (tree_view c.args.nodes.now) c.args.node = omega (arith, count, c.loop-row-test.false, c.loop-row.auto.row-end) in
-    omega (arith, c.loop-row.invariant.counted, ap (λ n. n * length c.args.nodes.now) all)
+    record {
+      count = c.loop-row.invariant.long ∙ all;
+      bests = λ r h. c.loop-row.invariant.bests r (omega (arith, h, all));
+      cost = omega (arith, c.loop-row.invariant.counted, ap (λ n. n * length c.args.nodes.now) all);
+    }

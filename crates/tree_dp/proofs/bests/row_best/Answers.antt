@@ -187,12 +187,15 @@ loop-child-preserved g c =
           }
     ]
 
-pub returns-clause-best : goal.returns-clause-best
-returns-clause-best g c =
+pub returns : goal.returns
+returns g c =
     let d = g.R.Rank.KEYS in
     let key = g.R.Rank.key in
     let t = tree_view c.args.nodes.now in
     let v = c.args.node in
     let all : c.loop-child.child ≡ length t = end_is v c.loop-child.child (length c.args.nodes.now) c.requires.node c.loop-child.auto.child-end c.loop-child-test.false ∙ sym (length-map c.args.nodes.now node_view) in
-    c.loop-child.invariant.added
-    ∙ ap (first_part (key_below d 16) (key_add d 16) (key_none d 16) (tuple_keys d 16) (length t) (parent t) (rank t d key) (group t) (best t d key) v c.args.row) (ap (λ n. n - suc v) all)
+    record {
+      best = c.loop-child.invariant.added
+          ∙ ap (first_part (key_below d 16) (key_add d 16) (key_none d 16) (tuple_keys d 16) (length t) (parent t) (rank t d key) (group t) (best t d key) v c.args.row) (ap (λ n. n - suc v) all);
+      cost = omega (arith, c.loop-child.invariant.counted, all, length-map c.args.nodes.now node_view);
+    }

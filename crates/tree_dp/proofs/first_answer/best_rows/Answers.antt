@@ -66,8 +66,8 @@ loop-node-preserved g c =
       counted = omega (arith, c.loop-node.invariant.counted, c.first_row-below.ensures.cost, c.row_at-in-loop-node.ensures.counted);
     }
 
-pub returns-clause-rows : goal.returns-clause-rows
-returns-clause-rows g c =
+pub returns : goal.returns
+returns g c =
     let d = g.R.Rank.KEYS in
     let key = g.R.Rank.key in
     let t = c.args.tree.now in
@@ -81,4 +81,7 @@ returns-clause-rows g c =
     let slots : (i : ℕ) → i < 16 → get_or c.loop-node.rows i 0 ≡ slot_of d 16 i (key_of_rows d key t (take (length t) chosen)) =
     λ i l. c.loop-node.invariant.slots i l ∙ ap (λ n. slot_of d 16 i (key_of_rows d key t (take n chosen))) all
     in
-    walk_ends d key t formed live chosen (omega (arith, long, formed.shaped.few_nodes)) best_row least c.loop-node.rows c.loop-node.invariant.rows_long slots
+    record {
+      rows = walk_ends d key t formed live chosen (omega (arith, long, formed.shaped.few_nodes)) best_row least c.loop-node.rows c.loop-node.invariant.rows_long slots;
+      cost = omega (arith, c.loop-node.invariant.counted, all);
+    }

@@ -27,9 +27,6 @@ top_row d key t formed live row is =
     let some : 0 < length t = omega (arith, formed.shaped.some_node) in
     subst (λ r. r < rows t 0) (sym is) (member_is_row d key t formed 0 0 0 some (formed.inhabited 0 0 some live))
 
-pub returns-then-not-live-clause-none : goal.returns-then-not-live-clause-none
-returns-then-not-live-clause-none g c = none_ranked g.R.Rank.KEYS g.R.Rank.key c.args.tree.now c.live.ensures.formed (is_dead (group_count c.args.tree.now 0) c.live.result c.live.ensures.live c.if-not-live.true)
-
 pub best-rank-requires-clause-row : goal.best-rank-requires-clause-row
 best-rank-requires-clause-row g c =
     top_row g.R.Rank.KEYS g.R.Rank.key c.args.tree.now c.live.ensures.formed (is_live (group_count c.args.tree.now 0) c.live.result c.live.ensures.live c.if-not-live.false) c.member-row.result c.member-row.ensures.member
@@ -41,8 +38,16 @@ pub best_rows-rows-requires-clause-row : goal.best_rows-rows-requires-clause-row
 best_rows-rows-requires-clause-row g c =
     top_row g.R.Rank.KEYS g.R.Rank.key c.args.tree.now c.live.ensures.formed (is_live (group_count c.args.tree.now 0) c.live.result c.live.ensures.live c.if-not-live.false) c.member-row.result c.member-row.ensures.member
 
-pub returns-clause-head : goal.returns-clause-head
-returns-clause-head g c =
+pub returns-then-not-live : goal.returns-then-not-live
+returns-then-not-live g c =
+    record {
+      none = none_ranked g.R.Rank.KEYS g.R.Rank.key c.args.tree.now c.live.ensures.formed (is_dead (group_count c.args.tree.now 0) c.live.result c.live.ensures.live c.if-not-live.true);
+      head = λ ks ranking. tt;
+      cost = omega arith;
+    }
+
+pub returns : goal.returns
+returns g c =
     let d = g.R.Rank.KEYS in
     let key = g.R.Rank.key in
     let t = c.args.tree.now in
@@ -52,4 +57,8 @@ returns-clause-head g c =
     let rank : key c.best-rank.result ≡ top = c.best-rank.ensures.best ∙ ap (best t d key 0) c.member-row.ensures.member in
     let rows : c.best_rows-rows.result ≡ rows_of_key d 16 top = c.best_rows-rows.ensures.rows ∙ ap (λ r. rows_of_key d 16 (best t d key 0 r)) c.member-row.ensures.member in
     let seen : List ℕ → List ℤ → AnswerView = λ r k. record { rows = r; key = k } in
-    λ ks ranking. top_ranked d key t formed live ks ranking ∙ ap (λ r. Some (seen r (numbers d 16 top))) (sym rows) ∙ ap (λ k. Some (seen c.best_rows-rows.result (numbers d 16 k))) (sym rank)
+    record {
+      none = λ ks ranking. tt;
+      head = λ ks ranking. top_ranked d key t formed live ks ranking ∙ ap (λ r. Some (seen r (numbers d 16 top))) (sym rows) ∙ ap (λ k. Some (seen c.best_rows-rows.result (numbers d 16 k))) (sym rank);
+      cost = omega (arith, c.member-row.ensures.counted, c.best-rank.ensures.counted, c.best_rows-rows.ensures.cost, formed.shaped.some_node);
+    }

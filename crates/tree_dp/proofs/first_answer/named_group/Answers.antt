@@ -20,12 +20,15 @@ group_of-requires-clause-row g c =
     let below : c.shape.result.now.parent < c.args.node = omega (arith, ap (λ s. s.parent) c.shape.ensures, c.requires.formed.shaped.parents_first c.args.node some c.requires.node) in
     c.requires.above c.shape.result.now.parent below
 
-pub returns-clause-group : goal.returns-clause-group
-returns-clause-group g c =
+pub returns : goal.returns
+returns g c =
     let t = c.args.tree.now in
     let q = c.args.node in
     let is : c.shape.result.now.parent ≡ parent t q = ap (λ s. s.parent) c.shape.ensures in
-    c.group_of.ensures.named
-    ∙ ap (group_named t c.shape.result.now.parent (get_or c.args.chosen.now c.shape.result.now.parent 0)) c.child_place-place.ensures.place
-    ∙ ap (λ p. group_named t p (get_or c.args.chosen.now p 0) (child_place t q)) is
-    ∙ sym (cond-false (nat_eq q 0) 0 (group_named t (parent t q) (get_or c.args.chosen.now (parent t q) 0) (child_place t q)) (ne_eqb q 0 (λ e. omega (arith, e, c.requires.below))))
+    record {
+      group = c.group_of.ensures.named
+          ∙ ap (group_named t c.shape.result.now.parent (get_or c.args.chosen.now c.shape.result.now.parent 0)) c.child_place-place.ensures.place
+          ∙ ap (λ p. group_named t p (get_or c.args.chosen.now p 0) (child_place t q)) is
+          ∙ sym (cond-false (nat_eq q 0) 0 (group_named t (parent t q) (get_or c.args.chosen.now (parent t q) 0) (child_place t q)) (ne_eqb q 0 (λ e. omega (arith, e, c.requires.below))));
+      cost = omega (arith, c.group_of.ensures.counted);
+    }

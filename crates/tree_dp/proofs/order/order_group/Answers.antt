@@ -1,6 +1,7 @@
 use Rattle.std.proofs.Common.{◌<◌, ◌++◌, length, take, drop, refl, sym, ap, subst, ◌∙◌, arith}
 use Rattle.std.specs.List.Sorted.{IsPermutation}
 use Rattle.std.proofs.lemmas.List.{get_or_default}
+use Rattle.std.proofs.lemmas.Result.{IfOk-from_err}
 use Rattle.std.proofs.lemmas.List.Sorted.{length_permutation}
 use Rattle.tree_dp.specs.Orders.{key_at, IsHeapOver}
 use Rattle.tree_dp.proofs.RowHeaps.{key_read, heap_over}
@@ -19,16 +20,17 @@ bounds-best-index g c =
 pub offset_bounds-best-index : goal.offset_bounds-best-index
 offset_bounds-best-index g c = omega (arith, bounds-best-index g c)
 
-pub returns-clause-heap : goal.returns-clause-heap
-returns-clause-heap g c =
-    let copy = c.extend_from_slice.new.self in
-    let heap = c.heapify_by.new.items in
-    let after = after_slice copy.items c.deref_mut.result.now heap _ copy.len copy.ok.0 c.deref_mut.ensures.value c.heapify_by.ensures.permutation refl in
-    subst (IsHeapOver g.R.Rank.KEYS g.R.Rank.key c.args.best.now) (sym after)
-    (heap_over g.R.Rank.KEYS g.R.Rank.key c.args.best.now heap c.heapify_by.ensures.heap_order)
+pub returns-in_err-extend_from_slice : goal.returns-in_err-extend_from_slice
+returns-in_err-extend_from_slice g c =
+    record {
+      same_rows = IfOk-from_err c.from_residual.result _ c.from_residual.ensures.0;
+      heap = IfOk-from_err c.from_residual.result _ c.from_residual.ensures.0;
+      least = IfOk-from_err c.from_residual.result _ c.from_residual.ensures.0;
+      cost = omega arith;
+    }
 
-pub returns-clause-least : goal.returns-clause-least
-returns-clause-least g c =
+pub returns : goal.returns
+returns g c =
     let copy = c.extend_from_slice.new.self in
     let heap = c.heapify_by.new.items in
     let whole = take copy.len (heap ++ drop (length heap) copy.items) in
@@ -38,5 +40,11 @@ returns-clause-least g c =
     let moved = subst (λ xs. IsPermutation xs heap) copied c.heapify_by.ensures.permutation in
     let below = first_of (λ r. r < length c.args.best.now) c.args.group.now heap whole row c.requires.rows moved after c.requires.inhabited c.index.ensures in
     let some : 0 < length whole = omega (arith, c.requires.inhabited, ap length after, length_permutation _ _ moved) in
-    key_read g.R.Rank.KEYS g.R.Rank.key c.args.best.now row c.index-best-index.result below c.index-best-index.is
-    ∙ ap (key_at g.R.Rank.KEYS g.R.Rank.key c.args.best.now) (c.index.ensures ∙ get_or_default whole 0 row 0 some)
+    record {
+      same_rows = subst (IsPermutation c.args.group.now) (sym after) moved;
+      heap = subst (IsHeapOver g.R.Rank.KEYS g.R.Rank.key c.args.best.now) (sym after)
+          (heap_over g.R.Rank.KEYS g.R.Rank.key c.args.best.now heap c.heapify_by.ensures.heap_order);
+      least = key_read g.R.Rank.KEYS g.R.Rank.key c.args.best.now row c.index-best-index.result below c.index-best-index.is
+          ∙ ap (key_at g.R.Rank.KEYS g.R.Rank.key c.args.best.now) (c.index.ensures ∙ get_or_default whole 0 row 0 some);
+      cost = omega (arith, c.heapify_by.ensures.cost, ap length copied);
+    }

@@ -3,11 +3,22 @@ use Rattle.std.proofs.Math.ListN.{set}
 use Rattle.std.specs.List.Sorted.{IsPermutation}
 use Rattle.std.proofs.lemmas.Bool.{cases_lt}
 use Rattle.std.proofs.lemmas.List.{length-set, get_or_past}
+use Rattle.std.proofs.lemmas.Result.{IfOk-from_err}
 use Rattle.std.proofs.lemmas.List.Sorted.{IsPermutation-refl, IsPermutation-trans, All-permutation, length_permutation}
 use Rattle.tree_dp.specs.Orders.{key_at, IsHeapOver}
 use Rattle.tree_dp.proofs.Grouping.{members_from, same_members, below_next}
 use Rattle.tree_dp.proofs.Leasts.{leasts_pushed}
 use Rattle.tree_dp.proofs.order.order_groups.Goals as goal
+
+pub returns-in_err-leasts : goal.returns-in_err-leasts
+returns-in_err-leasts g c = record {
+  group_count = IfOk-from_err c.from_residual.result _ c.from_residual.ensures.0;
+  same_rows = IfOk-from_err c.from_residual.result _ c.from_residual.ensures.0;
+  heaps = IfOk-from_err c.from_residual.result _ c.from_residual.ensures.0;
+  least_count = IfOk-from_err c.from_residual.result _ c.from_residual.ensures.0;
+  leasts = IfOk-from_err c.from_residual.result _ c.from_residual.ensures.0;
+  cost = omega arith;
+}
 
 pub loop-number-init : goal.loop-number-init
 loop-number-init g c = record {
@@ -28,20 +39,6 @@ pub order_group-requires-clause-inhabited : goal.order_group-requires-clause-inh
 order_group-requires-clause-inhabited g c =
     let n = c.loop-number.number in
     omega (arith, ap length c.group.ensures, length_permutation _ _ (c.loop-number.invariant.same_rows n), c.requires.inhabited n (omega (arith, c.loop-number-test.true, c.len-number-end.ensures)))
-
-pub returns-in_err-least-clause-cost : goal.returns-in_err-least-clause-cost
-returns-in_err-least-clause-cost g c =
-    let first = c.args.groups.now in
-    let n = c.loop-number.number in
-    let long : length c.group.result.now ≡ length (get_or first n []) = ap length c.group.ensures ∙ length_permutation _ _ (c.loop-number.invariant.same_rows n) in
-    omega (arith, long, c.order_group.ensures.cost, c.loop-number.invariant.counted, members_from first n (omega (arith, c.loop-number-test.true, c.len-number-end.ensures)))
-
-pub returns-in_err-push-clause-cost : goal.returns-in_err-push-clause-cost
-returns-in_err-push-clause-cost g c =
-    let first = c.args.groups.now in
-    let n = c.loop-number.number in
-    let long : length c.group.result.now ≡ length (get_or first n []) = ap length c.group.ensures ∙ length_permutation _ _ (c.loop-number.invariant.same_rows n) in
-    omega (arith, long, c.order_group.ensures.cost, c.loop-number.invariant.counted, members_from first n (omega (arith, c.loop-number-test.true, c.len-number-end.ensures)))
 
 pub replace-requires-clause-size : goal.replace-requires-clause-size
 replace-requires-clause-size g c = ap length c.deref.ensures.value ∙ length_permutation _ _ c.in_ok-least.ensures.same_rows ∙ ap length c.group.ensures
@@ -70,8 +67,45 @@ loop-number-preserved g c =
       counted = omega (arith, long, c.order_group.ensures.cost, c.loop-number.invariant.counted, members_from first n in_first);
     }
 
-pub returns-clause-heaps : goal.returns-clause-heaps
-returns-clause-heaps g c = λ n. elim (cases_lt n (length c.loop-number.groups)) [
-  | inl l ↦ c.loop-number.invariant.heaps n (omega (arith, l, c.loop-number.invariant.group_count, c.len-number-end.ensures))
-  | inr past ↦ λ i some h. absurd (omega (arith, ap length (get_or_past c.loop-number.groups n [] past), h))
-]
+pub returns-in_err-least : goal.returns-in_err-least
+returns-in_err-least g c =
+    let first = c.args.groups.now in
+    let n = c.loop-number.number in
+    let long : length c.group.result.now ≡ length (get_or first n []) = ap length c.group.ensures ∙ length_permutation _ _ (c.loop-number.invariant.same_rows n) in
+    record {
+      group_count = IfOk-from_err c.from_residual-in_err-least.result _ c.from_residual-in_err-least.ensures.0;
+      same_rows = IfOk-from_err c.from_residual-in_err-least.result _ c.from_residual-in_err-least.ensures.0;
+      heaps = IfOk-from_err c.from_residual-in_err-least.result _ c.from_residual-in_err-least.ensures.0;
+      least_count = IfOk-from_err c.from_residual-in_err-least.result _ c.from_residual-in_err-least.ensures.0;
+      leasts = IfOk-from_err c.from_residual-in_err-least.result _ c.from_residual-in_err-least.ensures.0;
+      cost = omega (arith, long, c.order_group.ensures.cost, c.loop-number.invariant.counted, members_from first n (omega (arith, c.loop-number-test.true, c.len-number-end.ensures)));
+    }
+
+pub returns-in_err-push : goal.returns-in_err-push
+returns-in_err-push g c =
+    let first = c.args.groups.now in
+    let n = c.loop-number.number in
+    let long : length c.group.result.now ≡ length (get_or first n []) = ap length c.group.ensures ∙ length_permutation _ _ (c.loop-number.invariant.same_rows n) in
+    record {
+      group_count = IfOk-from_err c.from_residual-in_err-push.result _ c.from_residual-in_err-push.ensures.0;
+      same_rows = IfOk-from_err c.from_residual-in_err-push.result _ c.from_residual-in_err-push.ensures.0;
+      heaps = IfOk-from_err c.from_residual-in_err-push.result _ c.from_residual-in_err-push.ensures.0;
+      least_count = IfOk-from_err c.from_residual-in_err-push.result _ c.from_residual-in_err-push.ensures.0;
+      leasts = IfOk-from_err c.from_residual-in_err-push.result _ c.from_residual-in_err-push.ensures.0;
+      cost = omega (arith, long, c.order_group.ensures.cost, c.loop-number.invariant.counted, members_from first n (omega (arith, c.loop-number-test.true, c.len-number-end.ensures)));
+    }
+
+pub returns : goal.returns
+returns g c =
+    let all : c.loop-number.number ≡ length c.args.groups.now = omega (arith, c.len-number-end.ensures) in
+    record {
+      group_count = c.loop-number.invariant.group_count;
+      same_rows = c.loop-number.invariant.same_rows;
+      heaps = λ n. elim (cases_lt n (length c.loop-number.groups)) [
+        | inl l ↦ c.loop-number.invariant.heaps n (omega (arith, l, c.loop-number.invariant.group_count, all))
+        | inr past ↦ λ i some h. absurd (omega (arith, ap length (get_or_past c.loop-number.groups n [] past), h))
+      ];
+      least_count = c.loop-number.invariant.least_count ∙ all;
+      leasts = λ n l. c.loop-number.invariant.leasts n (subst (λ m. n < m) (sym all) l);
+      cost = omega (arith, c.loop-number.invariant.counted);
+    }

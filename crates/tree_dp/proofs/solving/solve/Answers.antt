@@ -1,5 +1,6 @@
 use Rattle.std.proofs.Common.{◌≡◌, ℕ, ◌+◌, ◌*◌, ◌<◌, ◌≤◌, length, sym, ap, ◌∙◌, subst, arith}
 use Rattle.std.proofs.lemmas.List.{length-map}
+use Rattle.std.proofs.lemmas.Result.{IfOk-from_err}
 use Rattle.tdp_model.proofs.Ranges.{times_small}
 use Rattle.tdp_core.specs.TreeView.{node_view, tree_view, node_at, row_count}
 use Rattle.tdp_core.specs.WellFormed.{IsLaidOut, IsFormed}
@@ -16,14 +17,6 @@ pub solve_nodes-requires : goal.solve_nodes-requires
 solve_nodes-requires g c =
     subst (λ ns. IsLaidOut g.R.Rank.KEYS g.R.Rank.key (tree_view ns)) (sym c.as_mut_slice.ensures.value)
     c.requires.laid_out
-
-pub returns-in_err-solve_nodes-clause-cost : goal.returns-in_err-solve_nodes-clause-cost
-returns-in_err-solve_nodes-clause-cost g c =
-    let items = c.args.reduced.nodes.items in
-    let after = c.solve_nodes.new.steps in
-    let some : 0 < length items = omega (arith, c.requires.shaped.some_node, length-map items node_view) in
-    steps_within (length items) (row_count (tree_view items)) c.args.steps.now after some
-    (subst (λ ns. after ≤ c.args.steps.now + row_count (tree_view ns) * (length ns + 2)) c.as_mut_slice.ensures.value c.solve_nodes.ensures.cost)
 
 pub from_parts-requires : goal.from_parts-requires
 from_parts-requires g c =
@@ -45,21 +38,29 @@ from_parts-requires g c =
     } in
     subst (λ ns. IsFormed d key (tree_view ns)) (sym (items_written c.args.reduced.nodes new long)) built
 
-pub returns-clause-solved : goal.returns-clause-solved
-returns-clause-solved g c =
-    let items = c.args.reduced.nodes.items in
-    let new = c.solve_nodes.new.nodes in
-    let long : length new ≡ length items = c.solve_nodes.auto.nodes ∙ ap length c.as_mut_slice.ensures.value in
-    let count : length (tree_view new) ≡ length (tree_view items) = length-map new node_view ∙ long ∙ sym (length-map items node_view) in
-    let nodes : (v : ℕ) → IsReordered (node_at (tree_view items) v) (node_at (tree_view new) v) =
-    subst (λ ns. (v : ℕ) → IsReordered (node_at (tree_view ns) v) (node_at (tree_view new) v)) c.as_mut_slice.ensures.value c.in_ok-solve_nodes.ensures.reordered
-    in
-    subst (IsSolved (tree_view items)) (sym (c.from_parts.ensures ∙ ap tree_view (items_written c.args.reduced.nodes new long))) (solved_of (tree_view items) (tree_view new) count nodes)
+pub returns-in_err-solve_nodes : goal.returns-in_err-solve_nodes
+returns-in_err-solve_nodes g c = record {
+  solved = IfOk-from_err c.from_residual.result _ c.from_residual.ensures.0;
+  cost = let items = c.args.reduced.nodes.items in
+      let after = c.solve_nodes.new.steps in
+      let some : 0 < length items = omega (arith, c.requires.shaped.some_node, length-map items node_view) in
+      steps_within (length items) (row_count (tree_view items)) c.args.steps.now after some
+      (subst (λ ns. after ≤ c.args.steps.now + row_count (tree_view ns) * (length ns + 2)) c.as_mut_slice.ensures.value c.solve_nodes.ensures.cost);
+}
 
-pub returns-clause-cost : goal.returns-clause-cost
-returns-clause-cost g c =
-    let items = c.args.reduced.nodes.items in
-    let after = c.solve_nodes.new.steps in
-    let some : 0 < length items = omega (arith, c.requires.shaped.some_node, length-map items node_view) in
-    steps_within (length items) (row_count (tree_view items)) c.args.steps.now after some
-    (subst (λ ns. after ≤ c.args.steps.now + row_count (tree_view ns) * (length ns + 2)) c.as_mut_slice.ensures.value c.solve_nodes.ensures.cost)
+pub returns : goal.returns
+returns g c = record {
+  solved = let items = c.args.reduced.nodes.items in
+      let new = c.solve_nodes.new.nodes in
+      let long : length new ≡ length items = c.solve_nodes.auto.nodes ∙ ap length c.as_mut_slice.ensures.value in
+      let count : length (tree_view new) ≡ length (tree_view items) = length-map new node_view ∙ long ∙ sym (length-map items node_view) in
+      let nodes : (v : ℕ) → IsReordered (node_at (tree_view items) v) (node_at (tree_view new) v) =
+      subst (λ ns. (v : ℕ) → IsReordered (node_at (tree_view ns) v) (node_at (tree_view new) v)) c.as_mut_slice.ensures.value c.in_ok-solve_nodes.ensures.reordered
+      in
+      subst (IsSolved (tree_view items)) (sym (c.from_parts.ensures ∙ ap tree_view (items_written c.args.reduced.nodes new long))) (solved_of (tree_view items) (tree_view new) count nodes);
+  cost = let items = c.args.reduced.nodes.items in
+      let after = c.solve_nodes.new.steps in
+      let some : 0 < length items = omega (arith, c.requires.shaped.some_node, length-map items node_view) in
+      steps_within (length items) (row_count (tree_view items)) c.args.steps.now after some
+      (subst (λ ns. after ≤ c.args.steps.now + row_count (tree_view ns) * (length ns + 2)) c.as_mut_slice.ensures.value c.solve_nodes.ensures.cost);
+}

@@ -1,5 +1,6 @@
 use Rattle.std.proofs.Common.{◌≡◌, ℕ, ◌+◌, ◌-◌, ◌*◌, ◌<◌, ◌≤◌, List, ◌∷◌, length, map, sym, ap, subst, ◌∙◌, arith}
 use Rattle.std.proofs.lemmas.List.{length-map}
+use Rattle.std.proofs.lemmas.Result.{IfOk-from_err}
 use Rattle.tdp_model.specs.KeyTuple.{KeyOf}
 use Rattle.tdp_model.proofs.Ranges.{times_small}
 use Rattle.tdp_core.specs.TreeView.{NodeView, node_view, tree_view, node_at, rows}
@@ -77,52 +78,62 @@ loop-node-preserved g c =
       counted = omega (arith, c.loop-node.invariant.counted, c.solve_node.ensures.cost, ap (λ n. n * long) more, ap (λ n. n * long) here, ap (λ n. rows now (v - 1) * n) c.loop-node.auto.nodes);
     }
 
-pub returns-in_err-own-clause-cost : goal.returns-in_err-own-clause-cost
-returns-in_err-own-clause-cost g c =
-    let before = tree_view c.args.nodes.now in
-    let now = tree_view c.loop-node.nodes in
-    let v = c.loop-node.node in
-    let long = length c.args.nodes.now + 2 in
-    let some : 0 < v = omega arith in
-    let inside : v ≤ length before = omega (arith, c.loop-node.auto.node, length-map c.args.nodes.now node_view) in
-    let here : rows now (v - 1) ≡ rows before (v - 1) = ap (λ f. f (v - 1)) (rows_same before now c.loop-node.invariant.reordered) in
-    let more = total_from_before (rows before) (length before) v some inside in
-    omega (
-      arith,
-      c.loop-node.invariant.counted,
-      c.solve_node.ensures.cost,
-      ap (λ n. n * long) more,
-      ap (λ n. n * long) here,
-      ap (λ n. rows now (v - 1) * n) c.loop-node.auto.nodes,
-      times_small _ _ long (total_from_most (rows before) (length before) (v - 1) (omega arith)),
-    )
-
-pub returns-in_err-insert-clause-cost : goal.returns-in_err-insert-clause-cost
-returns-in_err-insert-clause-cost g c =
-    let before = tree_view c.args.nodes.now in
-    let now = tree_view c.loop-node.nodes in
-    let v = c.loop-node.node in
-    let long = length c.args.nodes.now + 2 in
-    let some : 0 < v = omega arith in
-    let inside : v ≤ length before = omega (arith, c.loop-node.auto.node, length-map c.args.nodes.now node_view) in
-    let here : rows now (v - 1) ≡ rows before (v - 1) = ap (λ f. f (v - 1)) (rows_same before now c.loop-node.invariant.reordered) in
-    let more = total_from_before (rows before) (length before) v some inside in
-    omega (
-      arith,
-      c.loop-node.invariant.counted,
-      c.solve_node.ensures.cost,
-      ap (λ n. n * long) more,
-      ap (λ n. n * long) here,
-      ap (λ n. rows now (v - 1) * n) c.loop-node.auto.nodes,
-      times_small _ _ long (total_from_most (rows before) (length before) (v - 1) (omega arith)),
-    )
-
 pub solve_node-requires-clause-solved : goal.solve_node-requires-clause-solved
 solve_node-requires-clause-solved g c =
     let next : c.loop-node.node ≡ c.loop-node.node - 1 + 1 = omega arith in
     subst (IsSolvedFrom g.R.Rank.KEYS g.R.Rank.key (tree_view c.loop-node.nodes)) next c.loop-node.invariant.solved
 
-pub returns-clause-solved : goal.returns-clause-solved
-returns-clause-solved g c =
-    let end : c.loop-node.node ≡ 0 = omega arith in
-    subst (IsSolvedFrom g.R.Rank.KEYS g.R.Rank.key (tree_view c.loop-node.nodes)) end c.loop-node.invariant.solved
+pub returns-in_err-own : goal.returns-in_err-own
+returns-in_err-own g c = record {
+  reordered = IfOk-from_err c.from_residual.result _ c.from_residual.ensures.0;
+  solved = IfOk-from_err c.from_residual.result _ c.from_residual.ensures.0;
+  cost = let before = tree_view c.args.nodes.now in
+      let now = tree_view c.loop-node.nodes in
+      let v = c.loop-node.node in
+      let long = length c.args.nodes.now + 2 in
+      let some : 0 < v = omega arith in
+      let inside : v ≤ length before = omega (arith, c.loop-node.auto.node, length-map c.args.nodes.now node_view) in
+      let here : rows now (v - 1) ≡ rows before (v - 1) = ap (λ f. f (v - 1)) (rows_same before now c.loop-node.invariant.reordered) in
+      let more = total_from_before (rows before) (length before) v some inside in
+      omega (
+        arith,
+        c.loop-node.invariant.counted,
+        c.solve_node.ensures.cost,
+        ap (λ n. n * long) more,
+        ap (λ n. n * long) here,
+        ap (λ n. rows now (v - 1) * n) c.loop-node.auto.nodes,
+        times_small _ _ long (total_from_most (rows before) (length before) (v - 1) (omega arith)),
+      );
+}
+
+pub returns-in_err-insert : goal.returns-in_err-insert
+returns-in_err-insert g c = record {
+  reordered = IfOk-from_err c.from_residual-in_err-insert.result _ c.from_residual-in_err-insert.ensures.0;
+  solved = IfOk-from_err c.from_residual-in_err-insert.result _ c.from_residual-in_err-insert.ensures.0;
+  cost = let before = tree_view c.args.nodes.now in
+      let now = tree_view c.loop-node.nodes in
+      let v = c.loop-node.node in
+      let long = length c.args.nodes.now + 2 in
+      let some : 0 < v = omega arith in
+      let inside : v ≤ length before = omega (arith, c.loop-node.auto.node, length-map c.args.nodes.now node_view) in
+      let here : rows now (v - 1) ≡ rows before (v - 1) = ap (λ f. f (v - 1)) (rows_same before now c.loop-node.invariant.reordered) in
+      let more = total_from_before (rows before) (length before) v some inside in
+      omega (
+        arith,
+        c.loop-node.invariant.counted,
+        c.solve_node.ensures.cost,
+        ap (λ n. n * long) more,
+        ap (λ n. n * long) here,
+        ap (λ n. rows now (v - 1) * n) c.loop-node.auto.nodes,
+        times_small _ _ long (total_from_most (rows before) (length before) (v - 1) (omega arith)),
+      );
+}
+
+pub returns : goal.returns
+returns g c = record {
+  reordered = c.loop-node.invariant.reordered;
+  solved = let end : c.loop-node.node ≡ 0 = omega arith in
+      subst (IsSolvedFrom g.R.Rank.KEYS g.R.Rank.key (tree_view c.loop-node.nodes)) end c.loop-node.invariant.solved;
+  cost = let before = tree_view c.args.nodes.now in
+      omega (arith, c.loop-node.invariant.counted, times_small _ _ (length c.args.nodes.now + 2) (total_from_most (rows before) (length before) c.loop-node.node (omega arith)));
+}

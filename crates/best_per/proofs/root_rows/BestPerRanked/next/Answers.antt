@@ -1,4 +1,4 @@
-use Rattle.std.proofs.Common.{◌≡◌, ◌+◌, ◌<◌, ◌≤◌, ◌∙◌, ℕ, ℤ, true, false, List, [], ◌∷◌, length, inl, inr, sym, ap, subst, arith}
+use Rattle.std.proofs.Common.{◌≡◌, ◌+◌, ◌<◌, ◌≤◌, ◌∙◌, ℕ, ℤ, true, false, List, [], ◌∷◌, length, inl, inr, refl, sym, ap, subst, arith}
 use Rattle.std.proofs.lemmas.Bool.{false≢true, cases_lt}
 use Rattle.std.proofs.lemmas.List.Sorted.{length_permutation}
 use Rattle.take2_heap.specs.declared.entry.Entry.{Entry}
@@ -19,26 +19,6 @@ use Rattle.best_per.proofs.root_rows.BestPerRanked.next.Goals as goal
 -- a queue from which nothing came has no entries
 none_waits : (n : ℕ) → (0 < n → false ≡ true) → n ≤ 0
 none_waits n given = elim (cases_lt 0 n) [ inl some ↦ absurd (false≢true (given some)) | inr none ↦ none ]
-
-pub returns-in_default-clause-end : goal.returns-in_default-clause-end
-returns-in_default-clause-end g c =
-    let d = g.R.Rank.KEYS in
-    let key = g.R.Rank.key in
-    let t = c.self.inside.tree.now in
-    let entries : List (Entry g.row.R.Denot ℕ) = c.self.inside.queue.entries in
-    let empty = none_waits (length entries) c.in_default.ensures.variant.1 in
-    let none : answers_of d (rest_keys d key t entries) ≡ [] = ap (answers_of d) (none_rest d key t entries empty) in
-    let same : c.pop.new.self.entries ≡ entries = ap (λ (q : Heap g.row.R.Denot ℕ). q.entries) c.in_default.ensures.none in (
-      ap (λ (s : BestView g.row.R.Denot). s.rest) (sym c.self.view_is) ∙ none,
-      ap (λ (es : List (Entry g.row.R.Denot ℕ)). answers_of d (rest_keys d key t es)) same ∙ none,
-    )
-
-pub returns-in_default-clause-cost : goal.returns-in_default-clause-cost
-returns-in_default-clause-cost g c =
-    let entries : List (Entry g.row.R.Denot ℕ) = c.self.inside.queue.entries in
-    let empty = none_waits (length entries) c.in_default.ensures.variant.1 in
-    let zero_digits : bit_length (length entries) ≡ 0 = ap bit_length (let e : length entries ≡ 0 = omega (arith, empty) in e) ∙ bit_length_zero in
-    omega (arith, c.pop.ensures.cost, zero_digits)
 
 pub overflow_mul-top : goal.overflow_mul-top
 overflow_mul-top g c =
@@ -105,8 +85,31 @@ invariant_of-self-2 g c =
     c.in-Some.ensures.least c.offer-2.new.queue.entries c.offer-2.new.queue.spare c.offer-2.ensures.entries (λ i. omega (arith, c.offer-2.ensures.held i, c.offer.ensures.held i))
     (omega (arith, c.offer-2.ensures.room, c.offer.ensures.room, c.in-Some.ensures.spare)) (omega (arith, c.offer-2.ensures.length, c.offer.ensures.length))).1
 
-pub returns-clause-found : goal.returns-clause-found
-returns-clause-found g c =
+pub returns-in_default : goal.returns-in_default
+returns-in_default g c =
+    let d = g.R.Rank.KEYS in
+    let key = g.R.Rank.key in
+    let t = c.self.inside.tree.now in
+    let entries : List (Entry g.row.R.Denot ℕ) = c.self.inside.queue.entries in
+    let empty = none_waits (length entries) c.in_default.ensures.variant.1 in
+    let none : answers_of d (rest_keys d key t entries) ≡ [] = ap (answers_of d) (none_rest d key t entries empty) in
+    let same : c.pop.new.self.entries ≡ entries = ap (λ (q : Heap g.row.R.Denot ℕ). q.entries) c.in_default.ensures.none in
+    let zero_digits : bit_length (length entries) ≡ 0 = ap bit_length (let e : length entries ≡ 0 = omega (arith, empty) in e) ∙ bit_length_zero in
+    record {
+      total = refl;
+      found = tt;
+      end = (
+        ap (λ (s : BestView g.row.R.Denot). s.rest) (sym c.self.view_is) ∙ none,
+        ap (λ (es : List (Entry g.row.R.Denot ℕ)). answers_of d (rest_keys d key t es)) same ∙ none,
+      );
+      refused = tt;
+      counted = c.saturating_add-self-inside.ensures ∙ ap (λ (s : BestView g.row.R.Denot). counted s.calls) c.self.view_is;
+      size = ap (λ (s : BestView g.row.R.Denot). size_of s.tree) c.self.view_is;
+      cost = omega (arith, c.pop.ensures.cost, zero_digits);
+    }
+
+pub returns : goal.returns
+returns g c =
     let d = g.R.Rank.KEYS in
     let key = g.R.Rank.key in
     let t = c.self.inside.tree.now in
@@ -122,20 +125,8 @@ returns-clause-found g c =
     in
     let rows_are : c.best_rows-rows.result ≡ rows_of_key d 16 k = c.best_rows-rows.ensures.rows ∙ ap (λ r. rows_of_key d 16 (best t d key 0 r)) c.member-row.ensures.member in
     let seen : List ℕ → List ℤ → AnswerView = λ r ns. record { rows = r; key = ns } in
-    ap (λ (s : BestView g.row.R.Denot). s.rest) (sym c.self.view_is)
-    ∙ ap (answers_of d) next
-    ∙ ap (λ r. seen r (numbers d 16 k) ∷ answers_of d (rest_keys d key t left)) (sym rows_are)
-    ∙ ap (λ z. seen c.best_rows-rows.result (numbers d 16 z) ∷ answers_of d (rest_keys d key t left)) (sym place.ranked)
-
-pub returns-clause-cost : goal.returns-clause-cost
-returns-clause-cost g c =
-    let d = g.R.Rank.KEYS in
-    let key = g.R.Rank.key in
-    let t = c.self.inside.tree.now in
-    let entries : List (Entry g.row.R.Denot ℕ) = c.self.inside.queue.entries in
     let spare = c.self.inside.queue.spare in
     let q = c.self.invariant in
-    let e : Entry g.row.R.Denot ℕ = c.in-Some.top in
     let others : List (Entry g.row.R.Denot ℕ) = c.pop.new.self.entries in
     let popped = c.in-Some.ensures.permutation in
     let one : length entries ≡ length others + 1 = omega (arith, length_permutation entries (e ∷ others) popped) in
@@ -151,7 +142,15 @@ returns-clause-cost g c =
     q.formed.shaped.some_node (top_lives d key t entries spare q e others popped) (omega (arith, one)) few c.pop.ensures.cost (omega (arith, c.offer.ensures.cost, first))
     (omega (arith, c.offer-2.ensures.cost, second)) c.member-row.ensures.counted c.best_rows-rows.ensures.cost
     in
-    subst (λ (s : BestView g.row.R.Denot). c.best_rows-rows.new.steps ≤ c.args.steps.now + share_of (size_of s.tree) 0) c.self.view_is all
-
-pub returns-clause-counted : goal.returns-clause-counted
-returns-clause-counted g c = c.saturating_add-self-inside.ensures ∙ ap (λ (s : BestView g.row.R.Denot). counted s.calls) c.self.view_is
+    record {
+      total = refl;
+      found = ap (λ (s : BestView g.row.R.Denot). s.rest) (sym c.self.view_is)
+          ∙ ap (answers_of d) next
+          ∙ ap (λ r. seen r (numbers d 16 k) ∷ answers_of d (rest_keys d key t left)) (sym rows_are)
+          ∙ ap (λ z. seen c.best_rows-rows.result (numbers d 16 z) ∷ answers_of d (rest_keys d key t left)) (sym place.ranked);
+      end = tt;
+      refused = tt;
+      counted = c.saturating_add-self-inside.ensures ∙ ap (λ (s : BestView g.row.R.Denot). counted s.calls) c.self.view_is;
+      size = ap (λ (s : BestView g.row.R.Denot). size_of s.tree) c.self.view_is;
+      cost = subst (λ (s : BestView g.row.R.Denot). c.best_rows-rows.new.steps ≤ c.args.steps.now + share_of (size_of s.tree) 0) c.self.view_is all;
+    }
