@@ -1,4 +1,4 @@
-use Rattle.std.proofs.Common.{◌≡◌, List, [], ◌∷◌, ◌++◌, length, None, ap, ◌∙◌, arith}
+use Rattle.std.proofs.Common.{refl, ◌≡◌, List, [], ◌∷◌, ◌++◌, length, None, ap, ◌∙◌, arith}
 use Rattle.stream_store.specs.declared.entry.Linked.{Linked}
 use Rattle.stream_store.specs.Entries.{Entries}
 use Rattle.anyk_part.specs.declared.candidate.Link.{Link}
@@ -61,3 +61,30 @@ pub returns-clause-link_room : goal.returns-clause-link_room
 returns-clause-link_room g c =
     let same = ap (λ (l : Entries Link). l.spare) c.choose-choice.ensures.links in
     omega (arith, same, c.push_reserved-last.ensures.spare)
+
+pub choose-choice-requires-clause-places : goal.choose-choice-requires-clause-places
+choose-choice-requires-clause-places g c = c.requires.places
+
+pub choose-choice-requires-clause-at : goal.choose-choice-requires-clause-at
+choose-choice-requires-clause-at g c = c.requires.at
+
+pub choose-choice-requires-clause-node : goal.choose-choice-requires-clause-node
+choose-choice-requires-clause-node g c = c.requires.node
+
+pub choose-choice-requires-clause-entries : goal.choose-choice-requires-clause-entries
+choose-choice-requires-clause-entries g c = c.requires.entries
+
+pub choose-choice-requires-clause-top : goal.choose-choice-requires-clause-top
+choose-choice-requires-clause-top g c = c.requires.top
+
+pub choose-choice-requires-clause-room : goal.choose-choice-requires-clause-room
+choose-choice-requires-clause-room g c = c.requires.room
+
+pub returns-clause-node : goal.returns-clause-node
+returns-clause-node g c = refl
+
+pub returns-clause-place : goal.returns-clause-place
+returns-clause-place g c = refl
+
+pub returns-clause-room : goal.returns-clause-room
+returns-clause-room g c = c.choose-choice.ensures.room

@@ -134,3 +134,48 @@ returns-else-place-size-2-clause-cost g c =
     let n = length c.args.self.now.queue.entries in
     let a = bit_length_rises (n + 1) (n + 2) (omega arith) in
     omega (arith, a, c.group_at-group.ensures.cost, c.member-row.ensures.counted, c.best-best.ensures.counted, c.offer.ensures.cost)
+
+pub group_at-group-requires-clause-places : goal.group_at-group-requires-clause-places
+group_at-group-requires-clause-places g c = c.requires.places
+
+pub group_at-group-requires-clause-node : goal.group_at-group-requires-clause-node
+group_at-group-requires-clause-node g c = c.requires.node
+
+pub group_len-size-requires-clause-node : goal.group_len-size-requires-clause-node
+group_len-size-requires-clause-node g c = c.requires.node
+
+pub member-row-requires-clause-node : goal.member-row-requires-clause-node
+member-row-requires-clause-node g c = c.requires.node
+
+pub returns-then-place-size-clause-links : goal.returns-then-place-size-clause-links
+returns-then-place-size-clause-links g c = refl
+
+pub returns-then-place-size-clause-room : goal.returns-then-place-size-clause-room
+returns-then-place-size-clause-room g c = omega arith
+
+pub returns-then-place-size-clause-cost : goal.returns-then-place-size-clause-cost
+returns-then-place-size-clause-cost g c = omega (arith, c.group_at-group.ensures.cost, c.member-row.ensures.counted)
+
+pub best-best-requires-clause-node : goal.best-best-requires-clause-node
+best-best-requires-clause-node g c = c.requires.node
+
+pub offer-requires-clause-place : goal.offer-requires-clause-place
+offer-requires-clause-place g c = omega (arith, c.group_len-size.ensures, c.if-place-size.false)
+
+pub offer-requires-clause-entries : goal.offer-requires-clause-entries
+offer-requires-clause-entries g c = c.requires.entries
+
+pub offer-requires-clause-top : goal.offer-requires-clause-top
+offer-requires-clause-top g c = c.requires.top
+
+pub offer-requires-clause-room : goal.offer-requires-clause-room
+offer-requires-clause-room g c = omega (arith, c.requires.room)
+
+pub offer-requires-then-place-size-2-clause-top : goal.offer-requires-then-place-size-2-clause-top
+offer-requires-then-place-size-2-clause-top g c = λ e. absurd (false≢true e)
+
+pub returns-else-place-size-2-clause-links : goal.returns-else-place-size-2-clause-links
+returns-else-place-size-2-clause-links g c = c.offer.ensures.links
+
+pub returns-else-place-size-2-clause-room : goal.returns-else-place-size-2-clause-room
+returns-else-place-size-2-clause-room g c = omega (arith, c.offer.ensures.room)

@@ -125,3 +125,36 @@ returns-else-choice-clause-cost g c =
     (omega (arith, l.division.from)) l.cost (omega (arith, c.choose-choice.ensures.cost, digits)) in
     times_within (c.loop-walk.walk.node + 1 - c.args.start.node) m u c.args.steps.now c.choose-choice.new.steps c.choose-choice.new.steps (2 * bit_length (n + 2 * m))
     (omega (arith, l.below)) end (omega arith)
+
+pub advance-walk-requires-clause-places : goal.advance-walk-requires-clause-places
+advance-walk-requires-clause-places g c = c.requires.places
+
+pub advance-walk-requires-clause-at : goal.advance-walk-requires-clause-at
+advance-walk-requires-clause-at g c = c.loop-walk.invariant.at
+
+pub advance-walk-requires-clause-node : goal.advance-walk-requires-clause-node
+advance-walk-requires-clause-node g c = c.loop-walk.invariant.below
+
+pub advance-walk-requires-clause-entries : goal.advance-walk-requires-clause-entries
+advance-walk-requires-clause-entries g c = c.loop-walk.invariant.division.each
+
+pub advance-walk-requires-clause-room : goal.advance-walk-requires-clause-room
+advance-walk-requires-clause-room g c = omega (arith, c.loop-walk.invariant.room, c.loop-walk-test.true)
+
+pub advance-walk-requires-clause-link_room : goal.advance-walk-requires-clause-link_room
+advance-walk-requires-clause-link_room g c = omega (arith, c.loop-walk.invariant.link_room, c.loop-walk-test.true)
+
+pub choose-choice-requires-clause-places : goal.choose-choice-requires-clause-places
+choose-choice-requires-clause-places g c = c.requires.places
+
+pub choose-choice-requires-clause-at : goal.choose-choice-requires-clause-at
+choose-choice-requires-clause-at g c = c.loop-walk.invariant.at
+
+pub choose-choice-requires-clause-node : goal.choose-choice-requires-clause-node
+choose-choice-requires-clause-node g c = c.loop-walk.invariant.below
+
+pub choose-choice-requires-clause-entries : goal.choose-choice-requires-clause-entries
+choose-choice-requires-clause-entries g c = c.loop-walk.invariant.division.each
+
+pub choose-choice-requires-clause-room : goal.choose-choice-requires-clause-room
+choose-choice-requires-clause-room g c = omega (arith, c.loop-walk.invariant.room, c.loop-walk.invariant.below, c.loop-walk.invariant.count)
