@@ -4,6 +4,7 @@ pub mod Nodes
 pub mod RawSums
 pub mod LowParts
 pub mod LowKeys
+pub mod BoundReads
 pub mod Coverings
 pub mod Roots
 pub mod Ordering

@@ -1,4 +1,5 @@
 use Rattle.std.proofs.Common.{◌≡◌, ◌+◌, ◌<◌, ℕ, suc, Err, IfErr, length, sym, ap, subst, ◌∙◌, refl, arith, rules}
+use Rattle.std.proofs.lemmas.Result.{IfOk-from_err}
 use Rattle.tdp_model.specs.Below.{is_below}
 use Rattle.proof_text.specs.ProofView.{proof_view}
 use Rattle.proof_text.specs.declared.fault.ProofFault.TheVariants as fault
@@ -188,3 +189,39 @@ returns-clause-last g c =
     subst (λ ps. AreAnswers query tables join c.tree.inside.raw cert ps) (sym c.as_slice.ensures.value)
     (c.in_ok-places.ensures.places query tables join tree) in
     c.in_ok-last.ensures.last query tables join c.requires.keys tree answers
+
+pub first_weak-requires-clause-bounded : goal.first_weak-requires-clause-bounded
+first_weak-requires-clause-bounded g c = record {
+  query = c.args.query.now.query;
+  tables = c.args.tables.now;
+  c = proof_view c.args.proof.now;
+  few = c.requires.keys;
+  bounded = c.requires.bounded;
+}
+
+pub returns-clause-fault : goal.returns-clause-fault
+returns-clause-fault g c = tt
+
+pub returns-in-Some-clause-last : goal.returns-in-Some-clause-last
+returns-in-Some-clause-last g c = tt
+
+pub returns-in-Some-clause-placed : goal.returns-in-Some-clause-placed
+returns-in-Some-clause-placed g c = tt
+
+pub returns-then-not-is_count-clause-last : goal.returns-then-not-is_count-clause-last
+returns-then-not-is_count-clause-last g c = tt
+
+pub returns-then-not-is_count-clause-placed : goal.returns-then-not-is_count-clause-placed
+returns-then-not-is_count-clause-placed g c = tt
+
+pub returns-in_err-places-clause-last : goal.returns-in_err-places-clause-last
+returns-in_err-places-clause-last g c = IfOk-from_err c.from_residual.result _ c.from_residual.ensures.0
+
+pub returns-in_err-places-clause-placed : goal.returns-in_err-places-clause-placed
+returns-in_err-places-clause-placed g c = IfOk-from_err c.from_residual.result _ c.from_residual.ensures.0
+
+pub returns-in_err-last-clause-last : goal.returns-in_err-last-clause-last
+returns-in_err-last-clause-last g c = IfOk-from_err c.from_residual-in_err-last.result _ c.from_residual-in_err-last.ensures.0
+
+pub returns-in_err-last-clause-placed : goal.returns-in_err-last-clause-placed
+returns-in_err-last-clause-placed g c = IfOk-from_err c.from_residual-in_err-last.result _ c.from_residual-in_err-last.ensures.0

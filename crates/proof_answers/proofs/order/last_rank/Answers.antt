@@ -1,4 +1,4 @@
-use Rattle.std.proofs.Common.{◌≡◌, ◌<◌, option_map, [], length, sym, ap, arith}
+use Rattle.std.proofs.Common.{◌≡◌, ◌<◌, option_map, [], length, refl, sym, ap, arith}
 use Rattle.proof_text.specs.Certificate.{AnswerLine}
 use Rattle.proof_text.specs.ProofView.{listed_view, proof_view}
 use Rattle.proof_text.specs.declared.fault.ProofFault.TheVariants as fault
@@ -73,3 +73,20 @@ returns-clause-last g c query tables join few tree answers =
 pub returns-clause-ordered : goal.returns-clause-ordered
 returns-clause-ordered g c query tables join few tree answers i l =
     (c.loop-i.invariant query tables join few tree answers).1 i (omega (arith, l, c.loop-i-test.false))
+
+pub loop-i-init : goal.loop-i-init
+loop-i-init g c query tables join few tree answers = (refl, λ i l. absurd (omega (arith, l)))
+
+pub index-requires : goal.index-requires
+index-requires g c =
+    let items = c.args.proof.now.answers in
+    omega (arith, c.loop-i-test.true, c.requires.answers.answers.count, seen_count items.items, items.ok.0)
+
+pub returns-then-not-is_after-clause-last : goal.returns-then-not-is_after-clause-last
+returns-then-not-is_after-clause-last g c query tables join few tree answers = tt
+
+pub returns-then-not-is_after-clause-ordered : goal.returns-then-not-is_after-clause-ordered
+returns-then-not-is_after-clause-ordered g c query tables join few tree answers = tt
+
+pub returns-clause-fault : goal.returns-clause-fault
+returns-clause-fault g c query tables join few tree answers = tt

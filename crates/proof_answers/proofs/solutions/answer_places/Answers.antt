@@ -1,7 +1,10 @@
 use Rattle.std.proofs.Common.{◌≡◌, ◌+◌, ◌<◌, ℕ, List, [], ◌∷◌, ◌++◌, length, get_or, sym, ap, subst, ◌∙◌, inr, arith}
-use Rattle.std.proofs.Common.{below_more, length-append}
+use Rattle.std.proofs.Common.{Result, Ok, Err, IfErr, refl, inl, below_more, length-append}
+use Rattle.std.specs.Result.{IsErrAnd}
+use Rattle.std.proofs.lemmas.Result.{IfOk-from_err}
 use Rattle.proof_text.specs.Certificate.{AnswerLine}
 use Rattle.proof_text.specs.ProofView.{listed_view, proof_view}
+use Rattle.proof_text.specs.declared.fault.ProofFault.{ProofFault}
 use Rattle.proof_text.specs.declared.fault.ProofFault.TheVariants as fault
 use Rattle.proof_model.specs.Problem.{IsSolutionAt}
 use Rattle.proof_model.specs.QueryProblem.{problem_in}
@@ -9,6 +12,10 @@ use Rattle.proof_model.specs.Valid.{answer_at}
 use Rattle.proof_bounds.specs.Places.{ArePlacesOf}
 use Rattle.proof_answers.proofs.AnswerLists.{seen_at, seen_count, all_before, at_last}
 use Rattle.proof_answers.proofs.solutions.answer_places.Goals as goal
+
+out_of_memory : {T : Type 0} (r : Result T ProofFault) (P : ProofFault → Type 0) → IsErrAnd r (λ e. e ≡ fault.NoMemory) → P fault.NoMemory → IfErr r P
+out_of_memory (Ok x) P is told = tt
+out_of_memory (Err e) P is told = subst P (sym is) told
 
 pub returns-in-None-clause-fault : goal.returns-in-None-clause-fault
 returns-in-None-clause-fault g c query tables join tree =
@@ -77,3 +84,36 @@ returns-clause-places g c query tables join tree =
       count = c.loop-answer.invariant.long ∙ done ∙ sym (seen_count items);
       each = λ i l. c.loop-answer.invariant.each query tables join tree i (omega (arith, l, done, seen_count items));
     }
+
+pub loop-answer-init : goal.loop-answer-init
+loop-answer-init g c = record {
+  long = ap length c.in_ok-places.ensures.items;
+  each = λ query tables join tree i l. absurd (omega (arith, l));
+}
+
+pub solution_places-requires : goal.solution_places-requires
+solution_places-requires g c = c.requires
+
+pub returns-clause-fault : goal.returns-clause-fault
+returns-clause-fault g c query tables join tree = tt
+
+pub returns-in-None-clause-places : goal.returns-in-None-clause-places
+returns-in-None-clause-places g c query tables join tree = tt
+
+pub returns-in_err-push-in-Some-clause-fault : goal.returns-in_err-push-in-Some-clause-fault
+returns-in_err-push-in-Some-clause-fault g c query tables join tree =
+    let end = c.from_residual-in_err-push-in-Some in
+    out_of_memory end.result _ end.ensures.1 (inl refl)
+
+pub returns-in_err-push-in-Some-clause-places : goal.returns-in_err-push-in-Some-clause-places
+returns-in_err-push-in-Some-clause-places g c query tables join tree =
+    let end = c.from_residual-in_err-push-in-Some in
+    IfOk-from_err end.result _ end.ensures.0
+
+pub returns-in_err-places-clause-fault : goal.returns-in_err-places-clause-fault
+returns-in_err-places-clause-fault g c query tables join tree =
+    out_of_memory c.from_residual.result _ c.from_residual.ensures.1 (inl refl)
+
+pub returns-in_err-places-clause-places : goal.returns-in_err-places-clause-places
+returns-in_err-places-clause-places g c query tables join tree =
+    IfOk-from_err c.from_residual.result _ c.from_residual.ensures.0
