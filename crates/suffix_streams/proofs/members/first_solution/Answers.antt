@@ -1,9 +1,12 @@
-use Rattle.std.proofs.Common.{◌<◌, refl, sym, ap, ◌∙◌, subst, arith}
+use Rattle.std.proofs.Common.{◌≡◌, ℕ, ◌+◌, ◌<◌, ◌≤◌, refl, sym, ap, ◌∙◌, subst, arith}
 use Rattle.tdp_core.specs.TreeView.{rows, best, number}
 use Rattle.tdp_core.proofs.TreeFacts.{member_is_row}
 use Rattle.suffix_streams.specs.Firsts.{HasFirstParts}
 use Rattle.suffix_streams.specs.TreeStreams.{IsHeaded}
 use Rattle.suffix_streams.proofs.members.first_solution.Goals as goal
+
+four_steps : (s a b c d : ℕ) → a ≡ s + 1 → b ≡ a + 1 → c ≡ b + 1 → d ≤ c + 1 → d ≤ s + 4
+four_steps s a b c d e f h l = omega arith
 
 pub best-rank-requires-clause-row : goal.best-rank-requires-clause-row
 best-rank-requires-clause-row g c =
@@ -54,4 +57,4 @@ pub first_cell-cell-requires-clause-headed : goal.first_cell-cell-requires-claus
 first_cell-cell-requires-clause-headed g c = subst (IsHeaded g.R.Rank.KEYS g.R.Rank.key c.args.tree.now c.args.entries.now.entries c.args.nodes.now c.args.node) (sym c.source_row-row.ensures.member) c.requires.headed
 
 pub returns-clause-cost : goal.returns-clause-cost
-returns-clause-cost g c = omega (arith, c.source_row-row.ensures.counted, c.row_at-number.ensures.counted, c.best-rank.ensures.counted, c.first_cell-cell.ensures.cost)
+returns-clause-cost g c = four_steps _ _ _ _ _ c.source_row-row.ensures.counted c.row_at-number.ensures.counted c.best-rank.ensures.counted c.first_cell-cell.ensures.cost

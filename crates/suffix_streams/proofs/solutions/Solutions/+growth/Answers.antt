@@ -69,6 +69,12 @@ last_below n m some few = omega arith
 place_is : (p known place : ℕ) → known ≡ p → known ≤ place → place ≤ p → p ≡ place
 place_is p known place e h l = omega arith
 
+known_before : (known p first place : ℕ) → known ≡ p → known ≤ place → first ≡ p → first ≤ place
+known_before known p first place e h e' = omega arith
+
+below_next : (v u : ℕ) → v ≡ u → v < suc u
+below_next v u e = omega arith
+
 child_in : (v u n m : ℕ) → v ≡ u → u < n → m ≡ n → v < m
 child_in v u n m e l same = omega arith
 
@@ -83,6 +89,9 @@ first_step s s' b n e = omega arith
 
 second_step : (s s' s'' b n : ℕ) → s' ≡ s + 1 → s'' ≡ s' + 1 → s'' ≤ s + (14 + 4 * b + n)
 second_step s s' s'' b n e e' = omega arith
+
+opened_steps : (s s' s'' s3 n : ℕ) → s' ≡ s + 1 → s'' ≡ s' + 1 → s3 ≤ s'' + 1 + n → s3 ≤ s + 4 + n
+opened_steps s s' s'' s3 n e e' h = omega arith
 
 one_later : (s : ℕ) → s ≤ s + 1
 one_later s = omega arith
@@ -107,7 +116,7 @@ module _ (g : Over) (t : ℕ) where
 
   row_of : (c : after-After-open_row g t) → IsOwned g.R.Rank.KEYS g.R.Rank.key c.args.self.now.tree.now c.args.self.now.entries.entries c.args.self.now.nodes.items c.args.entry c.get-found.result.now → IsTopRead c.args.self.now.tree.now c.args.self.now.nodes.items c.get-found.result.now c.in-Some-top.top → IsRowOpen g.R.Rank.KEYS g.R.Rank.key c.args.self.now.tree.now c.args.self.now.entries.entries c.args.self.now.nodes.items c.open_row.new.self.nodes.items c.get-found.result.now c.in-Some-top.top c.in-Some-top.top.tag.row c.args.steps.now c.open_row.new.steps
   row_of c o p =
-      row_open o p c.open_row.new.self.tree.now c.open_row.new.self.entries.entries c.open_row.new.self.nodes.items c.in-Some-top.top.tag.row c.args.steps.now c.open_row.new.steps p.row c.open_row.ensures.tree (ap (λ z. z.entries) c.open_row.ensures.entries) c.open_row.ensures.formed c.open_row.ensures.above c.open_row.ensures.streams c.open_row.ensures.queues (omega (arith, c.next_of.ensures.cost, c.get-found.ensures.cost, c.open_row.ensures.cost))
+      row_open o p c.open_row.new.self.tree.now c.open_row.new.self.entries.entries c.open_row.new.self.nodes.items c.in-Some-top.top.tag.row c.args.steps.now c.open_row.new.steps p.row c.open_row.ensures.tree (ap (λ z. z.entries) c.open_row.ensures.entries) c.open_row.ensures.formed c.open_row.ensures.above c.open_row.ensures.streams c.open_row.ensures.queues (opened_steps _ _ _ _ _ c.next_of.ensures.cost c.get-found.ensures.cost c.open_row.ensures.cost)
 
   counted_of : (c : after-After-child_count-count g t) → IsOwned g.R.Rank.KEYS g.R.Rank.key c.args.self.now.tree.now c.args.self.now.entries.entries c.args.self.now.nodes.items c.args.entry c.get-found.result.now → IsRowOpen g.R.Rank.KEYS g.R.Rank.key c.args.self.now.tree.now c.args.self.now.entries.entries c.args.self.now.nodes.items c.open_row.new.self.nodes.items c.get-found.result.now c.in-Some-top.top c.in-Some-top.top.tag.row c.args.steps.now c.open_row.new.steps → IsRowCounted c.args.self.now.tree.now c.open_row.new.self.nodes.items c.get-found.result.now c.in-Some-top.top c.in-Some-top.top.tag.row c.child_count-count.result
   counted_of c o a = row_counted o a c.index-2.result.now c.child_count-count.result c.index-2.ensures c.child_count-count.ensures c.in_ok-open_row.ensures.count
@@ -237,7 +246,7 @@ pub after-returns-in_err-open_row-clause-cost : goal.after-returns-in_err-open_r
 after-returns-in_err-open_row-clause-cost g t c =
     let at = goal.at.after-returns-in_err-open_row-clause-cost g t c in
     let o = entry_owned g t at.After-get-found in
-    only_opened o c.args.steps.now c.open_row.new.steps (omega (arith, c.next_of.ensures.cost, c.get-found.ensures.cost, c.open_row.ensures.cost))
+    only_opened o c.args.steps.now c.open_row.new.steps (opened_steps _ _ _ _ _ c.next_of.ensures.cost c.get-found.ensures.cost c.open_row.ensures.cost)
 
 pub after-index-requires-2 : goal.after-index-requires-2
 after-index-requires-2 g t c =
@@ -262,7 +271,7 @@ after-known-requires g t c =
     let p = top_of g t at.In-Some-top o in
     let a = row_of g t at.After-open_row o p in
     let k = counted_of g t at.After-child_count-count o a in
-    omega (arith, k.within, ap (λ z. length (get_or z.products c.in-Some-top.top.tag.row [])) (lists_at c.open_row.new.self.nodes.items c.get-found.result.now.node c.index-3.result.now c.index-3.ensures a.in_nodes))
+    record { count = subst (λ (z : NodeStreamsView g.row.R.Denot). c.child_count-count.result ≤ length (get_or z.products c.in-Some-top.top.tag.row [])) (lists_at c.open_row.new.self.nodes.items c.get-found.result.now.node c.index-3.result.now c.index-3.ensures a.in_nodes) k.within }
 
 pub after-next_place-place-requires : goal.after-next_place-place-requires
 after-next_place-place-requires g t c =
@@ -337,7 +346,7 @@ after-advance-requires-clause-none g t c =
     let o = entry_owned g t at.After-get-found in
     let s = search_of g t at.After-extend in
     let none = next_is c.args.self.now.entries.entries c.args.entry None c.requires.entry (λ x. c.next_of.ensures.next x ∙ c.in_default.is) in
-    s.extended.store.above c.args.entry c.requires.entry (omega (arith, o.node_is)) ∙ none
+    s.extended.store.above c.args.entry c.requires.entry (below_next _ _ o.node_is) ∙ none
 
 pub after-advance-requires-clause-top : goal.after-advance-requires-clause-top
 after-advance-requires-clause-top g t c =
@@ -478,8 +487,8 @@ extend-returns-then-place-known-clause-reached g t c =
     on_ok c.reserve.result (elim c.then-place-known.branch [
       | extend-then-place-known-via-then-place-known w ↦ inl (subst (λ z. c.args.place < z) known w.if-place-known.true)
       | extend-then-place-known-via-else-place-known+then-count-eq0 w ↦
-          let none : 0 ≡ c.args.count = omega (arith, w.if-count-eq0.true) in
-          subst (λ z. IsReached g.R.Rank.KEYS g.R.Rank.key c.args.self.now.tree.now c.args.self.now.nodes.items c.args.node c.args.row z c.args.place) none (reached_none g.R.Rank.KEYS g.R.Rank.key c.args.self.now.tree.now c.args.self.now.entries.entries c.args.self.now.nodes.items c.requires.formed c.args.node c.args.row c.args.place c.requires.node (omega (arith, known, w.if-place-known.false, ap (λ z. part_known c.args.self.now.nodes.items c.args.node c.args.row z) none)))
+          let none : 0 ≡ c.args.count = sym w.if-count-eq0.true in
+          subst (λ z. IsReached g.R.Rank.KEYS g.R.Rank.key c.args.self.now.tree.now c.args.self.now.nodes.items c.args.node c.args.row z c.args.place) none (reached_none g.R.Rank.KEYS g.R.Rank.key c.args.self.now.tree.now c.args.self.now.entries.entries c.args.self.now.nodes.items c.requires.formed c.args.node c.args.row c.args.place c.requires.node (known_before _ _ _ _ known w.if-place-known.false (ap (λ z. part_known c.args.self.now.nodes.items c.args.node c.args.row z) none)))
     ])
 
 pub extend-returns-then-place-known-clause-cost : goal.extend-returns-then-place-known-clause-cost
@@ -757,19 +766,19 @@ search-known-known-requires g t c =
     let at = goal.at.search-known-known-requires g t c in
     let a = room_of g t at.After-make_room in
     let b = child_of g t at.After-after a in
-    omega (arith, b.in_row, ap (λ z. length (get_or z.products c.args.row [])) (lists_at c.after.new.self.nodes.items c.args.node c.index-2.result.now c.index-2.ensures (in_same _ _ _ c.requires.node b.formed.all_nodes)))
+    record { count = at_below _ _ _ (subst (λ (z : NodeStreamsView g.row.R.Denot). c.args.count - 1 < length (get_or z.products c.args.row [])) (lists_at c.after.new.self.nodes.items c.args.node c.index-2.result.now c.index-2.ensures (in_same _ _ _ c.requires.node b.formed.all_nodes)) b.in_row) refl }
 
 pub extend-index-requires : goal.extend-index-requires
 extend-index-requires g t c =
-    omega (arith, c.requires.formed.all_nodes, c.requires.node)
+    in_same _ _ _ (in_same _ _ _ c.requires.node c.requires.formed.all_nodes) c.args.self.now.nodes.ok.0
 
 pub extend-known-requires : goal.extend-known-requires
 extend-known-requires g t c =
-    omega (arith, c.requires.count, ap (λ z. length (get_or z.products c.args.row [])) (lists_at c.args.self.now.nodes.items c.args.node c.index.result.now c.index.ensures (in_same _ _ _ c.requires.node c.requires.formed.all_nodes)))
+    record { count = subst (λ (z : NodeStreamsView g.row.R.Denot). c.args.count ≤ length (get_or z.products c.args.row [])) (lists_at c.args.self.now.nodes.items c.args.node c.index.result.now c.index.ensures (in_same _ _ _ c.requires.node c.requires.formed.all_nodes)) c.requires.count }
 
 pub search-index-requires : goal.search-index-requires
 search-index-requires g t c =
-    omega (arith, c.requires.formed.all_nodes, c.requires.node)
+    in_same _ _ _ (in_same _ _ _ c.requires.node c.requires.formed.all_nodes) c.args.self.now.nodes.ok.0
 
 pub search-product_top-requires : goal.search-product_top-requires
 search-product_top-requires g t c =
@@ -777,7 +786,7 @@ search-product_top-requires g t c =
 
 pub search-make_room-requires-clause-node : goal.search-make_room-requires-clause-node
 search-make_room-requires-clause-node g t c =
-    omega (arith, c.requires.formed.all_nodes, c.requires.node)
+    in_same _ _ _ c.requires.node c.requires.formed.all_nodes
 
 pub search-make_room-requires-clause-child : goal.search-make_room-requires-clause-child
 search-make_room-requires-clause-child g t c =
