@@ -1,11 +1,21 @@
-use Rattle.suffix_streams.proofs.Errors.{none_given}
-use Rattle.std.proofs.Common.{◌≡◌, ◌-◌, List, [], sym, subst, arith}
+use Rattle.suffix_streams.proofs.Errors.{none_given, none_done}
+use Rattle.std.proofs.Common.{◌≡◌, ℕ, ◌+◌, ◌-◌, ◌*◌, ◌<◌, ◌≤◌, List, [], length, sym, subst, arith}
+use Rattle.tdp_core.specs.TreeView.{row_count}
 use Rattle.stream_store.specs.declared.entry.Linked.{Linked}
 use Rattle.suffix_streams.specs.declared.stream.Found.{Found}
 use Rattle.suffix_streams.specs.Beginnings.{IsBegunFrom}
 use Rattle.suffix_streams.proofs.BeginNodes.{from_none, rows_more}
 use Rattle.suffix_streams.proofs.ViewStart.{start_steps}
 use Rattle.suffix_streams.proofs.beginning.begun_nodes.Goals as goal
+
+below_start : (v n : ℕ) → 0 < v → v ≤ n → v - 1 < n
+below_start v n some few = omega arith
+
+one_back : (v : ℕ) → 0 < v → v ≡ v - 1 + 1
+one_back v some = omega arith
+
+more_within : (s n : ℕ) → s ≤ s + n
+more_within s n = omega arith
 
 pub loop-node-init : goal.loop-node-init
 loop-node-init g c =
@@ -51,3 +61,24 @@ returns-in_err-nodes-clause-begun g c = none_given _ c.from_residual.result c.fr
 
 pub returns-in_err-begin_node-clause-begun : goal.returns-in_err-begin_node-clause-begun
 returns-in_err-begin_node-clause-begun g c = none_given _ c.from_residual-in_err-begin_node.result c.from_residual-in_err-begin_node.ensures.0
+
+pub begin_node-requires-clause-node : goal.begin_node-requires-clause-node
+begin_node-requires-clause-node g c = below_start c.loop-node.node (length c.args.tree.now) c.loop-node-test.true c.loop-node.invariant.within
+
+pub begin_node-requires-clause-formed : goal.begin_node-requires-clause-formed
+begin_node-requires-clause-formed g c = c.nodes-node.ensures.formed
+
+pub begin_node-requires-clause-begun : goal.begin_node-requires-clause-begun
+begin_node-requires-clause-begun g c = subst (IsBegunFrom g.R.Rank.KEYS g.R.Rank.key c.args.tree.now c.loop-node.entries.entries c.loop-node.nodes.items) (one_back c.loop-node.node c.loop-node-test.true) c.loop-node.invariant.begun
+
+pub returns-in_err-nodes-clause-formed : goal.returns-in_err-nodes-clause-formed
+returns-in_err-nodes-clause-formed g c = none_done _ c.from_residual.result c.from_residual.ensures.0
+
+pub returns-in_err-nodes-clause-cost : goal.returns-in_err-nodes-clause-cost
+returns-in_err-nodes-clause-cost g c = more_within c.args.steps.now (16 * length c.args.tree.now * (1 + row_count c.args.tree.now))
+
+pub returns-in_err-begin_node-clause-formed : goal.returns-in_err-begin_node-clause-formed
+returns-in_err-begin_node-clause-formed g c = none_done _ c.from_residual-in_err-begin_node.result c.from_residual-in_err-begin_node.ensures.0
+
+pub returns-clause-formed : goal.returns-clause-formed
+returns-clause-formed g c = c.nodes-node.ensures.formed

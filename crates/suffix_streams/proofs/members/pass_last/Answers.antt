@@ -17,6 +17,9 @@ use Rattle.suffix_streams.proofs.Changes.{lists_same}
 use Rattle.suffix_streams.proofs.Heads.{lists_at}
 use Rattle.suffix_streams.proofs.members.pass_last.Goals as goal
 
+in_same : (v n m : ℕ) → v < n → m ≡ n → v < m
+in_same v n m l e = omega arith
+
 -- only the queue of group k of node v changed
 queue_alone : {R : Type 0} (n : List (NodeStreamsView R)) (v k : ℕ) (old new : NodeStreamsView R) → v < length n → old ≡ get_or n v old → new ≡ with_queue old k (stream_at new k).queue (stream_at new k).room
     → slice_set n v new ≡ slice_set n v (with_queue (lists_of n v) k (stream_of (slice_set n v new) v k).queue (stream_of (slice_set n v new) v k).room)
@@ -35,7 +38,7 @@ returns-then-place-eq1-clause-moved g c =
     let left = c.firsts_below-left.result.0 in
     let right = c.firsts_below-left.result.1 in
     let one : 1 ≡ c.args.place = omega (arith, c.if-place-eq1.true) in
-    let inside : v < length n = omega (arith, c.requires.formed.all_nodes, c.requires.node) in
+    let inside : v < length n = in_same _ _ _ c.requires.node c.requires.formed.all_nodes in
     let below : (j : ℕ) (o : Option (Entry g.row.R.Denot Source)) → IsFirstBelow g.R.Rank.KEYS g.R.Rank.key c.args.tree.now c.args.entries.now.entries v k 1 j o → IsFirstBelow g.R.Rank.KEYS g.R.Rank.key c.args.tree.now c.args.entries.now.entries v k c.args.place j o =
     λ j o b. subst (λ p. IsFirstBelow g.R.Rank.KEYS g.R.Rank.key c.args.tree.now c.args.entries.now.entries v k p j o) one b in (
       left,
@@ -50,39 +53,39 @@ returns-then-place-eq1-clause-moved g c =
 pub returns-then-place-eq1-clause-least : goal.returns-then-place-eq1-clause-least
 returns-then-place-eq1-clause-least g c e =
     subst (λ (z : NodeStreamsView g.row.R.Denot). IsLeast g.R.Rank.KEYS g.R.Rank.key (get_or (stream_at z c.args.group).queue 0 e) (stream_at z c.args.group).queue)
-    (sym (lists_at c.args.nodes.now.items c.args.node c.index_mut.result.now c.index_mut.ensures.value (omega (arith, c.requires.formed.all_nodes, c.requires.node)))) (c.pass.ensures.least e)
+    (sym (lists_at c.args.nodes.now.items c.args.node c.index_mut.result.now c.index_mut.ensures.value (in_same _ _ _ c.requires.node c.requires.formed.all_nodes))) (c.pass.ensures.least e)
 
 pub returns-else-place-eq1-clause-least : goal.returns-else-place-eq1-clause-least
 returns-else-place-eq1-clause-least g c e =
     subst (λ (z : NodeStreamsView g.row.R.Denot). IsLeast g.R.Rank.KEYS g.R.Rank.key (get_or (stream_at z c.args.group).queue 0 e) (stream_at z c.args.group).queue)
-    (sym (lists_at c.args.nodes.now.items c.args.node c.index_mut-else-place-eq1.result.now c.index_mut-else-place-eq1.ensures.value (omega (arith, c.requires.formed.all_nodes, c.requires.node)))) (c.pass-else-place-eq1.ensures.least e)
+    (sym (lists_at c.args.nodes.now.items c.args.node c.index_mut-else-place-eq1.result.now c.index_mut-else-place-eq1.ensures.value (in_same _ _ _ c.requires.node c.requires.formed.all_nodes))) (c.pass-else-place-eq1.ensures.least e)
 
 pub firsts_below-left-requires-clause-formed : goal.firsts_below-left-requires-clause-formed
 firsts_below-left-requires-clause-formed g c =
     subst (λ (z : List (NodeStreamsView g.row.R.Denot)). IsStreams g.R.Rank.KEYS g.R.Rank.key c.args.tree.now c.args.entries.now.entries z) (sym c.as_slice.ensures.value) c.requires.formed
 
 pub index_mut-requires : goal.index_mut-requires
-index_mut-requires g c = omega (arith, c.requires.formed.all_nodes, c.requires.node)
+index_mut-requires g c = in_same _ _ _ (in_same _ _ _ c.requires.node c.requires.formed.all_nodes) c.args.nodes.now.ok.0
 
 pub pass-requires-clause-group : goal.pass-requires-clause-group
 pass-requires-clause-group g c =
-    let inside : c.args.node < length c.args.nodes.now.items = omega (arith, c.requires.formed.all_nodes, c.requires.node) in
+    let inside : c.args.node < length c.args.nodes.now.items = in_same _ _ _ c.requires.node c.requires.formed.all_nodes in
     let same = lists_at c.args.nodes.now.items c.args.node c.index_mut.result.now c.index_mut.ensures.value inside in
     omega (arith, c.requires.group, c.requires.formed.all_streams c.args.node c.requires.node, ap (λ (z : NodeStreamsView g.row.R.Denot). length z.streams) same)
 
 pub pass-requires-clause-top : goal.pass-requires-clause-top
 pass-requires-clause-top g c =
-    let inside : c.args.node < length c.args.nodes.now.items = omega (arith, c.requires.formed.all_nodes, c.requires.node) in
+    let inside : c.args.node < length c.args.nodes.now.items = in_same _ _ _ c.requires.node c.requires.formed.all_nodes in
     subst (λ (z : NodeStreamsView g.row.R.Denot). 0 < length (stream_at z c.args.group).queue) (lists_at c.args.nodes.now.items c.args.node c.index_mut.result.now c.index_mut.ensures.value inside) c.requires.top
 
 pub returns-then-place-eq1-clause-changed : goal.returns-then-place-eq1-clause-changed
 returns-then-place-eq1-clause-changed g c =
-    queue_alone c.args.nodes.now.items c.args.node c.args.group c.index_mut.result.now c.pass.new.self (omega (arith, c.requires.formed.all_nodes, c.requires.node)) c.index_mut.ensures.value c.pass.ensures.changed
+    queue_alone c.args.nodes.now.items c.args.node c.args.group c.index_mut.result.now c.pass.new.self (in_same _ _ _ c.requires.node c.requires.formed.all_nodes) c.index_mut.ensures.value c.pass.ensures.changed
 
 pub returns-then-place-eq1-clause-cost : goal.returns-then-place-eq1-clause-cost
 returns-then-place-eq1-clause-cost g c =
     let n = c.args.nodes.now.items in
-    let inside : c.args.node < length n = omega (arith, c.requires.formed.all_nodes, c.requires.node) in
+    let inside : c.args.node < length n = in_same _ _ _ c.requires.node c.requires.formed.all_nodes in
     let before = lists_at n c.args.node c.index_mut.result.now c.index_mut.ensures.value inside in
     let after = lists_same n c.args.node c.pass.new.self inside in
     omega (
@@ -95,27 +98,27 @@ returns-then-place-eq1-clause-cost g c =
     )
 
 pub index_mut-requires-else-place-eq1 : goal.index_mut-requires-else-place-eq1
-index_mut-requires-else-place-eq1 g c = omega (arith, c.requires.formed.all_nodes, c.requires.node)
+index_mut-requires-else-place-eq1 g c = in_same _ _ _ (in_same _ _ _ c.requires.node c.requires.formed.all_nodes) c.args.nodes.now.ok.0
 
 pub pass-requires-else-place-eq1-clause-group : goal.pass-requires-else-place-eq1-clause-group
 pass-requires-else-place-eq1-clause-group g c =
-    let inside : c.args.node < length c.args.nodes.now.items = omega (arith, c.requires.formed.all_nodes, c.requires.node) in
+    let inside : c.args.node < length c.args.nodes.now.items = in_same _ _ _ c.requires.node c.requires.formed.all_nodes in
     let same = lists_at c.args.nodes.now.items c.args.node c.index_mut-else-place-eq1.result.now c.index_mut-else-place-eq1.ensures.value inside in
     omega (arith, c.requires.group, c.requires.formed.all_streams c.args.node c.requires.node, ap (λ (z : NodeStreamsView g.row.R.Denot). length z.streams) same)
 
 pub pass-requires-else-place-eq1-clause-top : goal.pass-requires-else-place-eq1-clause-top
 pass-requires-else-place-eq1-clause-top g c =
-    let inside : c.args.node < length c.args.nodes.now.items = omega (arith, c.requires.formed.all_nodes, c.requires.node) in
+    let inside : c.args.node < length c.args.nodes.now.items = in_same _ _ _ c.requires.node c.requires.formed.all_nodes in
     subst (λ (z : NodeStreamsView g.row.R.Denot). 0 < length (stream_at z c.args.group).queue) (lists_at c.args.nodes.now.items c.args.node c.index_mut-else-place-eq1.result.now c.index_mut-else-place-eq1.ensures.value inside) c.requires.top
 
 pub returns-else-place-eq1-clause-changed : goal.returns-else-place-eq1-clause-changed
 returns-else-place-eq1-clause-changed g c =
-    queue_alone c.args.nodes.now.items c.args.node c.args.group c.index_mut-else-place-eq1.result.now c.pass-else-place-eq1.new.self (omega (arith, c.requires.formed.all_nodes, c.requires.node)) c.index_mut-else-place-eq1.ensures.value c.pass-else-place-eq1.ensures.changed
+    queue_alone c.args.nodes.now.items c.args.node c.args.group c.index_mut-else-place-eq1.result.now c.pass-else-place-eq1.new.self (in_same _ _ _ c.requires.node c.requires.formed.all_nodes) c.index_mut-else-place-eq1.ensures.value c.pass-else-place-eq1.ensures.changed
 
 pub returns-else-place-eq1-clause-cost : goal.returns-else-place-eq1-clause-cost
 returns-else-place-eq1-clause-cost g c =
     let n = c.args.nodes.now.items in
-    let inside : c.args.node < length n = omega (arith, c.requires.formed.all_nodes, c.requires.node) in
+    let inside : c.args.node < length n = in_same _ _ _ c.requires.node c.requires.formed.all_nodes in
     let before = lists_at n c.args.node c.index_mut-else-place-eq1.result.now c.index_mut-else-place-eq1.ensures.value inside in
     let after = lists_same n c.args.node c.pass-else-place-eq1.new.self inside in
     omega (
@@ -133,7 +136,7 @@ returns-else-place-eq1-clause-moved g c =
     let k = c.args.group in
     let new = c.pass-else-place-eq1.new.self in
     let old = c.index_mut-else-place-eq1 in
-    let inside : v < length n = omega (arith, c.requires.formed.all_nodes, c.requires.node) in (
+    let inside : v < length n = in_same _ _ _ c.requires.node c.requires.formed.all_nodes in (
       None,
       None,
       inl c.if-place-eq1.false,
@@ -151,7 +154,7 @@ room_below d key t es v k j room None below some few = absurd (false≢true some
 pub pass-requires-clause-left_room : goal.pass-requires-clause-left_room
 pass-requires-clause-left_room g c some =
     let n = c.args.nodes.now.items in
-    let inside : c.args.node < length n = omega (arith, c.requires.formed.all_nodes, c.requires.node) in
+    let inside : c.args.node < length n = in_same _ _ _ c.requires.node c.requires.formed.all_nodes in
     let same = lists_at n c.args.node c.index_mut.result.now c.index_mut.ensures.value inside in
     let room = c.requires.room (omega (arith, c.if-place-eq1.true)) in
     let enters = room_below g.R.Rank.KEYS g.R.Rank.key c.args.tree.now c.args.entries.now.entries c.args.node c.args.group (2 * c.args.member + 1) (stream_of n c.args.node c.args.group).room c.firsts_below-left.result.0 c.firsts_below-left.ensures.left some room in
@@ -160,7 +163,7 @@ pass-requires-clause-left_room g c some =
 pub pass-requires-clause-right_room : goal.pass-requires-clause-right_room
 pass-requires-clause-right_room g c some =
     let n = c.args.nodes.now.items in
-    let inside : c.args.node < length n = omega (arith, c.requires.formed.all_nodes, c.requires.node) in
+    let inside : c.args.node < length n = in_same _ _ _ c.requires.node c.requires.formed.all_nodes in
     let same = lists_at n c.args.node c.index_mut.result.now c.index_mut.ensures.value inside in
     let room = c.requires.room (omega (arith, c.if-place-eq1.true)) in
     let enters = room_below g.R.Rank.KEYS g.R.Rank.key c.args.tree.now c.args.entries.now.entries c.args.node c.args.group (2 * c.args.member + 2) (stream_of n c.args.node c.args.group).room c.firsts_below-left.result.1 c.firsts_below-left.ensures.right some room in

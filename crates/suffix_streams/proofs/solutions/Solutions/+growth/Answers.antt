@@ -1,4 +1,4 @@
-use Rattle.std.proofs.Common.{◌≡◌, ◌↔◌, ◌⊎◌, IsTrue, ℕ, suc, ◌+◌, ◌-◌, ◌*◌, ◌<◌, ◌≤◌, Some, None, is_some, OnOk, List, [], length, get_or, slice_index, refl, sym, ap, ◌∙◌, subst, inl, inr, arith}
+use Rattle.std.proofs.Common.{◌≡◌, ◌≢◌, ◌↔◌, ◌⊎◌, IsTrue, ℕ, suc, ◌+◌, ◌-◌, ◌*◌, ◌<◌, ◌≤◌, max, Fits, w64, Some, None, is_some, OnOk, List, [], length, get_or, slice_index, refl, sym, ap, ◌∙◌, subst, inl, inr, arith}
 use Rattle.stream_store.specs.declared.entry.Linked.{Linked}
 use Rattle.rank_key.specs.Bits.{bit_length}
 use Rattle.tdp_core.specs.TreeView.{NodeView, parent, rows, number, members, child_count, group_named}
@@ -7,7 +7,7 @@ use Rattle.tdp_core.proofs.Children.{kids_below_most}
 use Rattle.suffix_streams.specs.declared.stream.Found.{Found}
 use Rattle.suffix_streams.specs.ProductView.{ProductView}
 use Rattle.suffix_streams.specs.StreamView.{StreamView}
-use Rattle.suffix_streams.specs.NodeStreamsView.{HasHead, product_at, stream_at, known_of}
+use Rattle.suffix_streams.specs.NodeStreamsView.{NodeStreamsView, HasHead, product_at, stream_at, known_of}
 use Rattle.suffix_streams.specs.Firsts.{can_enter}
 use Rattle.suffix_streams.specs.Rankings.{child}
 use Rattle.suffix_streams.specs.TreeStreams.{group_of, next_of, node_of, stream_of, part_known, row_known, lists_of, IsStreams}
@@ -27,6 +27,84 @@ use Rattle.suffix_streams.proofs.solutions.Solutions.+growth.Given.{Over}
 use Rattle.suffix_streams.proofs.solutions.Solutions.+growth.Goals.{after-After-extend, after-After-get-found, after-After-open_row, after-After-child_count-count, after-In-Some-top, search-After-after, search-After-extend, search-After-make_room, extend-then-place-known-via-then-place-known, extend-then-place-known-via-else-place-known+then-count-eq0}
 use Rattle.suffix_streams.proofs.solutions.Solutions.+growth.Goals as goal
 
+-- # Numbers
+
+node_fits : (v n : ℕ) → v < n → n ≤ 16 → Fits w64 v
+node_fits v n l few = omega arith
+
+in_same : (v n m : ℕ) → v < n → m ≡ n → v < m
+in_same v n m l e = omega arith
+
+in_longer : (v n m : ℕ) → v < n → n ≤ m → v < m
+in_longer v n m l h = omega arith
+
+next_within : (p q n : ℕ) → p < n → q ≡ p + 1 → q ≤ n
+next_within p q n l e = omega arith
+
+none_before : (p q : ℕ) → q ≡ 1 → q ≡ p + 1 → p ≡ 0
+none_before p q one e = omega arith
+
+at_below : (v p n : ℕ) → p < n → v ≡ p → v ≤ n
+at_below v p n l e = omega arith
+
+none_few : (v n : ℕ) → v ≡ 0 → v ≤ n
+none_few v n e = omega arith
+
+some_is : (n : ℕ) → n ≢ 0 → 0 < n
+some_is n h = omega arith
+
+one_within : (n : ℕ) → 0 < n → 1 ≤ n
+one_within n h = omega arith
+
+last_is : (n : ℕ) → 0 < n → suc (n - 1) ≡ n
+last_is n h = omega arith
+
+next_last : (n : ℕ) → suc (n - 1) ≡ n → n - 1 + 1 ≡ n
+next_last n e = omega arith
+
+last_below : (n m : ℕ) → 0 < n → n ≤ m → n - 1 < m
+last_below n m some few = omega arith
+
+-- a place that is not known, and not past what is known
+place_is : (p known place : ℕ) → known ≡ p → known ≤ place → place ≤ p → p ≡ place
+place_is p known place e h l = omega arith
+
+known_before : (known p first place : ℕ) → known ≡ p → known ≤ place → first ≡ p → first ≤ place
+known_before known p first place e h e' = omega arith
+
+below_next : (v u : ℕ) → v ≡ u → v < suc u
+below_next v u e = omega arith
+
+child_in : (v u n m : ℕ) → v ≡ u → u < n → m ≡ n → v < m
+child_in v u n m e l same = omega arith
+
+queue_itself : (n more : ℕ) → n ≤ max 1 n + more
+queue_itself n more = omega arith
+
+queue_grown : (n m more : ℕ) → n ≤ m + 0 → n ≤ m + more
+queue_grown n m more h = omega arith
+
+first_step : (s s' b n : ℕ) → s' ≡ s + 1 → s' ≤ s + (14 + 4 * b + n)
+first_step s s' b n e = omega arith
+
+second_step : (s s' s'' b n : ℕ) → s' ≡ s + 1 → s'' ≡ s' + 1 → s'' ≤ s + (14 + 4 * b + n)
+second_step s s' s'' b n e e' = omega arith
+
+opened_steps : (s s' s'' s3 n : ℕ) → s' ≡ s + 1 → s'' ≡ s' + 1 → s3 ≤ s'' + 1 + n → s3 ≤ s + 4 + n
+opened_steps s s' s'' s3 n e e' h = omega arith
+
+one_later : (s : ℕ) → s ≤ s + 1
+one_later s = omega arith
+
+later_digits : (s n : ℕ) → s ≤ s + 9 + n
+later_digits s n = omega arith
+
+later_steps : (s n b : ℕ) → s ≤ s + 10 + n + b
+later_steps s n b = omega arith
+
+fewer_digits : (s n b b' : ℕ) → s ≤ n + 4 * b → b ≤ b' → s ≤ n + 4 * b'
+fewer_digits s n b b' h l = omega arith
+
 -- # What the proofs share about a call for the next entry
 
 module _ (g : Over) (t : ℕ) where
@@ -38,7 +116,7 @@ module _ (g : Over) (t : ℕ) where
 
   row_of : (c : after-After-open_row g t) → IsOwned g.R.Rank.KEYS g.R.Rank.key c.args.self.now.tree.now c.args.self.now.entries.entries c.args.self.now.nodes.items c.args.entry c.get-found.result.now → IsTopRead c.args.self.now.tree.now c.args.self.now.nodes.items c.get-found.result.now c.in-Some-top.top → IsRowOpen g.R.Rank.KEYS g.R.Rank.key c.args.self.now.tree.now c.args.self.now.entries.entries c.args.self.now.nodes.items c.open_row.new.self.nodes.items c.get-found.result.now c.in-Some-top.top c.in-Some-top.top.tag.row c.args.steps.now c.open_row.new.steps
   row_of c o p =
-      row_open o p c.open_row.new.self.tree.now c.open_row.new.self.entries.entries c.open_row.new.self.nodes.items c.in-Some-top.top.tag.row c.args.steps.now c.open_row.new.steps p.row c.open_row.ensures.tree (ap (λ z. z.entries) c.open_row.ensures.entries) c.open_row.ensures.formed c.open_row.ensures.above c.open_row.ensures.streams c.open_row.ensures.queues (omega (arith, c.next_of.ensures.cost, c.get-found.ensures.cost, c.open_row.ensures.cost))
+      row_open o p c.open_row.new.self.tree.now c.open_row.new.self.entries.entries c.open_row.new.self.nodes.items c.in-Some-top.top.tag.row c.args.steps.now c.open_row.new.steps p.row c.open_row.ensures.tree (ap (λ z. z.entries) c.open_row.ensures.entries) c.open_row.ensures.formed c.open_row.ensures.above c.open_row.ensures.streams c.open_row.ensures.queues (opened_steps _ _ _ _ _ c.next_of.ensures.cost c.get-found.ensures.cost c.open_row.ensures.cost)
 
   counted_of : (c : after-After-child_count-count g t) → IsOwned g.R.Rank.KEYS g.R.Rank.key c.args.self.now.tree.now c.args.self.now.entries.entries c.args.self.now.nodes.items c.args.entry c.get-found.result.now → IsRowOpen g.R.Rank.KEYS g.R.Rank.key c.args.self.now.tree.now c.args.self.now.entries.entries c.args.self.now.nodes.items c.open_row.new.self.nodes.items c.get-found.result.now c.in-Some-top.top c.in-Some-top.top.tag.row c.args.steps.now c.open_row.new.steps → IsRowCounted c.args.self.now.tree.now c.open_row.new.self.nodes.items c.get-found.result.now c.in-Some-top.top c.in-Some-top.top.tag.row c.child_count-count.result
   counted_of c o a = row_counted o a c.index-2.result.now c.child_count-count.result c.index-2.ensures c.child_count-count.ensures c.in_ok-open_row.ensures.count
@@ -80,37 +158,37 @@ after-returns-in-Some-clause-known g t c =
 
 pub after-returns-in-Some-clause-cost : goal.after-returns-in-Some-clause-cost
 after-returns-in-Some-clause-cost g t c =
-    λ k b one bits few queues. omega (arith, c.next_of.ensures.cost)
+    λ k b one bits few queues. first_step _ _ _ _ c.next_of.ensures.cost
 
 pub after-overflow_cast-found : goal.after-overflow_cast-found
 after-overflow_cast-found g t c =
     let at = goal.at.after-overflow_cast-found g t c in
     let o = entry_owned g t at.After-get-found in
-    omega (arith, o.node, o.formed.tree.shaped.few_nodes)
+    node_fits _ _ o.node o.formed.tree.shaped.few_nodes
 
 pub after-overflow_cast-found-2 : goal.after-overflow_cast-found-2
 after-overflow_cast-found-2 g t c =
     let at = goal.at.after-overflow_cast-found-2 g t c in
     let o = entry_owned g t at.After-get-found in
-    omega (arith, o.node, o.formed.tree.shaped.few_nodes)
+    node_fits _ _ o.node o.formed.tree.shaped.few_nodes
 
 pub after-overflow_cast-found-3 : goal.after-overflow_cast-found-3
 after-overflow_cast-found-3 g t c =
     let at = goal.at.after-overflow_cast-found-3 g t c in
     let o = entry_owned g t at.After-get-found in
-    omega (arith, o.node, o.formed.tree.shaped.few_nodes)
+    node_fits _ _ o.node o.formed.tree.shaped.few_nodes
 
 pub after-index-requires : goal.after-index-requires
 after-index-requires g t c =
     let at = goal.at.after-index-requires g t c in
     let o = entry_owned g t at.After-get-found in
-    omega (arith, o.in_nodes)
+    in_same _ _ _ o.in_nodes c.args.self.now.nodes.ok.0
 
 pub after-top-requires : goal.after-top-requires
 after-top-requires g t c =
     let at = goal.at.after-top-requires g t c in
     let o = entry_owned g t at.After-get-found in
-    omega (arith, o.group, o.formed.all_streams c.get-found.result.now.node o.node, ap (λ z. length z.streams) (lists_at c.args.self.now.nodes.items c.get-found.result.now.node c.index.result.now c.index.ensures o.in_nodes))
+    subst (λ (z : NodeStreamsView g.row.R.Denot). c.get-found.result.now.group < length z.streams) (lists_at c.args.self.now.nodes.items c.get-found.result.now.node c.index.result.now c.index.ensures o.in_nodes) (in_same _ _ _ o.group (o.formed.all_streams c.get-found.result.now.node o.node))
 
 pub after-returns-in_default-top-clause-answer : goal.after-returns-in_default-top-clause-answer
 after-returns-in_default-top-clause-answer g t c =
@@ -124,7 +202,7 @@ after-returns-in_default-top-clause-answer g t c =
 
 pub after-returns-in_default-top-clause-cost : goal.after-returns-in_default-top-clause-cost
 after-returns-in_default-top-clause-cost g t c =
-    λ k b one bits few queues. omega (arith, c.next_of.ensures.cost, c.get-found.ensures.cost)
+    λ k b one bits few queues. second_step _ _ _ _ _ c.next_of.ensures.cost c.get-found.ensures.cost
 
 pub after-open_row-requires-clause-node : goal.after-open_row-requires-clause-node
 after-open_row-requires-clause-node g t c =
@@ -168,7 +246,7 @@ pub after-returns-in_err-open_row-clause-cost : goal.after-returns-in_err-open_r
 after-returns-in_err-open_row-clause-cost g t c =
     let at = goal.at.after-returns-in_err-open_row-clause-cost g t c in
     let o = entry_owned g t at.After-get-found in
-    only_opened o c.args.steps.now c.open_row.new.steps (omega (arith, c.next_of.ensures.cost, c.get-found.ensures.cost, c.open_row.ensures.cost))
+    only_opened o c.args.steps.now c.open_row.new.steps (opened_steps _ _ _ _ _ c.next_of.ensures.cost c.get-found.ensures.cost c.open_row.ensures.cost)
 
 pub after-index-requires-2 : goal.after-index-requires-2
 after-index-requires-2 g t c =
@@ -176,7 +254,7 @@ after-index-requires-2 g t c =
     let o = entry_owned g t at.After-get-found in
     let p = top_of g t at.In-Some-top o in
     let a = row_of g t at.After-open_row o p in
-    omega (arith, a.in_nodes)
+    in_same _ _ _ a.in_nodes c.open_row.new.self.nodes.ok.0
 
 pub after-index-requires-3 : goal.after-index-requires-3
 after-index-requires-3 g t c =
@@ -184,7 +262,7 @@ after-index-requires-3 g t c =
     let o = entry_owned g t at.After-get-found in
     let p = top_of g t at.In-Some-top o in
     let a = row_of g t at.After-open_row o p in
-    omega (arith, a.in_nodes)
+    in_same _ _ _ a.in_nodes c.open_row.new.self.nodes.ok.0
 
 pub after-known-requires : goal.after-known-requires
 after-known-requires g t c =
@@ -193,7 +271,7 @@ after-known-requires g t c =
     let p = top_of g t at.In-Some-top o in
     let a = row_of g t at.After-open_row o p in
     let k = counted_of g t at.After-child_count-count o a in
-    omega (arith, k.within, ap (λ z. length (get_or z.products c.in-Some-top.top.tag.row [])) (lists_at c.open_row.new.self.nodes.items c.get-found.result.now.node c.index-3.result.now c.index-3.ensures a.in_nodes))
+    record { count = subst (λ (z : NodeStreamsView g.row.R.Denot). c.child_count-count.result ≤ length (get_or z.products c.in-Some-top.top.tag.row [])) (lists_at c.open_row.new.self.nodes.items c.get-found.result.now.node c.index-3.result.now c.index-3.ensures a.in_nodes) k.within }
 
 pub after-next_place-place-requires : goal.after-next_place-place-requires
 after-next_place-place-requires g t c =
@@ -202,7 +280,7 @@ after-next_place-place-requires g t c =
     let p = top_of g t at.In-Some-top o in
     let a = row_of g t at.After-open_row o p in
     let k = counted_of g t at.After-child_count-count o a in
-    omega (arith, k.known, c.known.ensures, ap (λ z. known_of z c.in-Some-top.top.tag.row c.child_count-count.result) (lists_at c.open_row.new.self.nodes.items c.get-found.result.now.node c.index-3.result.now c.index-3.ensures a.in_nodes))
+    in_same _ _ _ k.known (c.known.ensures ∙ ap (λ z. known_of z c.in-Some-top.top.tag.row c.child_count-count.result) (sym (lists_at c.open_row.new.self.nodes.items c.get-found.result.now.node c.index-3.result.now c.index-3.ensures a.in_nodes)))
 
 pub after-extend-requires : goal.after-extend-requires
 after-extend-requires g t c κs within =
@@ -211,7 +289,7 @@ after-extend-requires g t c κs within =
     let p = top_of g t at.In-Some-top o in
     let a = row_of g t at.After-open_row o p in
     let k = counted_of g t at.After-child_count-count o a in
-    (omega (arith, c.decreases, o.node_is, k.all, o.node, ap length c.open_row.ensures.tree, kids_below_most (parent c.args.self.now.tree.now) c.get-found.result.now.node (length c.args.self.now.tree.now), o.formed.tree.shaped.few_nodes), (within.0, (within.1.0, (within.1.1, (c.open_row.ensures.formed, (subst IsTieFreeTree (sym c.open_row.ensures.tree) c.requires.tie_free, (subst (λ z. c.get-found.result.now.node < length z) (sym c.open_row.ensures.tree) o.node, (subst (λ z. c.in-Some-top.top.tag.row < rows z c.get-found.result.now.node) (sym c.open_row.ensures.tree) a.row, (k.within, omega (arith, k.known, c.next_place-place.ensures))))))))))
+    (omega (arith, c.decreases, o.node_is, k.all, o.node, ap length c.open_row.ensures.tree, kids_below_most (parent c.args.self.now.tree.now) c.get-found.result.now.node (length c.args.self.now.tree.now), o.formed.tree.shaped.few_nodes), (within.0, (within.1.0, (within.1.1, (c.open_row.ensures.formed, (subst IsTieFreeTree (sym c.open_row.ensures.tree) c.requires.tie_free, (subst (λ z. c.get-found.result.now.node < length z) (sym c.open_row.ensures.tree) o.node, (subst (λ z. c.in-Some-top.top.tag.row < rows z c.get-found.result.now.node) (sym c.open_row.ensures.tree) a.row, (k.within, next_within _ _ _ k.known c.next_place-place.ensures)))))))))
 
 pub after-returns-in_err-extend-clause-grown : goal.after-returns-in_err-extend-clause-grown
 after-returns-in_err-extend-clause-grown g t c =
@@ -246,7 +324,7 @@ after-returns-in_err-extend-clause-cost g t c =
     let a = row_of g t at.After-open_row o p in
     let k = counted_of g t at.After-child_count-count o a in
     let s = search_of g t at.After-extend in
-    searched_steps o a k s c.extend.new.steps (λ b members. omega arith)
+    searched_steps o a k s c.extend.new.steps (λ b members. later_steps _ _ _)
 
 pub after-advance-requires-clause-node : goal.after-advance-requires-clause-node
 after-advance-requires-clause-node g t c =
@@ -268,7 +346,7 @@ after-advance-requires-clause-none g t c =
     let o = entry_owned g t at.After-get-found in
     let s = search_of g t at.After-extend in
     let none = next_is c.args.self.now.entries.entries c.args.entry None c.requires.entry (λ x. c.next_of.ensures.next x ∙ c.in_default.is) in
-    s.extended.store.above c.args.entry c.requires.entry (omega (arith, o.node_is)) ∙ none
+    s.extended.store.above c.args.entry c.requires.entry (below_next _ _ o.node_is) ∙ none
 
 pub after-advance-requires-clause-top : goal.after-advance-requires-clause-top
 after-advance-requires-clause-top g t c =
@@ -289,7 +367,7 @@ after-advance-requires-clause-queue_room g t c one =
     let k = counted_of g t at.After-child_count-count o a in
     let s = search_of g t at.After-extend in
     subst (λ (z : List (NodeView g.row.R.Denot)). can_enter (length (members z c.get-found.result.now.node c.get-found.result.now.group)) ≤ (stream_of c.extend.new.self.nodes.items c.get-found.result.now.node c.get-found.result.now.group).room) (sym (c.extend.ensures.tree ∙ c.open_row.ensures.tree))
-    (subst (λ (z : StreamView g.row.R.Denot). can_enter (length (members c.args.self.now.tree.now c.get-found.result.now.node c.get-found.result.now.group)) ≤ z.room) (sym (searched_stream o a k s)) (c.in_ok-open_row.ensures.room (omega (arith, one, c.next_place-place.ensures))))
+    (subst (λ (z : StreamView g.row.R.Denot). can_enter (length (members c.args.self.now.tree.now c.get-found.result.now.node c.get-found.result.now.group)) ≤ z.room) (sym (searched_stream o a k s)) (c.in_ok-open_row.ensures.room (none_before _ _ one c.next_place-place.ensures)))
 
 pub after-advance-requires-clause-row : goal.after-advance-requires-clause-row
 after-advance-requires-clause-row g t c =
@@ -373,7 +451,7 @@ after-returns-clause-cost g t c =
     let s = search_of g t at.After-extend in
     let last : c.advance.new.steps ≤ c.extend.new.steps + 10 + 3 * child_count c.args.self.now.tree.now c.get-found.result.now.node + 4 * bit_length (length (members c.args.self.now.tree.now c.get-found.result.now.node c.get-found.result.now.group) + 1) =
     subst (λ (z : List (NodeView g.row.R.Denot)). c.advance.new.steps ≤ c.extend.new.steps + 10 + 3 * child_count z c.get-found.result.now.node + 4 * bit_length (length (members z c.get-found.result.now.node c.get-found.result.now.group) + 1)) (c.extend.ensures.tree ∙ c.open_row.ensures.tree) c.advance.ensures.cost in
-    searched_steps o a k s c.advance.new.steps (λ b members. omega (arith, last, members c.get-found.result.now.node c.get-found.result.now.group))
+    searched_steps o a k s c.advance.new.steps (λ b members. fewer_digits _ _ _ _ last (members c.get-found.result.now.node c.get-found.result.now.group))
 
 pub search-after-requires : goal.search-after-requires
 search-after-requires g t c κs within =
@@ -389,28 +467,28 @@ search-extend-requires g t c κs within =
     let in_tree = subst (λ (z : List (NodeView g.row.R.Denot)). c.args.node < length z) (sym c.after.ensures.tree) c.requires.node in
     let in_node = subst (λ (z : List (NodeView g.row.R.Denot)). c.args.row < rows z c.args.node) (sym c.after.ensures.tree) c.requires.row in
     elim (left_or_none c.has_beside-beside.result c.left_search-earlier.result.0 (c.args.count - 1) c.left_search-earlier.result.1 (c.in-Some.top.tag.left + 1) c.left_search-earlier.ensures.beside c.left_search-earlier.ensures.apart) [
-      | inl e ↦ (omega (arith, c.decreases, a.last, ap length c.after.ensures.tree, e.0), (within.0, (within.1.0, (within.1.1, (c.after.ensures.formed, (subst IsTieFreeTree (sym c.after.ensures.tree) c.requires.tie_free, (in_tree, (in_node, (omega (arith, b.in_row, e.0), left_within c.after.new.self.nodes.items c.args.node c.args.row (c.args.count - 1) c.left_search-earlier.result.0 c.left_search-earlier.result.1 c.in-Some.top.tag.left b.left e.0 e.1)))))))))
-      | inr n ↦ (omega (arith, c.decreases, a.last, ap length c.after.ensures.tree, n.0), (within.0, (within.1.0, (within.1.1, (c.after.ensures.formed, (subst IsTieFreeTree (sym c.after.ensures.tree) c.requires.tie_free, (in_tree, (in_node, (omega (arith, n.0), none_within_known c.after.new.self.nodes.items c.args.node c.args.row c.left_search-earlier.result.0 c.left_search-earlier.result.1 n.1)))))))))
+      | inl e ↦ (omega (arith, c.decreases, a.last, ap length c.after.ensures.tree, e.0), (within.0, (within.1.0, (within.1.1, (c.after.ensures.formed, (subst IsTieFreeTree (sym c.after.ensures.tree) c.requires.tie_free, (in_tree, (in_node, (at_below _ _ _ b.in_row e.0, left_within c.after.new.self.nodes.items c.args.node c.args.row (c.args.count - 1) c.left_search-earlier.result.0 c.left_search-earlier.result.1 c.in-Some.top.tag.left b.left e.0 e.1)))))))))
+      | inr n ↦ (omega (arith, c.decreases, a.last, ap length c.after.ensures.tree, n.0), (within.0, (within.1.0, (within.1.1, (c.after.ensures.formed, (subst IsTieFreeTree (sym c.after.ensures.tree) c.requires.tie_free, (in_tree, (in_node, (none_few _ _ n.0, none_within_known c.after.new.self.nodes.items c.args.node c.args.row c.left_search-earlier.result.0 c.left_search-earlier.result.1 n.1)))))))))
     ]
 
 pub extend-search-requires : goal.extend-search-requires
 extend-search-requires g t c κs within =
-    (omega (arith, c.decreases), (within.0, (within.1.0, (within.1.1, (c.requires.formed, (c.requires.tie_free, (c.requires.node, (c.requires.row, (omega (arith, c.if-count-eq0.false), c.requires.count)))))))))
+    (omega (arith, c.decreases), (within.0, (within.1.0, (within.1.1, (c.requires.formed, (c.requires.tie_free, (c.requires.node, (c.requires.row, (some_is c.args.count c.if-count-eq0.false, c.requires.count)))))))))
 
 pub extend-returns-clause-reached : goal.extend-returns-clause-reached
 extend-returns-clause-reached g t c =
-    let known : c.known.result ≡ part_known c.args.self.now.nodes.items c.args.node c.args.row c.args.count = c.known.ensures ∙ ap (λ z. known_of z c.args.row c.args.count) (sym (lists_at c.args.self.now.nodes.items c.args.node c.index.result.now c.index.ensures (omega (arith, c.requires.node, c.requires.formed.all_nodes)))) in
-    let same : part_known c.args.self.now.nodes.items c.args.node c.args.row c.args.count ≡ c.args.place = omega (arith, known, c.if-place-known.false, c.requires.place) in
+    let known : c.known.result ≡ part_known c.args.self.now.nodes.items c.args.node c.args.row c.args.count = c.known.ensures ∙ ap (λ z. known_of z c.args.row c.args.count) (sym (lists_at c.args.self.now.nodes.items c.args.node c.index.result.now c.index.ensures (in_same _ _ _ c.requires.node c.requires.formed.all_nodes))) in
+    let same : part_known c.args.self.now.nodes.items c.args.node c.args.row c.args.count ≡ c.args.place = place_is _ _ _ known c.if-place-known.false c.requires.place in
     subst (λ z. OnOk c.search.result (IsReached g.R.Rank.KEYS g.R.Rank.key c.args.self.now.tree.now c.search.new.self.nodes.items c.args.node c.args.row c.args.count z)) same c.search.ensures.reached
 
 pub extend-returns-then-place-known-clause-reached : goal.extend-returns-then-place-known-clause-reached
 extend-returns-then-place-known-clause-reached g t c =
-    let known : c.known.result ≡ part_known c.args.self.now.nodes.items c.args.node c.args.row c.args.count = c.known.ensures ∙ ap (λ z. known_of z c.args.row c.args.count) (sym (lists_at c.args.self.now.nodes.items c.args.node c.index.result.now c.index.ensures (omega (arith, c.requires.node, c.requires.formed.all_nodes)))) in
+    let known : c.known.result ≡ part_known c.args.self.now.nodes.items c.args.node c.args.row c.args.count = c.known.ensures ∙ ap (λ z. known_of z c.args.row c.args.count) (sym (lists_at c.args.self.now.nodes.items c.args.node c.index.result.now c.index.ensures (in_same _ _ _ c.requires.node c.requires.formed.all_nodes))) in
     on_ok c.reserve.result (elim c.then-place-known.branch [
-      | extend-then-place-known-via-then-place-known w ↦ inl (omega (arith, known, w.if-place-known.true))
+      | extend-then-place-known-via-then-place-known w ↦ inl (subst (λ z. c.args.place < z) known w.if-place-known.true)
       | extend-then-place-known-via-else-place-known+then-count-eq0 w ↦
-          let none : 0 ≡ c.args.count = omega (arith, w.if-count-eq0.true) in
-          subst (λ z. IsReached g.R.Rank.KEYS g.R.Rank.key c.args.self.now.tree.now c.args.self.now.nodes.items c.args.node c.args.row z c.args.place) none (reached_none g.R.Rank.KEYS g.R.Rank.key c.args.self.now.tree.now c.args.self.now.entries.entries c.args.self.now.nodes.items c.requires.formed c.args.node c.args.row c.args.place c.requires.node (omega (arith, known, w.if-place-known.false, ap (λ z. part_known c.args.self.now.nodes.items c.args.node c.args.row z) none)))
+          let none : 0 ≡ c.args.count = sym w.if-count-eq0.true in
+          subst (λ z. IsReached g.R.Rank.KEYS g.R.Rank.key c.args.self.now.tree.now c.args.self.now.nodes.items c.args.node c.args.row z c.args.place) none (reached_none g.R.Rank.KEYS g.R.Rank.key c.args.self.now.tree.now c.args.self.now.entries.entries c.args.self.now.nodes.items c.requires.formed c.args.node c.args.row c.args.place c.requires.node (known_before _ _ _ _ known w.if-place-known.false (ap (λ z. part_known c.args.self.now.nodes.items c.args.node c.args.row z) none)))
     ])
 
 pub extend-returns-then-place-known-clause-cost : goal.extend-returns-then-place-known-clause-cost
@@ -425,9 +503,9 @@ search-returns-in_default-clause-cost g t c =
 
 pub search-returns-in_default-clause-reached : goal.search-returns-in_default-clause-reached
 search-returns-in_default-clause-reached g t c =
-    let last : suc (c.args.count - 1) ≡ c.args.count = omega (arith, c.requires.some) in
-    let empty = ap (λ n. (product_at n c.args.row (c.args.count - 1)).frontier) (lists_at c.args.self.now.nodes.items c.args.node c.index.result.now c.index.ensures (omega (arith, c.requires.node, c.requires.formed.all_nodes))) ∙ no_top c.product_top.result (product_at c.index.result.now c.args.row (c.args.count - 1)).frontier c.in_default.is c.product_top.ensures.variant in
-    let done = sums_done g.R.Rank.KEYS g.R.Rank.key c.args.self.now.tree.now c.args.self.now.entries.entries c.args.self.now.nodes.items c.requires.formed c.args.node c.args.row (c.args.count - 1) c.requires.node c.requires.row (omega (arith, c.requires.count, last)) empty in
+    let last : suc (c.args.count - 1) ≡ c.args.count = last_is c.args.count c.requires.some in
+    let empty = ap (λ n. (product_at n c.args.row (c.args.count - 1)).frontier) (lists_at c.args.self.now.nodes.items c.args.node c.index.result.now c.index.ensures (in_same _ _ _ c.requires.node c.requires.formed.all_nodes)) ∙ no_top c.product_top.result (product_at c.index.result.now c.args.row (c.args.count - 1)).frontier c.in_default.is c.product_top.ensures.variant in
+    let done = sums_done g.R.Rank.KEYS g.R.Rank.key c.args.self.now.tree.now c.args.self.now.entries.entries c.args.self.now.nodes.items c.requires.formed c.args.node c.args.row (c.args.count - 1) c.requires.node c.requires.row (last_below _ _ c.requires.some c.requires.count) empty in
     on_ok c.reserve.result (subst (λ z. IsReached g.R.Rank.KEYS g.R.Rank.key c.args.self.now.tree.now c.args.self.now.nodes.items c.args.node c.args.row z (part_known c.args.self.now.nodes.items c.args.node c.args.row c.args.count)) last (inr (omega (arith, done, ap (λ z. part_known c.args.self.now.nodes.items c.args.node c.args.row z) last))))
 
 pub search-returns-in_err-make_room-clause-formed : goal.search-returns-in_err-make_room-clause-formed
@@ -446,7 +524,7 @@ pub search-returns-in_err-make_room-clause-queues : goal.search-returns-in_err-m
 search-returns-in_err-make_room-clause-queues g t c =
     let at = goal.at.search-returns-in_err-make_room-clause-queues g t c in
     let a = room_of g t at.After-make_room in
-    made_queues a c.make_room.new.nodes.items (λ w s k. omega arith)
+    made_queues a c.make_room.new.nodes.items (λ w s k. queue_itself _ _)
 
 pub search-returns-in_err-make_room-clause-cost : goal.search-returns-in_err-make_room-clause-cost
 search-returns-in_err-make_room-clause-cost g t c =
@@ -524,7 +602,7 @@ search-returns-in_err-extend-clause-cost g t c =
     let a = room_of g t at.After-make_room in
     let b = child_of g t at.After-after a in
     let l = left_of g t at.After-extend a b in
-    left_steps a b l c.extend.new.steps (omega arith) (omega arith)
+    left_steps a b l c.extend.new.steps (one_later _) (later_digits _ _)
 
 pub search-step-requires-clause-tie_free : goal.search-step-requires-clause-tie_free
 search-step-requires-clause-tie_free g t c =
@@ -590,7 +668,7 @@ search-step-requires-clause-below g t c =
     let b = child_of g t at.After-after a in
     let l = left_of g t at.After-extend a b in
     subst (λ (y : List (NodeView g.row.R.Denot)). IsAnswered g.R.Rank.KEYS g.R.Rank.key y c.extend.new.self.entries.entries c.in-Some.top.tag.right c.in_ok-below.below) (sym l.searched.tree)
-    (answered_stays g.R.Rank.KEYS g.R.Rank.key c.args.self.now.tree.now (suc c.args.node) c.after.new.self.entries.entries c.extend.new.self.entries.entries c.in-Some.top.tag.right c.in_ok-below.below (omega (arith, a.known.right, b.grown.store.longer)) l.searched.extended.store c.in_ok-below.ensures.answer)
+    (answered_stays g.R.Rank.KEYS g.R.Rank.key c.args.self.now.tree.now (suc c.args.node) c.after.new.self.entries.entries c.extend.new.self.entries.entries c.in-Some.top.tag.right c.in_ok-below.below (in_longer _ _ _ a.known.right b.grown.store.longer) l.searched.extended.store c.in_ok-below.ensures.answer)
 
 pub search-step-requires-clause-across : goal.search-step-requires-clause-across
 search-step-requires-clause-across g t c =
@@ -636,14 +714,14 @@ search-returns-clause-reached g t c =
     let l = left_of g t at.After-extend a b in
     let at : part_known c.extend.new.self.nodes.items c.args.node c.args.row c.args.count ≡ part_known c.args.self.now.nodes.items c.args.node c.args.row c.args.count =
     ap (λ z. part_known c.extend.new.self.nodes.items c.args.node c.args.row z) (sym a.last) ∙ ap (λ (z : ProductView g.row.R.Denot). length z.found) l.product ∙ ap length a.found ∙ ap (λ z. part_known c.args.self.now.nodes.items c.args.node c.args.row z) a.last in
-    let more : (c.args.count - 1) + 1 ≡ c.args.count = omega (arith, a.last) in
+    let more : (c.args.count - 1) + 1 ≡ c.args.count = next_last c.args.count a.last in
     subst (λ z. IsReached g.R.Rank.KEYS g.R.Rank.key c.args.self.now.tree.now c.step.new.self.nodes.items c.args.node c.args.row c.args.count z) at
     (subst (λ z. IsReached g.R.Rank.KEYS g.R.Rank.key c.args.self.now.tree.now c.step.new.self.nodes.items c.args.node c.args.row z (part_known c.extend.new.self.nodes.items c.args.node c.args.row z)) more
     (subst (λ (y : List (NodeView g.row.R.Denot)). IsReached g.R.Rank.KEYS g.R.Rank.key y c.step.new.self.nodes.items c.args.node c.args.row ((c.args.count - 1) + 1) (part_known c.extend.new.self.nodes.items c.args.node c.args.row ((c.args.count - 1) + 1))) l.searched.tree c.step.ensures.reached))
 
 pub search-returns-clause-room : goal.search-returns-clause-room
 search-returns-clause-room g t c =
-    omega (arith, c.in_ok-extend.ensures.room, ap (λ z. z.spare) c.step.ensures.entries)
+    subst (λ n. 0 < n) (sym (ap (λ z. z.spare) c.step.ensures.entries)) c.in_ok-extend.ensures.room
 
 pub search-returns-clause-queues : goal.search-returns-clause-queues
 search-returns-clause-queues g t c =
@@ -659,21 +737,21 @@ search-returns-clause-cost g t c =
     let a = room_of g t at.After-make_room in
     let b = child_of g t at.After-after a in
     let l = left_of g t at.After-extend a b in
-    left_steps a b l c.step.new.steps (omega arith) c.step.ensures.cost
+    left_steps a b l c.step.new.steps (one_later _) c.step.ensures.cost
 
 pub search-left_search-earlier-requires : goal.search-left_search-earlier-requires
 search-left_search-earlier-requires g t c =
     let at = goal.at.search-left_search-earlier-requires g t c in
     let a = room_of g t at.After-make_room in
     let b = child_of g t at.After-after a in
-    omega (arith, b.left, c.known-known.ensures, ap (λ z. known_of z c.args.row (c.args.count - 1)) (lists_at c.after.new.self.nodes.items c.args.node c.index-2.result.now c.index-2.ensures (omega (arith, c.requires.node, b.formed.all_nodes))))
+    in_same _ _ _ b.left (c.known-known.ensures ∙ ap (λ z. known_of z c.args.row (c.args.count - 1)) (sym (lists_at c.after.new.self.nodes.items c.args.node c.index-2.result.now c.index-2.ensures (in_same _ _ _ c.requires.node b.formed.all_nodes))))
 
 pub search-has_beside-beside-requires-clause-child : goal.search-has_beside-beside-requires-clause-child
 search-has_beside-beside-requires-clause-child g t c =
     let at = goal.at.search-has_beside-beside-requires-clause-child g t c in
     let a = room_of g t at.After-make_room in
     let b = child_of g t at.After-after a in
-    subst (λ n. c.args.count - 1 < length (lists_of n c.args.node).children) (sym c.as_slice.ensures.value) (omega (arith, a.in_kids, b.formed.all_children c.args.node c.requires.node))
+    subst (λ n. c.args.count - 1 < length (lists_of n c.args.node).children) (sym c.as_slice.ensures.value) (in_same _ _ _ a.in_kids (b.formed.all_children c.args.node c.requires.node))
 
 pub search-has_beside-beside-requires-clause-below : goal.search-has_beside-beside-requires-clause-below
 search-has_beside-beside-requires-clause-below g t c =
@@ -681,38 +759,38 @@ search-has_beside-beside-requires-clause-below g t c =
     let a = room_of g t at.After-make_room in
     let b = child_of g t at.After-after a in
     subst (λ n. slice_index (lists_of n c.args.node).children (c.args.count - 1) < length n) (sym c.as_slice.ensures.value)
-    (omega (arith, b.formed.children c.args.node (c.args.count - 1) c.requires.node a.in_kids, a.child_within, b.formed.all_nodes))
+    (child_in _ _ _ _ (b.formed.children c.args.node (c.args.count - 1) c.requires.node a.in_kids) a.child_within b.formed.all_nodes)
 
 pub search-known-known-requires : goal.search-known-known-requires
 search-known-known-requires g t c =
     let at = goal.at.search-known-known-requires g t c in
     let a = room_of g t at.After-make_room in
     let b = child_of g t at.After-after a in
-    omega (arith, b.in_row, ap (λ z. length (get_or z.products c.args.row [])) (lists_at c.after.new.self.nodes.items c.args.node c.index-2.result.now c.index-2.ensures (omega (arith, c.requires.node, b.formed.all_nodes))))
+    record { count = at_below _ _ _ (subst (λ (z : NodeStreamsView g.row.R.Denot). c.args.count - 1 < length (get_or z.products c.args.row [])) (lists_at c.after.new.self.nodes.items c.args.node c.index-2.result.now c.index-2.ensures (in_same _ _ _ c.requires.node b.formed.all_nodes)) b.in_row) refl }
 
 pub extend-index-requires : goal.extend-index-requires
 extend-index-requires g t c =
-    omega (arith, c.requires.formed.all_nodes, c.requires.node)
+    in_same _ _ _ (in_same _ _ _ c.requires.node c.requires.formed.all_nodes) c.args.self.now.nodes.ok.0
 
 pub extend-known-requires : goal.extend-known-requires
 extend-known-requires g t c =
-    omega (arith, c.requires.count, ap (λ z. length (get_or z.products c.args.row [])) (lists_at c.args.self.now.nodes.items c.args.node c.index.result.now c.index.ensures (omega (arith, c.requires.node, c.requires.formed.all_nodes))))
+    record { count = subst (λ (z : NodeStreamsView g.row.R.Denot). c.args.count ≤ length (get_or z.products c.args.row [])) (lists_at c.args.self.now.nodes.items c.args.node c.index.result.now c.index.ensures (in_same _ _ _ c.requires.node c.requires.formed.all_nodes)) c.requires.count }
 
 pub search-index-requires : goal.search-index-requires
 search-index-requires g t c =
-    omega (arith, c.requires.formed.all_nodes, c.requires.node)
+    in_same _ _ _ (in_same _ _ _ c.requires.node c.requires.formed.all_nodes) c.args.self.now.nodes.ok.0
 
 pub search-product_top-requires : goal.search-product_top-requires
 search-product_top-requires g t c =
-    record { child = omega (arith, c.requires.count, c.requires.some, ap (λ z. length (get_or z.products c.args.row [])) (lists_at c.args.self.now.nodes.items c.args.node c.index.result.now c.index.ensures (omega (arith, c.requires.node, c.requires.formed.all_nodes)))) }
+    record { child = subst (λ (z : NodeStreamsView g.row.R.Denot). c.args.count - 1 < length (get_or z.products c.args.row [])) (lists_at c.args.self.now.nodes.items c.args.node c.index.result.now c.index.ensures (in_same _ _ _ c.requires.node c.requires.formed.all_nodes)) (last_below _ _ c.requires.some c.requires.count) }
 
 pub search-make_room-requires-clause-node : goal.search-make_room-requires-clause-node
 search-make_room-requires-clause-node g t c =
-    omega (arith, c.requires.formed.all_nodes, c.requires.node)
+    in_same _ _ _ c.requires.node c.requires.formed.all_nodes
 
 pub search-make_room-requires-clause-child : goal.search-make_room-requires-clause-child
 search-make_room-requires-clause-child g t c =
-    omega (arith, c.requires.count, c.requires.some)
+    last_below _ _ c.requires.some c.requires.count
 
 pub extend-returns-clause-formed : goal.extend-returns-clause-formed
 extend-returns-clause-formed g t c =
@@ -768,7 +846,7 @@ after-returns-in_err-open_row-clause-formed g t c =
 
 pub after-returns-in_err-open_row-clause-queues : goal.after-returns-in_err-open_row-clause-queues
 after-returns-in_err-open_row-clause-queues g t c =
-    λ v r k. omega (arith, c.open_row.ensures.queues v r k)
+    λ v r k. queue_grown _ _ _ (c.open_row.ensures.queues v r k)
 
 pub after-returns-in_err-extend-clause-formed : goal.after-returns-in_err-extend-clause-formed
 after-returns-in_err-extend-clause-formed g t c =
@@ -796,7 +874,7 @@ after-returns-in-Some-clause-grown g t c =
 
 pub after-returns-in-Some-clause-queues : goal.after-returns-in-Some-clause-queues
 after-returns-in-Some-clause-queues g t c =
-    λ v r k. omega arith
+    λ v r k. queue_itself _ _
 
 pub after-returns-in_default-top-clause-formed : goal.after-returns-in_default-top-clause-formed
 after-returns-in_default-top-clause-formed g t c =
@@ -808,7 +886,7 @@ after-returns-in_default-top-clause-grown g t c =
 
 pub after-returns-in_default-top-clause-queues : goal.after-returns-in_default-top-clause-queues
 after-returns-in_default-top-clause-queues g t c =
-    λ v r k. omega arith
+    λ v r k. queue_itself _ _
 
 pub after-returns-in_default-top-clause-known : goal.after-returns-in_default-top-clause-known
 after-returns-in_default-top-clause-known g t c =
@@ -829,7 +907,7 @@ after-advance-requires-clause-tie_free g t c =
 
 pub after-advance-requires-clause-last : goal.after-advance-requires-clause-last
 after-advance-requires-clause-last g t c =
-    omega (arith, c.requires.entry, c.extend.ensures.extended.store.longer, ap (λ z. length z.entries) c.open_row.ensures.entries)
+    in_longer _ _ _ (in_same _ _ _ c.requires.entry (ap (λ z. length z.entries) c.open_row.ensures.entries)) c.extend.ensures.extended.store.longer
 
 pub after-advance-requires-clause-count : goal.after-advance-requires-clause-count
 after-advance-requires-clause-count g t c =
@@ -857,7 +935,7 @@ extend-returns-then-place-known-clause-extended g t c =
 
 pub extend-returns-then-place-known-clause-queues : goal.extend-returns-then-place-known-clause-queues
 extend-returns-then-place-known-clause-queues g t c =
-    λ v r k. omega arith
+    λ v r k. queue_itself _ _
 
 pub extend-returns-then-place-known-clause-room : goal.extend-returns-then-place-known-clause-room
 extend-returns-then-place-known-clause-room g t c =
@@ -873,7 +951,7 @@ search-returns-in_default-clause-extended g t c =
 
 pub search-returns-in_default-clause-queues : goal.search-returns-in_default-clause-queues
 search-returns-in_default-clause-queues g t c =
-    λ v r k. omega arith
+    λ v r k. queue_itself _ _
 
 pub search-returns-in_default-clause-room : goal.search-returns-in_default-clause-room
 search-returns-in_default-clause-room g t c =
@@ -881,11 +959,11 @@ search-returns-in_default-clause-room g t c =
 
 pub search-overflow_sub-child : goal.search-overflow_sub-child
 search-overflow_sub-child g t c =
-    omega (arith, c.requires.some)
+    one_within c.args.count c.requires.some
 
 pub search-index-requires-2 : goal.search-index-requires-2
 search-index-requires-2 g t c =
-    omega (arith, c.requires.node, c.after.ensures.formed.all_nodes, ap length c.after.ensures.tree)
+    in_same _ _ _ (in_same _ _ _ c.requires.node (c.after.ensures.formed.all_nodes ∙ ap length c.after.ensures.tree)) c.after.new.self.nodes.ok.0
 
 pub search-returns-in_err-below-clause-tree : goal.search-returns-in_err-below-clause-tree
 search-returns-in_err-below-clause-tree g t c =

@@ -20,6 +20,9 @@ use Rattle.suffix_streams.proofs.solutions.Solutions.step.Given.{Over}
 use Rattle.suffix_streams.proofs.solutions.Solutions.step.Goals.{After-known-known, After-step_product}
 use Rattle.suffix_streams.proofs.solutions.Solutions.step.Goals as goal
 
+in_same : (v n m : ℕ) → v < n → m ≡ n → v < m
+in_same v n m l e = omega arith
+
 -- # What the proofs share
 
 -- the first entry of the stream of the group that a row names for a child
@@ -28,7 +31,7 @@ head_of t n v r c = (stream_of n (child t v c) (group_named t v r c)).head
 
 module _ (g : Over) where
   known_is : (c : After-known-known g) → c.known-known.result ≡ part_known c.args.self.now.nodes.items c.args.node c.args.row c.args.child
-  known_is c = c.known-known.ensures ∙ ap (λ n. known_of n c.args.row c.args.child) (sym (lists_at c.args.self.now.nodes.items c.args.node c.index.result.now c.index.ensures (omega (arith, c.requires.formed.all_nodes, c.requires.node))))
+  known_is c = c.known-known.ensures ∙ ap (λ n. known_of n c.args.row c.args.child) (sym (lists_at c.args.self.now.nodes.items c.args.node c.index.result.now c.index.ensures (in_same _ _ _ c.requires.node c.requires.formed.all_nodes)))
 
   -- the place of the next left part is reached if the right part is the head
   ready_of : (c : After-step_product g) → c.args.top.now.tag.right ≡ head_of c.args.self.now.tree.now c.args.self.now.nodes.items c.args.node c.args.row c.args.child → IsReached g.R.Rank.KEYS g.R.Rank.key c.args.self.now.tree.now c.args.self.now.nodes.items c.args.node c.args.row c.args.child (c.args.top.now.tag.left + 1)
@@ -57,10 +60,10 @@ module _ (g : Over) where
 
   -- the nodes then
   changed_of : (c : After-step_product g) → slice_set c.args.self.now.nodes.items c.args.node c.step_product.new.self ≡ slice_set c.args.self.now.nodes.items c.args.node (with_product (lists_of c.args.self.now.nodes.items c.args.node) c.args.row c.args.child (product_at c.step_product.new.self c.args.row c.args.child))
-  changed_of c = one_change c.args.self.now.nodes.items c.args.node c.args.row c.args.child c.index_mut.result.now c.step_product.new.self (omega (arith, c.requires.formed.all_nodes, c.requires.node)) c.index_mut.ensures.value c.step_product.ensures.changed
+  changed_of c = one_change c.args.self.now.nodes.items c.args.node c.args.row c.args.child c.index_mut.result.now c.step_product.new.self (in_same _ _ _ c.requires.node c.requires.formed.all_nodes) c.index_mut.ensures.value c.step_product.ensures.changed
 
   product_is : (c : After-step_product g) → product_of (slice_set c.args.self.now.nodes.items c.args.node c.step_product.new.self) c.args.node c.args.row c.args.child ≡ product_at c.step_product.new.self c.args.row c.args.child
-  product_is c = ap (λ (m : NodeStreamsView g.row.R.Denot). product_at m c.args.row c.args.child) (lists_same c.args.self.now.nodes.items c.args.node c.step_product.new.self (omega (arith, c.requires.formed.all_nodes, c.requires.node)))
+  product_is c = ap (λ (m : NodeStreamsView g.row.R.Denot). product_at m c.args.row c.args.child) (lists_same c.args.self.now.nodes.items c.args.node c.step_product.new.self (in_same _ _ _ c.requires.node c.requires.formed.all_nodes))
 
 pub offer_below-down-requires-clause-right : goal.offer_below-down-requires-clause-right
 offer_below-down-requires-clause-right g c = top_right g.R.Rank.KEYS g.R.Rank.key c.args.self.now.tree.now c.args.self.now.entries.entries c.args.self.now.nodes.items c.requires.formed c.args.node c.args.row c.args.child c.requires.node c.requires.row c.requires.child c.args.top.now c.requires.top c.requires.first
@@ -92,11 +95,11 @@ offered-across-requires-clause-cell g c =
 
 pub index-requires : goal.index-requires
 index-requires g c =
-    omega (arith, c.requires.formed.all_nodes, c.requires.node)
+    in_same _ _ _ (in_same _ _ _ c.requires.node c.requires.formed.all_nodes) c.args.self.now.nodes.ok.0
 
 pub known-known-requires : goal.known-known-requires
 known-known-requires g c =
-    let inside : c.args.node < length c.args.self.now.nodes.items = omega (arith, c.requires.formed.all_nodes, c.requires.node) in
+    let inside : c.args.node < length c.args.self.now.nodes.items = in_same _ _ _ c.requires.node c.requires.formed.all_nodes in
     omega (arith, c.requires.child, ap (λ n. length (get_or n.products c.args.row [])) (lists_at c.args.self.now.nodes.items c.args.node c.index.result.now c.index.ensures inside))
 
 pub offered-across-requires-clause-formed : goal.offered-across-requires-clause-formed
@@ -113,11 +116,11 @@ offered-across-requires-clause-row g c =
 
 pub index_mut-requires : goal.index_mut-requires
 index_mut-requires g c =
-    omega (arith, c.requires.formed.all_nodes, c.requires.node)
+    in_same _ _ _ (in_same _ _ _ c.requires.node c.requires.formed.all_nodes) c.args.self.now.nodes.ok.0
 
 pub step_product-requires-clause-frontier_room : goal.step_product-requires-clause-frontier_room
 step_product-requires-clause-frontier_room g c _ across =
-    let lists = lists_at c.args.self.now.nodes.items c.args.node c.index_mut.result.now c.index_mut.ensures.value (omega (arith, c.requires.formed.all_nodes, c.requires.node)) in
+    let lists = lists_at c.args.self.now.nodes.items c.args.node c.index_mut.result.now c.index_mut.ensures.value (in_same _ _ _ c.requires.node c.requires.formed.all_nodes) in
     elim (cases_lt 0 c.args.child) [
       | inl l ↦ subst (λ n. 0 < (product_at n c.args.row c.args.child).frontier_room) lists (c.requires.frontier_room l)
       | inr l ↦
@@ -128,17 +131,17 @@ step_product-requires-clause-frontier_room g c _ across =
 
 pub step_product-requires-clause-child : goal.step_product-requires-clause-child
 step_product-requires-clause-child g c =
-    let inside : c.args.node < length c.args.self.now.nodes.items = omega (arith, c.requires.formed.all_nodes, c.requires.node) in
+    let inside : c.args.node < length c.args.self.now.nodes.items = in_same _ _ _ c.requires.node c.requires.formed.all_nodes in
     omega (arith, c.requires.child, ap (λ n. length (get_or n.products c.args.row [])) (lists_at c.args.self.now.nodes.items c.args.node c.index_mut.result.now c.index_mut.ensures.value inside))
 
 pub step_product-requires-clause-top : goal.step_product-requires-clause-top
 step_product-requires-clause-top g c =
-    let inside : c.args.node < length c.args.self.now.nodes.items = omega (arith, c.requires.formed.all_nodes, c.requires.node) in
+    let inside : c.args.node < length c.args.self.now.nodes.items = in_same _ _ _ c.requires.node c.requires.formed.all_nodes in
     subst (λ n. 0 < length (product_at n c.args.row c.args.child).frontier) (lists_at c.args.self.now.nodes.items c.args.node c.index_mut.result.now c.index_mut.ensures.value inside) c.requires.top
 
 pub step_product-requires-clause-room : goal.step_product-requires-clause-room
 step_product-requires-clause-room g c =
-    let inside : c.args.node < length c.args.self.now.nodes.items = omega (arith, c.requires.formed.all_nodes, c.requires.node) in
+    let inside : c.args.node < length c.args.self.now.nodes.items = in_same _ _ _ c.requires.node c.requires.formed.all_nodes in
     subst (λ n. 0 < (product_at n c.args.row c.args.child).room) (lists_at c.args.self.now.nodes.items c.args.node c.index_mut.result.now c.index_mut.ensures.value inside) c.requires.room
 
 pub returns-clause-formed : goal.returns-clause-formed
@@ -176,6 +179,6 @@ returns-clause-queue g c =
 
 pub returns-clause-cost : goal.returns-clause-cost
 returns-clause-cost g c =
-    let old = ap (λ n. product_at n c.args.row c.args.child) (sym (lists_at c.args.self.now.nodes.items c.args.node c.index_mut.result.now c.index_mut.ensures.value (omega (arith, c.requires.formed.all_nodes, c.requires.node)))) in
+    let old = ap (λ n. product_at n c.args.row c.args.child) (sym (lists_at c.args.self.now.nodes.items c.args.node c.index_mut.result.now c.index_mut.ensures.value (in_same _ _ _ c.requires.node c.requires.formed.all_nodes))) in
     let fewer : bit_length (length (product_of c.args.self.now.nodes.items c.args.node c.args.row c.args.child).frontier) ≤ bit_length (length (product_of c.args.self.now.nodes.items c.args.node c.args.row c.args.child).frontier + 1) = bit_length_rises (length (product_of c.args.self.now.nodes.items c.args.node c.args.row c.args.child).frontier) (length (product_of c.args.self.now.nodes.items c.args.node c.args.row c.args.child).frontier + 1) (omega arith) in
     omega (arith, fewer, c.offer_below-down.ensures.cost, c.offered-across.ensures.cost, c.step_product.ensures.cost, ap (λ q. bit_length (length q.frontier)) old, ap (λ q. bit_length (length q.frontier + 1)) old)
