@@ -1,11 +1,13 @@
 use Rattle.std.proofs.Common.{◌≡◌, ℕ, ◌<◌, ◌≤◌, refl, arith, length, sym, ap, subst, ◌∙◌}
-use Rattle.std.proofs.lemmas.Grind.{common_steps}
 use Rattle.std.proofs.lemmas.Result.{IfOk-from_err}
 use Rattle.std.proofs.lemmas.List.{length-map}
 use Rattle.tdp_core.specs.RawView.{row_total}
 use Rattle.tdp_core.specs.TreeView.{node_view, tree_view, row_count}
+use Rattle.plan_build.specs.declared.fault.PlanFault.TheVariants as fault
+use Rattle.plan_build.specs.Faults.{TellsFlaw}
 use Rattle.plan_build.proofs.Kept.{kept_in_all}
 use Rattle.plan_build.proofs.Planned.{items_are, parents_are, planned}
+use Rattle.plan_build.proofs.Refusals.{handed_on}
 use Rattle.plan_build.proofs.Sizes.{steps_of_build, steps_of_plan, steps_of_reduction}
 use Rattle.plan_build.proofs.plan.plan_over.Goals as goal
 
@@ -54,7 +56,7 @@ returns-in_err-built g c =
       join = IfOk-from_err c.from_residual.result _ c.from_residual.ensures.0;
       items = IfOk-from_err c.from_residual.result _ c.from_residual.ensures.0;
       parents = IfOk-from_err c.from_residual.result _ c.from_residual.ensures.0;
-      refusal = grind (arith, common_steps);
+      refusal = handed_on (TellsFlaw c.args.query.now.query c.args.tables.now) c.from_residual.result c.in_err-built.field-0.0 c.from_residual.ensures.1 c.in_err-built.ensures.refusal;
       cost = steps_of_build _ _ _ _ c.requires.fits.some c.nodes_of.ensures.cost;
     }
 
@@ -67,7 +69,7 @@ returns-in_err-reduced g c =
       join = IfOk-from_err c.from_residual-in_err-reduced.result _ c.from_residual-in_err-reduced.ensures.0;
       items = IfOk-from_err c.from_residual-in_err-reduced.result _ c.from_residual-in_err-reduced.ensures.0;
       parents = IfOk-from_err c.from_residual-in_err-reduced.result _ c.from_residual-in_err-reduced.ensures.0;
-      refusal = grind (arith, common_steps);
+      refusal = handed_on (TellsFlaw c.args.query.now.query c.args.tables.now) c.from_residual-in_err-reduced.result fault.NoMemory c.from_residual-in_err-reduced.ensures.1 tt;
       cost = steps_of_reduction _ _ _ _ _ _ (row_total c.in_ok-built.built.tree) c.requires.fits.some (omega (arith, built.used, built.fewer)) nodes built.cost c.reduce.ensures.cost;
     }
 
@@ -86,7 +88,7 @@ returns-in_err-tree g c =
       join = IfOk-from_err c.from_residual-in_err-tree.result _ c.from_residual-in_err-tree.ensures.0;
       items = IfOk-from_err c.from_residual-in_err-tree.result _ c.from_residual-in_err-tree.ensures.0;
       parents = IfOk-from_err c.from_residual-in_err-tree.result _ c.from_residual-in_err-tree.ensures.0;
-      refusal = grind (arith, common_steps);
+      refusal = handed_on (TellsFlaw c.args.query.now.query c.args.tables.now) c.from_residual-in_err-tree.result fault.NoMemory c.from_residual-in_err-tree.ensures.1 tt;
       cost = steps_of_plan _ _ _ _ _ _ _ (row_total raw) _ (row_count parts) c.requires.fits.some (omega (arith, built.used, built.fewer)) (rw long kept) nodes alike built.cost c.in_ok-reduced.ensures.cost c.solve.ensures.cost;
     }
 
@@ -104,15 +106,15 @@ returns g c =
     let kept = kept_in_all g.R.Rank.KEYS g.R.Rank.key raw parts reduced built.formed.each_node in
     record {
       plan = planned query c.args.tables.now c.args.join.now c.requires.stored c.requires.count c.args.over.now c.requires.over g.R.Rank.KEYS g.R.Rank.key c.requires.fits c.requires.keys
-    (omega (arith, nodes, built.formed.shaped.few_nodes)) c.requires.ordered c.requires.atoms
-    c.in_ok-built.built.tree built.built built.formed.each_node built.tie_free _ _ c.in_ok-reduced.ensures.reduced c.in_ok-tree.ensures.solved c.nodes-nodes.ensures.formed
-    c.in_ok-built.built.rows_of.items _ built.rows_of c.in_order-node_rows.ensures.counted c.in_order-node_rows.ensures.moved
-    c.in_ok-built.built.used _ built.used built.within (omega (arith, c.rows_of_tables.ensures.rows));
+          (omega (arith, nodes, built.formed.shaped.few_nodes)) c.requires.ordered c.requires.atoms
+          c.in_ok-built.built.tree built.built built.formed.each_node built.tie_free _ _ c.in_ok-reduced.ensures.reduced c.in_ok-tree.ensures.solved c.nodes-nodes.ensures.formed
+          c.in_ok-built.built.rows_of.items _ built.rows_of c.in_order-node_rows.ensures.counted c.in_order-node_rows.ensures.moved
+          c.in_ok-built.built.used _ built.used built.within (omega (arith, c.rows_of_tables.ensures.rows));
       join = refl;
       items = items_are c.args.query.now c.args.tables.now g.R.Rank.KEYS g.R.Rank.key c.args.over.now c.in_ok-built.built.tree c.in_ok-built.ensures.built
-    _ _ c.in_ok-reduced.ensures.reduced c.in_ok-tree.ensures.solved;
+          _ _ c.in_ok-reduced.ensures.reduced c.in_ok-tree.ensures.solved;
       parents = parents_are c.args.query.now c.args.tables.now g.R.Rank.KEYS g.R.Rank.key c.args.over.now c.in_ok-built.built.tree c.in_ok-built.ensures.built
-    _ _ c.in_ok-reduced.ensures.reduced c.in_ok-tree.ensures.solved;
+          _ _ c.in_ok-reduced.ensures.reduced c.in_ok-tree.ensures.solved;
       refusal = tt;
       cost = steps_of_plan _ _ _ _ _ _ _ (row_total raw) _ (row_count parts) c.requires.fits.some (omega (arith, built.used, built.fewer)) (rw long kept) nodes alike built.cost c.in_ok-reduced.ensures.cost c.solve.ensures.cost;
     }

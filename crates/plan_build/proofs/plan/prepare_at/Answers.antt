@@ -1,5 +1,7 @@
-use Rattle.std.proofs.Common.{◌≡◌, Err, arith, rules}
+use Rattle.std.proofs.Common.{arith}
 use Rattle.std.proofs.lemmas.Result.{IfOk-from_err}
+use Rattle.plan_build.specs.Faults.{TellsFlaw}
+use Rattle.plan_build.proofs.Refusals.{handed_on}
 use Rattle.plan_build.proofs.Rooted.{item_there, joined_again, plan_at_given}
 use Rattle.plan_build.proofs.plan.prepare_at.Goals as goal
 
@@ -28,10 +30,9 @@ plan_over-requires-clause-limit g c = c.requires.limit
 
 pub returns-in_err-tree : goal.returns-in_err-tree
 returns-in_err-tree g c =
-    let e : c.from_residual.result ≡ Err c.in_err-tree.field-0.0 = search rules in
     record {
       plan = IfOk-from_err c.from_residual.result _ c.from_residual.ensures.0;
-      refusal = rw e (c.in_err-tree.ensures.refusal c.args.tables.now);
+      refusal = handed_on (TellsFlaw c.args.query.now.query c.args.tables.now) c.from_residual.result c.in_err-tree.field-0.0 c.from_residual.ensures.1 (c.in_err-tree.ensures.refusal c.args.tables.now);
       cost = omega arith;
     }
 
@@ -42,8 +43,8 @@ returns g c =
     let made = c.plan_over.ensures in
     record {
       plan = plan_at_given g.R.Rank.KEYS g.R.Rank.key query c.args.tables.now c.in_ok-tree.tree c.reroot-rooted.result
-    (joined_again query.query c.in_ok-tree.tree c.in_ok-tree.ensures.joined c.reroot-rooted.result rooted.count rooted.graphs)
-    c.plan_over.result made.plan made.join made.items made.parents c.args.item c.requires.fits.some rooted.root rooted.count rooted.same;
+          (joined_again query.query c.in_ok-tree.tree c.in_ok-tree.ensures.joined c.reroot-rooted.result rooted.count rooted.graphs)
+          c.plan_over.result made.plan made.join made.items made.parents c.args.item c.requires.fits.some rooted.root rooted.count rooted.same;
       refusal = c.plan_over.ensures.refusal;
       cost = c.plan_over.ensures.cost;
     }

@@ -1,7 +1,8 @@
 use Rattle.std.proofs.Common.{arith, refl}
-use Rattle.std.proofs.lemmas.Grind.{common_steps}
 use Rattle.std.proofs.lemmas.Result.{IfOk-from_err}
 use Rattle.node_build.proofs.Shaped.{caps_small}
+use Rattle.plan_build.specs.Faults.{TellsFlaw}
+use Rattle.plan_build.proofs.Refusals.{handed_on}
 use Rattle.plan_build.proofs.Rooms.{denied, lex_least, middle_least, small_lex_least, sum_least}
 use Rattle.plan_build.proofs.ranked_plan.prepare_ranked.Goals as goal
 
@@ -61,7 +62,7 @@ returns-in_err-plan g c =
     record {
       plan = IfOk-from_err c.from_residual.result _ c.from_residual.ensures.0;
       smallest = IfOk-from_err c.from_residual.result _ c.from_residual.ensures.0;
-      refusal = grind (arith, common_steps);
+      refusal = handed_on (TellsFlaw c.args.query.now.query c.args.tables.now) c.from_residual.result c.in_err-plan.field-0.0 c.from_residual.ensures.1 c.in_err-plan.ensures.refusal;
       cost = c.in_err-plan.ensures.cost;
     }
 
@@ -70,7 +71,7 @@ returns-in_err-plan-2 g c =
     record {
       plan = IfOk-from_err c.from_residual-in_err-plan-2.result _ c.from_residual-in_err-plan-2.ensures.0;
       smallest = IfOk-from_err c.from_residual-in_err-plan-2.result _ c.from_residual-in_err-plan-2.ensures.0;
-      refusal = grind (arith, common_steps);
+      refusal = handed_on (TellsFlaw c.args.query.now.query c.args.tables.now) c.from_residual-in_err-plan-2.result c.in_err-plan-2.field-0.0 c.from_residual-in_err-plan-2.ensures.1 c.in_err-plan-2.ensures.refusal;
       cost = c.in_err-plan-2.ensures.cost;
     }
 
@@ -79,7 +80,7 @@ returns-in_err-plan-3 g c =
     record {
       plan = IfOk-from_err c.from_residual-in_err-plan-3.result _ c.from_residual-in_err-plan-3.ensures.0;
       smallest = IfOk-from_err c.from_residual-in_err-plan-3.result _ c.from_residual-in_err-plan-3.ensures.0;
-      refusal = grind (arith, common_steps);
+      refusal = handed_on (TellsFlaw c.args.query.now.query c.args.tables.now) c.from_residual-in_err-plan-3.result c.in_err-plan-3.field-0.0 c.from_residual-in_err-plan-3.ensures.1 c.in_err-plan-3.ensures.refusal;
       cost = c.in_err-plan-3.ensures.cost;
     }
 
@@ -88,7 +89,7 @@ returns-in_err-plan-4 g c =
     record {
       plan = IfOk-from_err c.from_residual-in_err-plan-4.result _ c.from_residual-in_err-plan-4.ensures.0;
       smallest = IfOk-from_err c.from_residual-in_err-plan-4.result _ c.from_residual-in_err-plan-4.ensures.0;
-      refusal = grind (arith, common_steps);
+      refusal = handed_on (TellsFlaw c.args.query.now.query c.args.tables.now) c.from_residual-in_err-plan-4.result c.in_err-plan-4.field-0.0 c.from_residual-in_err-plan-4.ensures.1 c.in_err-plan-4.ensures.refusal;
       cost = c.in_err-plan-4.ensures.cost;
     }
 
@@ -97,7 +98,7 @@ returns-in_err-plan-5 g c =
     record {
       plan = IfOk-from_err c.from_residual-in_err-plan-5.result _ c.from_residual-in_err-plan-5.ensures.0;
       smallest = IfOk-from_err c.from_residual-in_err-plan-5.result _ c.from_residual-in_err-plan-5.ensures.0;
-      refusal = grind (arith, common_steps);
+      refusal = handed_on (TellsFlaw c.args.query.now.query c.args.tables.now) c.from_residual-in_err-plan-5.result c.in_err-plan-5.field-0.0 c.from_residual-in_err-plan-5.ensures.1 c.in_err-plan-5.ensures.refusal;
       cost = c.in_err-plan-5.ensures.cost;
     }
 
@@ -106,8 +107,8 @@ returns-then-has_places g c =
     record {
       plan = c.in_ok-plan-2.ensures.plan;
       smallest = middle_least c.args.query.now c.args.tables.now c.requires.fits
-    (denied c.has_packed_room.result c.if-has_packed_room.false (c.has_packed_room.ensures c.args.tables.now c.requires.fits))
-    c.in_ok-plan-2.plan (c.has_places.ensures.0 c.if-has_places.true);
+          (denied c.has_packed_room.result c.if-has_packed_room.false (c.has_packed_room.ensures c.args.tables.now c.requires.fits))
+          c.in_ok-plan-2.plan (c.has_places.ensures.0 c.if-has_places.true);
       refusal = tt;
       cost = c.in_ok-plan-2.ensures.cost;
     }
@@ -117,8 +118,8 @@ returns-then-has_places-2 g c =
     record {
       plan = c.in_ok-plan-3.ensures.plan;
       smallest = small_lex_least c.args.query.now c.args.tables.now c.requires.fits
-    (denied c.has_packed_room.result c.if-has_packed_room.false (c.has_packed_room.ensures c.args.tables.now c.requires.fits))
-    c.in_ok-plan-3.plan (c.has_places-2.ensures.0 c.if-has_places-2.true);
+          (denied c.has_packed_room.result c.if-has_packed_room.false (c.has_packed_room.ensures c.args.tables.now c.requires.fits))
+          c.in_ok-plan-3.plan (c.has_places-2.ensures.0 c.if-has_places-2.true);
       refusal = tt;
       cost = c.in_ok-plan-3.ensures.cost;
     }
@@ -128,9 +129,9 @@ returns-then-has_places-3 g c =
     record {
       plan = c.in_ok-plan-4.ensures.plan;
       smallest = sum_least c.args.query.now c.args.tables.now c.requires.fits
-    (denied c.has_packed_room.result c.if-has_packed_room.false (c.has_packed_room.ensures c.args.tables.now c.requires.fits))
-    (denied c.has_places.result c.if-has_places.false c.has_places.ensures) (denied c.has_places-2.result c.if-has_places-2.false c.has_places-2.ensures)
-    c.in_ok-plan-4.plan (c.has_places-3.ensures.0 c.if-has_places-3.true);
+          (denied c.has_packed_room.result c.if-has_packed_room.false (c.has_packed_room.ensures c.args.tables.now c.requires.fits))
+          (denied c.has_places.result c.if-has_places.false c.has_places.ensures) (denied c.has_places-2.result c.if-has_places-2.false c.has_places-2.ensures)
+          c.in_ok-plan-4.plan (c.has_places-3.ensures.0 c.if-has_places-3.true);
       refusal = tt;
       cost = c.in_ok-plan-4.ensures.cost;
     }
@@ -140,9 +141,9 @@ returns g c =
     record {
       plan = c.in_ok-plan-5.ensures.plan;
       smallest = lex_least c.args.query.now c.args.tables.now c.requires.fits
-    (denied c.has_packed_room.result c.if-has_packed_room.false (c.has_packed_room.ensures c.args.tables.now c.requires.fits))
-    (denied c.has_places.result c.if-has_places.false c.has_places.ensures) (denied c.has_places-2.result c.if-has_places-2.false c.has_places-2.ensures)
-    c.in_ok-plan-5.plan (denied c.has_places-3.result c.if-has_places-3.false c.has_places-3.ensures) (omega arith, omega arith);
+          (denied c.has_packed_room.result c.if-has_packed_room.false (c.has_packed_room.ensures c.args.tables.now c.requires.fits))
+          (denied c.has_places.result c.if-has_places.false c.has_places.ensures) (denied c.has_places-2.result c.if-has_places-2.false c.has_places-2.ensures)
+          c.in_ok-plan-5.plan (denied c.has_places-3.result c.if-has_places-3.false c.has_places-3.ensures) (omega arith, omega arith);
       refusal = tt;
       cost = c.in_ok-plan-5.ensures.cost;
     }
