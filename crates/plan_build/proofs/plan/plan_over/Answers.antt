@@ -33,22 +33,6 @@ nodes_of-requires-clause-tree g c = c.requires.over
 pub rows_of_tables-requires : goal.rows_of_tables-requires
 rows_of_tables-requires g c = record { fits = c.requires.fits }
 
-pub in_order-node_rows-requires-clause-from : goal.in_order-node_rows-requires-clause-from
-in_order-node_rows-requires-clause-from g c = c.requires.over_ordered
-
-pub in_order-node_rows-requires-clause-from_atoms : goal.in_order-node_rows-requires-clause-from_atoms
-in_order-node_rows-requires-clause-from_atoms g c = λ v l.
-    let built = c.in_ok-built.ensures in
-    subst (λ a. a < 16) (built.built.items v l) (built.formed.shaped.items v (subst (λ n. v < n) (sym built.built.nodes) l))
-
-pub in_order-node_rows-requires-clause-to_atoms : goal.in_order-node_rows-requires-clause-to_atoms
-in_order-node_rows-requires-clause-to_atoms g c = λ v l. within_all _ _ _ (c.requires.atoms v l) c.requires.count c.requires.ordered.few
-
-pub in_order-node_rows-requires-clause-counted : goal.in_order-node_rows-requires-clause-counted
-in_order-node_rows-requires-clause-counted g c =
-    let built = c.in_ok-built.ensures in
-    ap length built.rows_of ∙ length-map c.in_ok-built.built.tree.rows length ∙ built.formed.each_node ∙ built.built.nodes
-
 pub returns-in_err-built : goal.returns-in_err-built
 returns-in_err-built g c =
     record {
@@ -117,4 +101,16 @@ returns g c =
           _ _ c.in_ok-reduced.ensures.reduced c.in_ok-tree.ensures.solved;
       refusal = tt;
       cost = steps_of_plan _ _ _ _ _ _ _ (row_total raw) _ (row_count parts) c.requires.fits.some (omega (arith, built.used, built.fewer)) (rw long kept) nodes alike built.cost c.in_ok-reduced.ensures.cost c.solve.ensures.cost;
+    }
+
+pub in_order-node_rows-requires : goal.in_order-node_rows-requires
+in_order-node_rows-requires g c =
+    let built = c.in_ok-built.ensures in
+    record {
+      from = c.requires.over_ordered;
+      from_atoms = λ v l.
+          subst (λ a. a < 16) (built.built.items v l) (built.formed.shaped.items v (subst (λ n. v < n) (sym built.built.nodes) l));
+      to_atoms = λ v l. within_all _ _ _ (c.requires.atoms v l) c.requires.count c.requires.ordered.few;
+      count = c.requires.count ∙ sym c.requires.over.count;
+      counted = ap length built.rows_of ∙ length-map c.in_ok-built.built.tree.rows length ∙ built.formed.each_node ∙ built.built.nodes;
     }
