@@ -5,6 +5,7 @@ pub mod Sizes
 pub mod SmallSums
 pub mod Kept
 pub mod Filled
+pub mod Refusals
 pub mod Reordered
 pub mod Planned
 pub mod Rooted

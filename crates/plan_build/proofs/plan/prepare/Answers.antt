@@ -1,18 +1,9 @@
-use Rattle.std.proofs.Common.{◌≡◌, Err, rules, refl}
+use Rattle.std.proofs.Common.{arith, refl}
+use Rattle.std.proofs.lemmas.Result.{IfOk-from_err}
+use Rattle.plan_build.specs.Faults.{TellsFlaw}
+use Rattle.plan_build.proofs.Refusals.{handed_on}
 use Rattle.plan_build.proofs.Rooted.{plan_given}
 use Rattle.plan_build.proofs.plan.prepare.Goals as goal
-
-pub returns-in_err-join-clause-refusal : goal.returns-in_err-join-clause-refusal
-returns-in_err-join-clause-refusal g c =
-    let e : c.from_residual.result ≡ Err c.in_err-join.field-0.0 = search rules in
-    rw e (c.in_err-join.ensures.refusal c.args.tables.now)
-
-pub returns-clause-plan : goal.returns-clause-plan
-returns-clause-plan g c =
-    let join = c.in_ok-join.join in
-    let made = c.plan_over.ensures in
-    plan_given g.R.Rank.KEYS g.R.Rank.key c.args.query.now c.args.tables.now join join c.in_ok-join.ensures.joined
-    c.plan_over.result made.plan made.join made.items made.parents refl
 
 pub plan_over-requires-clause-ordered : goal.plan_over-requires-clause-ordered
 plan_over-requires-clause-ordered g c = c.in_ok-join.ensures.ordered
@@ -22,3 +13,22 @@ plan_over-requires-clause-over_ordered g c = c.in_ok-join.ensures.ordered
 
 pub plan_over-requires-clause-atoms : goal.plan_over-requires-clause-atoms
 plan_over-requires-clause-atoms g c = c.in_ok-join.ensures.items
+
+pub returns-in_err-join : goal.returns-in_err-join
+returns-in_err-join g c =
+    record {
+      plan = IfOk-from_err c.from_residual.result _ c.from_residual.ensures.0;
+      refusal = handed_on (TellsFlaw c.args.query.now.query c.args.tables.now) c.from_residual.result c.in_err-join.field-0.0 c.from_residual.ensures.1 (c.in_err-join.ensures.refusal c.args.tables.now);
+      cost = omega arith;
+    }
+
+pub returns : goal.returns
+returns g c =
+    let join = c.in_ok-join.join in
+    let made = c.plan_over.ensures in
+    record {
+      plan = plan_given g.R.Rank.KEYS g.R.Rank.key c.args.query.now c.args.tables.now join join c.in_ok-join.ensures.joined
+          c.plan_over.result made.plan made.join made.items made.parents refl;
+      refusal = c.plan_over.ensures.refusal;
+      cost = c.plan_over.ensures.cost;
+    }

@@ -1,11 +1,9 @@
-use Rattle.std.proofs.Common.{◌≡◌, Err, arith, rules}
+use Rattle.std.proofs.Common.{arith}
+use Rattle.std.proofs.lemmas.Result.{IfOk-from_err}
+use Rattle.plan_build.specs.Faults.{TellsFlaw}
+use Rattle.plan_build.proofs.Refusals.{handed_on}
 use Rattle.plan_build.proofs.Rooted.{item_there, joined_again, plan_at_given}
 use Rattle.plan_build.proofs.plan.prepare_at.Goals as goal
-
-pub returns-in_err-tree-clause-refusal : goal.returns-in_err-tree-clause-refusal
-returns-in_err-tree-clause-refusal g c =
-    let e : c.from_residual.result ≡ Err c.in_err-tree.field-0.0 = search rules in
-    rw e (c.in_err-tree.ensures.refusal c.args.tables.now)
 
 pub reroot-rooted-requires-clause-there : goal.reroot-rooted-requires-clause-there
 reroot-rooted-requires-clause-there g c = item_there c.args.query.now.query c.in_ok-tree.tree c.in_ok-tree.ensures.joined _ (omega (arith, c.requires.item, c.requires.fits.some))
@@ -14,15 +12,6 @@ pub plan_over-requires-clause-over : goal.plan_over-requires-clause-over
 plan_over-requires-clause-over g c =
     let rooted = c.reroot-rooted.ensures in
     joined_again c.args.query.now.query c.in_ok-tree.tree c.in_ok-tree.ensures.joined c.reroot-rooted.result rooted.count rooted.graphs
-
-pub returns-clause-plan : goal.returns-clause-plan
-returns-clause-plan g c =
-    let query = c.args.query.now in
-    let rooted = c.reroot-rooted.ensures in
-    let made = c.plan_over.ensures in
-    plan_at_given g.R.Rank.KEYS g.R.Rank.key query c.args.tables.now c.in_ok-tree.tree c.reroot-rooted.result
-    (joined_again query.query c.in_ok-tree.tree c.in_ok-tree.ensures.joined c.reroot-rooted.result rooted.count rooted.graphs)
-    c.plan_over.result made.plan made.join made.items made.parents c.args.item c.requires.fits.some rooted.root rooted.count rooted.same
 
 pub reroot-rooted-requires-clause-tree : goal.reroot-rooted-requires-clause-tree
 reroot-rooted-requires-clause-tree g c = c.in_ok-tree.ensures.ordered
@@ -38,3 +27,24 @@ plan_over-requires-clause-atoms g c = c.in_ok-tree.ensures.items
 
 pub plan_over-requires-clause-limit : goal.plan_over-requires-clause-limit
 plan_over-requires-clause-limit g c = c.requires.limit
+
+pub returns-in_err-tree : goal.returns-in_err-tree
+returns-in_err-tree g c =
+    record {
+      plan = IfOk-from_err c.from_residual.result _ c.from_residual.ensures.0;
+      refusal = handed_on (TellsFlaw c.args.query.now.query c.args.tables.now) c.from_residual.result c.in_err-tree.field-0.0 c.from_residual.ensures.1 (c.in_err-tree.ensures.refusal c.args.tables.now);
+      cost = omega arith;
+    }
+
+pub returns : goal.returns
+returns g c =
+    let query = c.args.query.now in
+    let rooted = c.reroot-rooted.ensures in
+    let made = c.plan_over.ensures in
+    record {
+      plan = plan_at_given g.R.Rank.KEYS g.R.Rank.key query c.args.tables.now c.in_ok-tree.tree c.reroot-rooted.result
+          (joined_again query.query c.in_ok-tree.tree c.in_ok-tree.ensures.joined c.reroot-rooted.result rooted.count rooted.graphs)
+          c.plan_over.result made.plan made.join made.items made.parents c.args.item c.requires.fits.some rooted.root rooted.count rooted.same;
+      refusal = c.plan_over.ensures.refusal;
+      cost = c.plan_over.ensures.cost;
+    }
