@@ -1,10 +1,10 @@
-use Rattle.std.proofs.Common.{◌≡◌, ◌∙◌, None, Some, Ok, Err, ℕ, List, ap, sym, position, arith}
+use Rattle.std.proofs.Common.{◌≡◌, ◌∙◌, None, Some, Ok, Err, ℕ, List, refl, ap, sym, option_map, position, arith}
 use Rattle.std.specs.Str.{bytes_eq}
 use Rattle.anyk_model.specs.Query.{Item}
 use Rattle.refusal_lines.specs.Reason.{UnionBest, UnknownBest}
 use Rattle.verdict.specs.AcceptedInput.{queries_in}
 use Rattle.verdict.specs.Loading.{known_item}
-use Rattle.input_load.proofs.Best.{best_one, best_several, one_within, shaped}
+use Rattle.input_load.proofs.Best.{best_one, best_several, one_within, shape_refused, shaped}
 use Rattle.input_load.proofs.binding.best_item.Goals as goal
 
 pub returns-in-None-clause-best : goal.returns-in-None-clause-best
@@ -39,3 +39,35 @@ returns-in-Some-item_of-clause-best c =
 pub returns-in-Some-item_of-clause-item : goal.returns-in-Some-item_of-clause-item
 returns-in-Some-item_of-clause-item c =
     one_within c.args.queries.now c.index-queries-0.result c.in-Some-item_of.item c.requires.some (omega (arith)) c.index-queries-0.is c.in-Some-item_of.ensures.within
+
+pub returns-in-Some-clause-best : goal.returns-in-Some-clause-best
+returns-in-Some-clause-best c =
+    shape_refused (option_map (λ alias. alias.now) c.args.best_of) (queries_in c.args.queries.now) c.in-Some.branch c.in-Some.ensures
+
+pub returns-in_default-best_of-clause-best : goal.returns-in_default-best_of-clause-best
+returns-in_default-best_of-clause-best c =
+    rw c.in_default-best_of.is (shaped None (queries_in c.args.queries.now) (Ok None) c.in_default.ensures refl)
+
+pub returns-in-Some-clause-item : goal.returns-in-Some-clause-item
+returns-in-Some-clause-item c = tt
+
+pub returns-in_default-best_of-clause-item : goal.returns-in_default-best_of-clause-item
+returns-in_default-best_of-clause-item c = tt
+
+pub returns-in-None-clause-item : goal.returns-in-None-clause-item
+returns-in-None-clause-item c = tt
+
+pub returns-then-queries-gt1-clause-item : goal.returns-then-queries-gt1-clause-item
+returns-then-queries-gt1-clause-item c = tt
+
+pub returns-in-Some-clause-unnamed : goal.returns-in-Some-clause-unnamed
+returns-in-Some-clause-unnamed c none = tt
+
+pub returns-in_default-best_of-clause-unnamed : goal.returns-in_default-best_of-clause-unnamed
+returns-in_default-best_of-clause-unnamed c none = refl
+
+pub returns-in-None-clause-unnamed : goal.returns-in-None-clause-unnamed
+returns-in-None-clause-unnamed c none = tt
+
+pub returns-then-queries-gt1-clause-unnamed : goal.returns-then-queries-gt1-clause-unnamed
+returns-then-queries-gt1-clause-unnamed c none = tt
