@@ -357,3 +357,9 @@ returns-in_err-make_queue_room-clause-room g c = none_done _ c.from_residual.res
 
 pub returns-then-place-gt0-clause-formed : goal.returns-then-place-gt0-clause-formed
 returns-then-place-gt0-clause-formed g c = c.requires.formed
+
+pub group_len-members-requires-clause-node : goal.group_len-members-requires-clause-node
+group_len-members-requires-clause-node g c = c.requires.node
+
+pub group_len-members-requires-clause-group : goal.group_len-members-requires-clause-group
+group_len-members-requires-clause-group g c = c.requires.group
