@@ -124,7 +124,7 @@ module _ {P Z : Type 0} (w count : ℕ) (vs : List (Vec P Z)) (opened : List ℕ
     number_is : n ≡ get_or opened r 0
     number_is = e ∙ any_default opened r n 0 found.0
 
-    number_some : 0 < n
+    pub number_some : 0 < n
     number_some = omega (arith, number_is, found.1)
 
     abbrev k : ℕ
@@ -145,7 +145,7 @@ module _ {P Z : Type 0} (w count : ℕ) (vs : List (Vec P Z)) (opened : List ℕ
     in_list : c < w
     in_list = omega (arith, some, ap length row_here, numbered_length w lists k place)
 
-    chunk_in : k / 32 < length vs
+    pub chunk_in : k / 32 < length vs
     chunk_in = omega (arith, place.chunk, map_length (λ v. v.items) vs)
 
     chunk_is : (v : Vec P Z) → v ≡ get_or vs (k / 32) v → v.items ≡ get_or lists (k / 32) []

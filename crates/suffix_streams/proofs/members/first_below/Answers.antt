@@ -10,3 +10,21 @@ first_solution-requires-clause-headed g c =
     let within : c.args.member < length (members t c.args.node c.args.group) = omega (arith, c.group_len.ensures, c.if-member-group_len.false) in
     headed_of g.R.Rank.KEYS g.R.Rank.key t c.args.entries.now.entries c.args.nodes.now c.requires.formed c.args.node (get_or (members t c.args.node c.args.group) c.args.member 0) c.requires.node
     (member_is_row g.R.Rank.KEYS g.R.Rank.key t c.requires.formed.tree c.args.node c.args.group c.args.member c.requires.node within)
+
+pub group_len-requires-clause-node : goal.group_len-requires-clause-node
+group_len-requires-clause-node g c = c.requires.node
+
+pub group_len-requires-clause-group : goal.group_len-requires-clause-group
+group_len-requires-clause-group g c = c.requires.group
+
+pub first_solution-requires-clause-formed : goal.first_solution-requires-clause-formed
+first_solution-requires-clause-formed g c = c.requires.formed.tree
+
+pub first_solution-requires-clause-node : goal.first_solution-requires-clause-node
+first_solution-requires-clause-node g c = c.requires.node
+
+pub first_solution-requires-clause-group : goal.first_solution-requires-clause-group
+first_solution-requires-clause-group g c = c.requires.group
+
+pub returns-clause-cost : goal.returns-clause-cost
+returns-clause-cost g c = c.first_solution.ensures.cost

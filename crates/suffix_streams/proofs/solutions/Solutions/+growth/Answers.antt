@@ -746,6 +746,13 @@ search-left_search-earlier-requires g t c =
     let b = child_of g t at.After-after a in
     in_same _ _ _ b.left (c.known-known.ensures ∙ ap (λ z. known_of z c.args.row (c.args.count - 1)) (sym (lists_at c.after.new.self.nodes.items c.args.node c.index-2.result.now c.index-2.ensures (in_same _ _ _ c.requires.node b.formed.all_nodes))))
 
+pub search-has_beside-beside-requires-clause-node : goal.search-has_beside-beside-requires-clause-node
+search-has_beside-beside-requires-clause-node g t c =
+    let at = goal.at.search-has_beside-beside-requires-clause-node g t c in
+    let a = room_of g t at.After-make_room in
+    let b = child_of g t at.After-after a in
+    subst (λ n. c.args.node < length n) (sym c.as_slice.ensures.value) (in_same _ _ _ c.requires.node b.formed.all_nodes)
+
 pub search-has_beside-beside-requires-clause-child : goal.search-has_beside-beside-requires-clause-child
 search-has_beside-beside-requires-clause-child g t c =
     let at = goal.at.search-has_beside-beside-requires-clause-child g t c in

@@ -18,6 +18,12 @@ use Rattle.suffix_streams.proofs.solutions.Solutions.open_row.Given.{Over}
 use Rattle.suffix_streams.proofs.solutions.Solutions.open_row.Goals.{After-make_queue_room, After-set_products, In_ok-make_queue_room}
 use Rattle.suffix_streams.proofs.solutions.Solutions.open_row.Goals as goal
 
+in_same : (v n m : ℕ) → v < n → m ≡ n → v < m
+in_same v n m l e = omega arith
+
+queue_itself : (n more : ℕ) → n ≤ max 1 n + more
+queue_itself n more = omega arith
+
 -- the streams after the queue got room
 room_of : (g : Over) (c : After-make_queue_room g) → IsRoomed g.R.Rank.KEYS g.R.Rank.key c.args.self.now.tree.now c.args.self.now.entries.entries c.args.self.now.nodes.items c.make_queue_room.new.nodes.items c.args.node c.args.group
 room_of g c =
@@ -50,7 +56,7 @@ make_products-requires-clause-headed g c =
 pub returns-in_ok-set_products-clause-formed : goal.returns-in_ok-set_products-clause-formed
 returns-in_ok-set_products-clause-formed g c =
     let at = goal.at.returns-in_ok-set_products-clause-formed g c in
-    let inside : c.args.node < length c.make_queue_room.new.nodes.items = omega (arith, (room_of g at.After-make_queue_room).formed.all_nodes, c.requires.node) in
+    let inside : c.args.node < length c.make_queue_room.new.nodes.items = in_same _ _ _ c.requires.node (room_of g at.After-make_queue_room).formed.all_nodes in
     let few = row_lacks g.R.Rank.KEYS g.R.Rank.key c.args.self.now.tree.now c.args.self.now.entries.entries c.make_queue_room.new.nodes.items (room_of g at.After-make_queue_room).formed c.args.node c.args.row c.requires.node c.requires.row c.index-lists.result.now c.index-lists.ensures c.product_count.result c.child_count.result c.product_count.ensures c.child_count.ensures c.if-product_count-child_count.true in
     let fresh = subst (λ (z : List (NodeStreamsView g.row.R.Denot)). AreFreshTo g.R.Rank.KEYS g.R.Rank.key c.args.self.now.tree.now z c.args.node c.args.row (child_count c.args.self.now.tree.now c.args.node) c.make_products.new.products.items) c.as_slice.ensures.value c.in_ok-make_products.ensures.fresh in
     subst (λ (z : List (NodeStreamsView g.row.R.Denot)). IsStreams g.R.Rank.KEYS g.R.Rank.key c.args.self.now.tree.now c.args.self.now.entries.entries z)
@@ -60,7 +66,7 @@ returns-in_ok-set_products-clause-formed g c =
 pub returns-in_ok-set_products-clause-count : goal.returns-in_ok-set_products-clause-count
 returns-in_ok-set_products-clause-count g c =
     let at = goal.at.returns-in_ok-set_products-clause-count g c in
-    let inside : c.args.node < length c.make_queue_room.new.nodes.items = omega (arith, (room_of g at.After-make_queue_room).formed.all_nodes, c.requires.node) in
+    let inside : c.args.node < length c.make_queue_room.new.nodes.items = in_same _ _ _ c.requires.node (room_of g at.After-make_queue_room).formed.all_nodes in
     let few = row_lacks g.R.Rank.KEYS g.R.Rank.key c.args.self.now.tree.now c.args.self.now.entries.entries c.make_queue_room.new.nodes.items (room_of g at.After-make_queue_room).formed c.args.node c.args.row c.requires.node c.requires.row c.index-lists.result.now c.index-lists.ensures c.product_count.result c.child_count.result c.product_count.ensures c.child_count.ensures c.if-product_count-child_count.true in
     let fresh = subst (λ (z : List (NodeStreamsView g.row.R.Denot)). AreFreshTo g.R.Rank.KEYS g.R.Rank.key c.args.self.now.tree.now z c.args.node c.args.row (child_count c.args.self.now.tree.now c.args.node) c.make_products.new.products.items) c.as_slice.ensures.value c.in_ok-make_products.ensures.fresh in
     ap (λ (z : List (NodeStreamsView g.row.R.Denot)). length (products_of z c.args.node c.args.row))
@@ -71,7 +77,7 @@ returns-in_ok-set_products-clause-count g c =
 pub returns-in_ok-set_products-clause-queues : goal.returns-in_ok-set_products-clause-queues
 returns-in_ok-set_products-clause-queues g c =
     let at = goal.at.returns-in_ok-set_products-clause-queues g c in
-    let inside : c.args.node < length c.make_queue_room.new.nodes.items = omega (arith, (room_of g at.After-make_queue_room).formed.all_nodes, c.requires.node) in
+    let inside : c.args.node < length c.make_queue_room.new.nodes.items = in_same _ _ _ c.requires.node (room_of g at.After-make_queue_room).formed.all_nodes in
     let few = row_lacks g.R.Rank.KEYS g.R.Rank.key c.args.self.now.tree.now c.args.self.now.entries.entries c.make_queue_room.new.nodes.items (room_of g at.After-make_queue_room).formed c.args.node c.args.row c.requires.node c.requires.row c.index-lists.result.now c.index-lists.ensures c.product_count.result c.child_count.result c.product_count.ensures c.child_count.ensures c.if-product_count-child_count.true in
     let fresh = subst (λ (z : List (NodeStreamsView g.row.R.Denot)). AreFreshTo g.R.Rank.KEYS g.R.Rank.key c.args.self.now.tree.now z c.args.node c.args.row (child_count c.args.self.now.tree.now c.args.node) c.make_products.new.products.items) c.as_slice.ensures.value c.in_ok-make_products.ensures.fresh in
     λ v r k. subst (λ q. length (product_of (slice_set c.make_queue_room.new.nodes.items c.args.node c.set_products.new.self) v r k).frontier ≤ max 1 q + 0) (room_queues g at.After-make_queue_room v r k) (
@@ -82,7 +88,7 @@ returns-in_ok-set_products-clause-queues g c =
 pub set_products-requires-clause-row : goal.set_products-requires-clause-row
 set_products-requires-clause-row g c =
     let at = goal.at.set_products-requires-clause-row g c in
-    let inside : c.args.node < length c.make_queue_room.new.nodes.items = omega (arith, (room_of g at.After-make_queue_room).formed.all_nodes, c.requires.node) in
+    let inside : c.args.node < length c.make_queue_room.new.nodes.items = in_same _ _ _ c.requires.node (room_of g at.After-make_queue_room).formed.all_nodes in
     let few = row_lacks g.R.Rank.KEYS g.R.Rank.key c.args.self.now.tree.now c.args.self.now.entries.entries c.make_queue_room.new.nodes.items (room_of g at.After-make_queue_room).formed c.args.node c.args.row c.requires.node c.requires.row c.index-lists.result.now c.index-lists.ensures c.product_count.result c.child_count.result c.product_count.ensures c.child_count.ensures c.if-product_count-child_count.true in
     subst (λ n. c.args.row < length n.products) (lists_at c.make_queue_room.new.nodes.items c.args.node c.index_mut.result.now c.index_mut.ensures.value inside)
     (omega (arith, c.requires.row, (room_of g at.After-make_queue_room).formed.all_rows c.args.node c.requires.node, open_all (child_count c.args.self.now.tree.now c.args.node) (rows c.args.self.now.tree.now c.args.node) few.1))
@@ -152,7 +158,7 @@ returns-then-place-gt0-clause-count g c =
 
 pub returns-then-place-gt0-clause-queues : goal.returns-then-place-gt0-clause-queues
 returns-then-place-gt0-clause-queues g c =
-    λ v r k. omega arith
+    λ v r k. queue_itself _ _
 
 pub returns-then-place-gt0-clause-cost : goal.returns-then-place-gt0-clause-cost
 returns-then-place-gt0-clause-cost g c =
@@ -160,7 +166,7 @@ returns-then-place-gt0-clause-cost g c =
 
 pub make_queue_room-requires-clause-node : goal.make_queue_room-requires-clause-node
 make_queue_room-requires-clause-node g c =
-    omega (arith, c.requires.node, c.requires.formed.all_nodes)
+    in_same _ _ _ c.requires.node c.requires.formed.all_nodes
 
 pub make_queue_room-requires-clause-group : goal.make_queue_room-requires-clause-group
 make_queue_room-requires-clause-group g c =
@@ -173,12 +179,12 @@ make_queue_room-requires-clause-few g c =
 pub index-lists-requires : goal.index-lists-requires
 index-lists-requires g c =
     let at = goal.at.index-lists-requires g c in
-    omega (arith, (room_of g at.After-make_queue_room).formed.all_nodes, c.requires.node)
+    in_same _ _ _ (in_same _ _ _ c.requires.node (room_of g at.After-make_queue_room).formed.all_nodes) c.make_queue_room.new.nodes.ok.0
 
 pub index_mut-requires : goal.index_mut-requires
 index_mut-requires g c =
     let at = goal.at.index_mut-requires g c in
-    omega (arith, (room_of g at.After-make_queue_room).formed.all_nodes, c.requires.node)
+    in_same _ _ _ (in_same _ _ _ c.requires.node (room_of g at.After-make_queue_room).formed.all_nodes) c.make_queue_room.new.nodes.ok.0
 
 pub make_products-requires-clause-formed : goal.make_products-requires-clause-formed
 make_products-requires-clause-formed g c =
@@ -285,7 +291,7 @@ returns-in_ok-set_products-clause-above g c =
 pub returns-in_ok-set_products-clause-streams : goal.returns-in_ok-set_products-clause-streams
 returns-in_ok-set_products-clause-streams g c =
     let at = goal.at.returns-in_ok-set_products-clause-streams g c in
-    let inside : c.args.node < length c.make_queue_room.new.nodes.items = omega (arith, (room_of g at.After-make_queue_room).formed.all_nodes, c.requires.node) in
+    let inside : c.args.node < length c.make_queue_room.new.nodes.items = in_same _ _ _ c.requires.node (room_of g at.After-make_queue_room).formed.all_nodes in
     let stay = streams_stay c.make_queue_room.new.nodes.items c.args.node c.args.row c.index_mut.result.now c.set_products.new.self c.make_products.new.products.items inside c.index_mut.ensures.value c.in_ok-set_products.ensures.set in
     stay ∙ (room_of g at.After-make_queue_room).streams
     ∙ ap (λ (z : List (StreamView g.row.R.Denot)). (with_queue (lists_of c.args.self.now.nodes.items c.args.node) c.args.group (stream_of c.args.self.now.nodes.items c.args.node c.args.group).queue (get_or z c.args.group (record { head = 0; queue = []; room = 0 })).room).streams) (sym stay)
@@ -293,7 +299,7 @@ returns-in_ok-set_products-clause-streams g c =
 pub returns-in_ok-set_products-clause-room : goal.returns-in_ok-set_products-clause-room
 returns-in_ok-set_products-clause-room g c =
     let at = goal.at.returns-in_ok-set_products-clause-room g c in
-    let inside : c.args.node < length c.make_queue_room.new.nodes.items = omega (arith, (room_of g at.After-make_queue_room).formed.all_nodes, c.requires.node) in
+    let inside : c.args.node < length c.make_queue_room.new.nodes.items = in_same _ _ _ c.requires.node (room_of g at.After-make_queue_room).formed.all_nodes in
     let stay = streams_stay c.make_queue_room.new.nodes.items c.args.node c.args.row c.index_mut.result.now c.set_products.new.self c.make_products.new.products.items inside c.index_mut.ensures.value c.in_ok-set_products.ensures.set in
     λ none. subst (λ (z : List (StreamView g.row.R.Denot)). can_enter (length (members c.args.self.now.tree.now c.args.node c.args.group)) ≤ (get_or z c.args.group (record { head = 0; queue = []; room = 0 })).room) (sym stay) (roomy g at.In_ok-make_queue_room)
 
@@ -351,3 +357,9 @@ returns-in_err-make_queue_room-clause-room g c = none_done _ c.from_residual.res
 
 pub returns-then-place-gt0-clause-formed : goal.returns-then-place-gt0-clause-formed
 returns-then-place-gt0-clause-formed g c = c.requires.formed
+
+pub group_len-members-requires-clause-node : goal.group_len-members-requires-clause-node
+group_len-members-requires-clause-node g c = c.requires.node
+
+pub group_len-members-requires-clause-group : goal.group_len-members-requires-clause-group
+group_len-members-requires-clause-group g c = c.requires.group

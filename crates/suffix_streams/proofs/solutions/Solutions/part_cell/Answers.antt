@@ -1,4 +1,4 @@
-use Rattle.std.proofs.Common.{◌≡◌, ◌<◌, List, [], length, get_or, sym, ap, ◌∙◌, subst, arith}
+use Rattle.std.proofs.Common.{◌≡◌, ℕ, ◌<◌, ◌≤◌, List, [], length, get_or, sym, ap, ◌∙◌, subst, arith}
 use Rattle.tdp_core.specs.TreeView.{group_named}
 use Rattle.suffix_streams.specs.NodeStreamsView.{NodeStreamsView, product_at}
 use Rattle.suffix_streams.specs.Rankings.{child}
@@ -7,6 +7,9 @@ use Rattle.suffix_streams.proofs.Entries.{headed_of}
 use Rattle.suffix_streams.proofs.Heads.{lists_at}
 use Rattle.suffix_streams.proofs.PartRows.{first_cell, product_cell}
 use Rattle.suffix_streams.proofs.solutions.Solutions.part_cell.Goals as goal
+
+same_few : (n m : ℕ) → n ≡ m → n ≤ m
+same_few n m e = omega arith
 
 pub child_head-right-requires-clause-headed : goal.child_head-right-requires-clause-headed
 child_head-right-requires-clause-headed g c =
@@ -30,3 +33,18 @@ returns-else-product_count-eq0-clause-sum g c =
     let some : 0 < length (products_of n c.args.node c.args.row) = omega (arith, c.product_count.ensures, ap (λ m. length (get_or m.products c.args.row [])) lists, c.if-product_count-eq0.false) in
     product_cell g.R.Rank.KEYS g.R.Rank.key c.args.self.now.tree.now c.args.self.now.entries.entries n c.requires.formed c.args.node c.args.row c.args.child c.args.place c.cell.result c.requires.node c.requires.row c.requires.child some c.requires.place
     (λ x. c.cell.ensures x ∙ ap (λ m. get_or (product_at m c.args.row c.args.child).found c.args.place x) (sym lists))
+
+pub child_head-right-requires-clause-formed : goal.child_head-right-requires-clause-formed
+child_head-right-requires-clause-formed g c = c.requires.formed.tree
+
+pub child_head-right-requires-clause-node : goal.child_head-right-requires-clause-node
+child_head-right-requires-clause-node g c = c.requires.node
+
+pub child_head-right-requires-clause-row : goal.child_head-right-requires-clause-row
+child_head-right-requires-clause-row g c = c.requires.row
+
+pub child_head-right-requires-clause-child : goal.child_head-right-requires-clause-child
+child_head-right-requires-clause-child g c = c.requires.child
+
+pub returns-then-product_count-eq0-clause-cost : goal.returns-then-product_count-eq0-clause-cost
+returns-then-product_count-eq0-clause-cost g c = same_few _ _ c.child_head-right.ensures.cost
