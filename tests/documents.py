@@ -29,7 +29,7 @@ LONG = {
     ".ci/run": "it is the gate, which runs this script",
     "rt": "it is a command of the kit and not of the repository, and proves for minutes; .ci/run calls rt ci",
     "tools/gate_times.py": "it runs the gate from nothing",
-    "tools/module_times.py": "it proves a crate, for up to minutes",
+    "tools/proof_costs.py": "it proves a crate, for up to minutes",
     "tools/edits.py": "it proves crates with wrong bodies, for minutes each",
     "bench/reading.sh": "it measures reading of 1,000,000 rows, and needs rustc",
     "bench/preparing.py": "it measures for minutes, databases too",
