@@ -1,7 +1,8 @@
-use Rattle.std.proofs.Common.{◌≡◌, ◌++◌, ◌∷◌, [], length, sym, ap, subst, ◌∙◌}
+use Rattle.std.proofs.Common.{◌≡◌, ◌++◌, ◌∷◌, [], length, refl, sym, ap, subst, ◌∙◌}
 use Rattle.std.specs.List.{All}
 use Rattle.tdp_core.specs.RawRows.{AreRawRows, raw_rows}
 use Rattle.tdp_core.proofs.RawRowLists.{formed_rows, rows_more}
+use Rattle.tdp_core.proofs.Refusals.{on_err, still_formed, still_rows}
 use Rattle.tdp_core.proofs.raw_rows.RawRows.push.Goals as goal
 
 pub invariant_of-self-2 : goal.invariant_of-self-2
@@ -38,3 +39,42 @@ returns-clause-ok g c =
     ∙ ap (λ l. raw_rows k (rows ++ c.args.row ∷ []) (owns ++ c.args.own ∷ []) l) n
     ∙ rows_more c.args.row c.args.own more t.width rows owns named c.self.invariant all
     ∙ ap (λ l. l ++ record { row = c.args.row; own = c.args.own; children = more } ∷ []) c.self.view_is
+
+pub invariant_of-self : goal.invariant_of-self
+invariant_of-self g c =
+    let t = c.self.inside in
+    still_formed t.width t.rows.items c.reserve.new.self.items t.owns.items t.owns.items t.named.items t.named.items c.reserve.ensures.items refl refl c.self.invariant
+
+pub returns-in_err-reserve-clause-err : goal.returns-in_err-reserve-clause-err
+returns-in_err-reserve-clause-err g c =
+    let t = c.self.inside in
+    on_err c.from_residual.result
+    (still_rows t.width t.rows.items c.reserve.new.self.items t.owns.items t.owns.items t.named.items t.named.items c.reserve.ensures.items refl refl ∙ c.self.view_is)
+
+pub invariant_of-self-in_err-reserve-2 : goal.invariant_of-self-in_err-reserve-2
+invariant_of-self-in_err-reserve-2 g c =
+    let t = c.self.inside in
+    still_formed t.width t.rows.items c.reserve.new.self.items t.owns.items c.reserve-2.new.self.items t.named.items t.named.items
+    c.reserve.ensures.items c.reserve-2.ensures.items refl c.self.invariant
+
+pub returns-in_err-reserve-2-clause-err : goal.returns-in_err-reserve-2-clause-err
+returns-in_err-reserve-2-clause-err g c =
+    let t = c.self.inside in
+    on_err c.from_residual-in_err-reserve-2.result
+    (still_rows t.width t.rows.items c.reserve.new.self.items t.owns.items c.reserve-2.new.self.items t.named.items t.named.items
+    c.reserve.ensures.items c.reserve-2.ensures.items refl
+    ∙ c.self.view_is)
+
+pub invariant_of-self-in_err-reserve-3 : goal.invariant_of-self-in_err-reserve-3
+invariant_of-self-in_err-reserve-3 g c =
+    let t = c.self.inside in
+    still_formed t.width t.rows.items c.reserve.new.self.items t.owns.items c.reserve-2.new.self.items t.named.items c.reserve-3.new.self.items
+    c.reserve.ensures.items c.reserve-2.ensures.items c.reserve-3.ensures.items c.self.invariant
+
+pub returns-in_err-reserve-3-clause-err : goal.returns-in_err-reserve-3-clause-err
+returns-in_err-reserve-3-clause-err g c =
+    let t = c.self.inside in
+    on_err c.from_residual-in_err-reserve-3.result
+    (still_rows t.width t.rows.items c.reserve.new.self.items t.owns.items c.reserve-2.new.self.items t.named.items c.reserve-3.new.self.items
+    c.reserve.ensures.items c.reserve-2.ensures.items c.reserve-3.ensures.items
+    ∙ c.self.view_is)
