@@ -15,12 +15,11 @@ loop-number-preserved c =
     let l = c.loop-number.invariant in
     let i = c.loop-number.number-index in
     let old = c.args.list.now.items in
-    let xs = c.args.numbers.now in
-    (
+    let xs = c.args.numbers.now in (
       c.push_reserved.ensures.items
-      ∙ ap (λ ys. ys ++ get_or xs i 0 ∷ []) l.0
-      ∙ append_assoc old (take i xs) (get_or xs i 0 ∷ [])
-      ∙ ap (λ ys. old ++ ys) (sym (take_more xs i 0 c.loop-number-test.true)),
+          ∙ ap (λ ys. ys ++ get_or xs i 0 ∷ []) l.0
+          ∙ append_assoc old (take i xs) (get_or xs i 0 ∷ [])
+          ∙ ap (λ ys. old ++ ys) (sym (take_more xs i 0 c.loop-number-test.true)),
       omega (arith, c.push_reserved.ensures.len, l.1),
       c.push_reserved.ensures.capacity ∙ l.2,
     )
