@@ -9,6 +9,7 @@ pub mod RankedRowLists
 pub mod RawFacts
 pub mod RawReads
 pub mod RawRowLists
+pub mod Refusals
 pub mod RowKeys
 pub mod RowPlaces
 pub mod AnswerFacts

@@ -16,3 +16,9 @@ loop-alloc-preserved g c =
       within = omega (arith, long, c.loop-alloc-test.true);
       room = omega (arith, l.room, c.push_reserved.ensures.capacity);
     }
+
+pub push_reserved-requires : goal.push_reserved-requires
+push_reserved-requires g c = omega (arith, c.loop-alloc.invariant.room, c.loop-alloc-test.true)
+
+pub returns : goal.returns
+returns g c = c.loop-alloc.invariant.empty ∙ ap (λ n. replicate n []) (omega (arith, c.loop-alloc.invariant.within, c.loop-alloc-test.false))

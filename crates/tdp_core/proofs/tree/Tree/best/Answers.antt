@@ -45,3 +45,6 @@ returns-clause-least g c =
     let in_node : r < length node.best.items = omega (arith, is_row, c.self.invariant.all_best v in_tree, ap (λ n. length n.best) at) in
     rw (← c.self.view_is)
     (subst (IsLeastKey t g.R.Rank.KEYS g.R.Rank.key v r) (sym (best_read t v node at r c.index-2.result.now in_node c.index-2.ensures g.R.Rank.KEYS g.R.Rank.key)) (best_is_least g.R.Rank.KEYS g.R.Rank.key t c.self.invariant v r in_tree is_row))
+
+pub index-requires : goal.index-requires
+index-requires g c = omega (arith, c.requires.node, ap length c.self.view_is, length-map c.self.inside.nodes.items node_view, c.self.inside.nodes.ok.0)

@@ -44,3 +44,6 @@ returns-clause-number g c =
     let in_tree : v < length t = rw c.self.view_is c.requires.node in
     let at : node_at t v ≡ node_view node = node_is parts v node (omega (arith, length-map parts node_view)) c.index.ensures in
     rw (← c.self.view_is) (number_read t v node at c.args.row c.get.result c.get.ensures)
+
+pub index-requires : goal.index-requires
+index-requires g c = omega (arith, c.requires.node, ap length c.self.view_is, length-map c.self.inside.nodes.items node_view, c.self.inside.nodes.ok.0)
