@@ -1,16 +1,9 @@
-use Rattle.std.proofs.Common.{◌≡◌, ◌∙◌, List, ℕ, Vec, Global, Result, Ok, Err, IfErr, length, map, refl, sym, ap, subst, inl, arith}
-use Rattle.std.specs.Result.{IsErrAnd}
+use Rattle.std.proofs.Common.{◌∙◌, List, ℕ, Vec, Global, length, map, sym, ap, subst, arith}
 use Rattle.std.proofs.lemmas.Result.{IfOk-from_err}
 use Rattle.node_build.specs.Rows.{HaveRows, lists_of}
 use Rattle.node_build.proofs.Costs.{cost_within, counts_sum, past_budget, rows_fewer, total_low}
 use Rattle.node_build.proofs.Read.{built, counts_are, row_total_is, tie_free_lem}
-use Rattle.node_build.specs.declared.built.BuildFault.{BuildFault}
-use Rattle.node_build.specs.declared.built.BuildFault.TheVariants as fault
 use Rattle.node_build.proofs.building.build.Goals as goal
-
-out_of_memory : {T : Type 0} (r : Result T BuildFault) (P : BuildFault → Type 0) → IsErrAnd r (λ e. e ≡ fault.NoMemory) → P fault.NoMemory → IfErr r P
-out_of_memory (Ok x) P is told = tt
-out_of_memory (Err e) P is told = subst P (sym is) told
 
 pub sum_of-used-requires : goal.sum_of-used-requires
 sum_of-used-requires g c =
@@ -185,27 +178,3 @@ returns-then-used-budget-clause-within g c = tt
 
 pub returns-then-used-budget-clause-fewer : goal.returns-then-used-budget-clause-fewer
 returns-then-used-budget-clause-fewer g c = tt
-
-pub returns-in_err-rows-clause-refusal : goal.returns-in_err-rows-clause-refusal
-returns-in_err-rows-clause-refusal g c = out_of_memory c.from_residual.result _ c.from_residual.ensures.1 (inl refl)
-
-pub returns-in_err-rows_of-clause-refusal : goal.returns-in_err-rows_of-clause-refusal
-returns-in_err-rows_of-clause-refusal g c = out_of_memory c.from_residual-in_err-rows_of.result _ c.from_residual-in_err-rows_of.ensures.1 (inl refl)
-
-pub returns-in_err-tree-clause-refusal : goal.returns-in_err-tree-clause-refusal
-returns-in_err-tree-clause-refusal g c = out_of_memory c.from_residual-in_err-tree.result _ c.from_residual-in_err-tree.ensures.1 (inl refl)
-
-pub returns-clause-refusal : goal.returns-clause-refusal
-returns-clause-refusal g c = tt
-
-pub returns-clause-within : goal.returns-clause-within
-returns-clause-within g c = c.if-used-budget.false
-
-pub returns-in_err-rows-clause-cost : goal.returns-in_err-rows-clause-cost
-returns-in_err-rows-clause-cost g c = omega arith
-
-pub returns-in_err-rows_of-clause-cost : goal.returns-in_err-rows_of-clause-cost
-returns-in_err-rows_of-clause-cost g c = omega arith
-
-pub returns-then-used-budget-clause-cost : goal.returns-then-used-budget-clause-cost
-returns-then-used-budget-clause-cost g c = omega arith

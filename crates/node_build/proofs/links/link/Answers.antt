@@ -1,6 +1,5 @@
-use Rattle.std.proofs.Common.{◌∙◌, ◌<◌, suc, ℕ, List, IfOk, length, get_or, sym, ap, subst, arith}
+use Rattle.std.proofs.Common.{◌<◌, suc, ℕ, List, length, get_or, ap, subst, arith}
 use Rattle.anyk_model.specs.Table.{table_at}
-use Rattle.node_build.specs.Links.{IsLink, IsListNumber, values_in}
 use Rattle.node_build.proofs.links.link.Goals as goal
 
 pub list_number-requires-clause-columns : goal.list_number-requires-clause-columns
@@ -30,12 +29,3 @@ returns-clause-cost g c = omega arith
 
 pub returns-in_default-clause-cost : goal.returns-in_default-clause-cost
 returns-in_default-clause-cost g c = omega arith
-
-pub returns-clause-link : goal.returns-clause-link
-returns-clause-link g c =
-    let tables = c.args.tables.now in
-    let table = table_at tables c.args.table in
-    let links = c.list_number.new.links in
-    let value = c.begin-list.ensures.number ∙ c.value-value.ensures in
-    subst (λ (l : List ℕ). IfOk c.list_number.result (λ n. IsLink links c.args.node n (values_in tables table c.args.row l))) (sym c.in-Some.ensures.cases.0)
-    (subst (λ (x : ℕ). IfOk c.list_number.result (λ n. IsListNumber links c.args.node x n (values_in tables table c.args.row c.in-Some.rest.now))) value c.list_number.ensures.number)

@@ -1,9 +1,7 @@
-use Rattle.std.proofs.Common.{◌≡◌, true, ◌<◌, ◌∙◌, sym, ap, subst, arith, length, get_or, map, ◌-◌, suc, refl, nat_eq, position}
+use Rattle.std.proofs.Common.{◌<◌, ◌∙◌, sym, ap, subst, arith, length, get_or, map, ◌-◌, suc, refl, nat_eq, position}
 use Rattle.std.specs.List.{list_any}
-use Rattle.std.proofs.lemmas.Result.{IfOk-from_err}
 use Rattle.tdp_core.specs.RawView.{shape_parent}
-use Rattle.semi_join.specs.Reduction.{child_nodes, links_of}
-use Rattle.semi_join.proofs.FirstOnes.{has_first, named_first}
+use Rattle.semi_join.specs.Reduction.{links_of}
 use Rattle.semi_join.proofs.Kids.{kids_few, child_after, child_index, children_count}
 use Rattle.semi_join.proofs.Rows.{few_read, links_read, child_links_at, length-map, met_more, named_more, missed, found_any, missing_any}
 use Rattle.semi_join.proofs.node.child_groups.Goals as goal
@@ -60,37 +58,3 @@ loop-place-preserved g c =
           (c.in-Some.ensures.number ∙ ap (λ l. position (nat_eq l) (links_of c.index-later-child.result)) c.link-link.ensures);
       counted = omega arith;
     }
-
-pub returns-clause-found : goal.returns-clause-found
-returns-clause-found g c =
-    let done : c.loop-place.place ≡ length (child_nodes c.args.raw.now c.args.node) = omega (arith, ap length c.requires.children) in
-    subst (λ n. has_first c.args.raw.now c.args.node (map links_of c.args.later.now) n c.args.i ≡ true) done c.loop-place.invariant.met
-
-pub returns-clause-named : goal.returns-clause-named
-returns-clause-named g c =
-    let done : c.loop-place.place ≡ length (child_nodes c.args.raw.now c.args.node) = omega (arith, ap length c.requires.children) in
-    c.loop-place.invariant.named ∙ ap (λ n. named_first c.args.raw.now c.args.node (map links_of c.args.later.now) n c.args.i) done
-
-pub returns-clause-missing : goal.returns-clause-missing
-returns-clause-missing g c = tt
-
-pub returns-clause-cost : goal.returns-clause-cost
-returns-clause-cost g c = omega arith
-
-pub loop-place-init : goal.loop-place-init
-loop-place-init g c = record { met = refl; named = c.new-numbers.ensures.items; counted = omega arith }
-
-pub returns-in-None-clause-found : goal.returns-in-None-clause-found
-returns-in-None-clause-found g c = tt
-
-pub returns-in-None-clause-named : goal.returns-in-None-clause-named
-returns-in-None-clause-named g c = tt
-
-pub returns-in_err-push-in-Some-clause-found : goal.returns-in_err-push-in-Some-clause-found
-returns-in_err-push-in-Some-clause-found g c = IfOk-from_err c.from_residual.result _ c.from_residual.ensures.0
-
-pub returns-in_err-push-in-Some-clause-named : goal.returns-in_err-push-in-Some-clause-named
-returns-in_err-push-in-Some-clause-named g c = IfOk-from_err c.from_residual.result _ c.from_residual.ensures.0
-
-pub returns-in_err-push-in-Some-clause-missing : goal.returns-in_err-push-in-Some-clause-missing
-returns-in_err-push-in-Some-clause-missing g c = IfOk-from_err c.from_residual.result _ c.from_residual.ensures.0

@@ -1,4 +1,4 @@
-use Rattle.std.proofs.Common.{◌∙◌, arith}
+use Rattle.std.proofs.Common.{arith}
 use Rattle.std.proofs.lemmas.Result.{IfOk-from_err}
 use Rattle.semi_join.proofs.Handed.{handed}
 use Rattle.semi_join.proofs.node.keep_rows.Goals as goal
@@ -43,15 +43,3 @@ returns g c =
       few = handed c.and.result r kept _ e made.few;
       cost = made.cost;
     }
-
-pub add_rows-added-requires-clause-children : goal.add_rows-added-requires-clause-children
-add_rows-added-requires-clause-children g c = c.deref.ensures.value ∙ c.in_ok-children.ensures
-
-pub add_rows-added-requires-clause-no_rows : goal.add_rows-added-requires-clause-no_rows
-add_rows-added-requires-clause-no_rows g c = c.in_ok-kept.ensures.rows
-
-pub add_rows-added-requires-clause-no_links : goal.add_rows-added-requires-clause-no_links
-add_rows-added-requires-clause-no_links g c = c.in_ok-kept.ensures.links
-
-pub add_rows-added-requires-clause-no_numbers : goal.add_rows-added-requires-clause-no_numbers
-add_rows-added-requires-clause-no_numbers g c = c.in_ok-kept.ensures.numbers

@@ -1,6 +1,5 @@
 use Rattle.std.proofs.Common.{◌≡◌, ◌≢◌, suc, ◌+◌, ◌-◌, ◌<◌, ◌∷◌, [], map, length, sym, ap, subst, ◌∙◌, refl, arith}
 use Rattle.std.proofs.lemmas.List.{get_or-set_other}
-use Rattle.std.proofs.lemmas.Result.{IfOk-from_err}
 use Rattle.tdp_core.specs.RawView.{IsRawFormed, RawView, rows_at}
 use Rattle.tdp_core.specs.TreeView.{node_view}
 use Rattle.tdp_core.proofs.RawFacts.{formed_less}
@@ -121,12 +120,3 @@ pub returns-clause-cost : goal.returns-clause-cost
 returns-clause-cost g c =
     let raw = c.args.tree.now in
     steps_few raw.rows c.loop-node.node (length raw.shapes) c.args.steps.now c.loop-node.steps c.loop-node.invariant.counted
-
-pub returns-in_err-grouped-clause-reduced : goal.returns-in_err-grouped-clause-reduced
-returns-in_err-grouped-clause-reduced g c = IfOk-from_err c.from_residual.result _ c.from_residual.ensures.0
-
-pub returns-in_err-insert-clause-reduced : goal.returns-in_err-insert-clause-reduced
-returns-in_err-insert-clause-reduced g c = IfOk-from_err c.from_residual-in_err-insert.result _ c.from_residual-in_err-insert.ensures.0
-
-pub returns-in_err-insert-2-clause-reduced : goal.returns-in_err-insert-2-clause-reduced
-returns-in_err-insert-2-clause-reduced g c = IfOk-from_err c.from_residual-in_err-insert-2.result _ c.from_residual-in_err-insert-2.ensures.0
