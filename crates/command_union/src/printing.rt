@@ -67,8 +67,8 @@ pub fn print_union<'q, E: Ranked + Drop, S: Sink, L: Ledger>(
     )
 }
 
-/// Prints the record above the members. `records` keeps the memory for it. `Write` if the write failed, and `NoMemory` if memory
-/// is refused.
+/// Prints the record above the members. `records` keeps the memory for it. `Write` if the write
+/// failed, and `NoMemory` if memory is refused.
 fn print_union_header<S: Sink>(
     alloc: Global,
     records: &mut RecordWriter,
