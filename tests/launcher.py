@@ -36,40 +36,26 @@ SYSTEM = "/usr/bin:/bin"
 NEEDED = ("bash", "env", "find", "perl", "readlink", "cat", "sh")
 CRATES = "# A small house.\nlow:\nmiddle: low\nanyk_cli: low middle std\nother_tests: low\n"
 
-RT = """#!/bin/sh
-# Stands in for rt: proves nothing, and builds a script.
-echo "$*" >> "$RT_ROOM/calls"
-echo "${MIMALLOC_PURGE_DELAY-nothing}" > "$RT_ROOM/delay"
+# What the stand-ins share.
+COMMON = """#!/bin/sh
 broken() { grep -q BROKEN ../"$1"/src/*.rt; }
 link() {
     [ ! -f "$RT_ROOM/linkless" ] || { echo 'error: linking failed'; exit 1; }
-    sed "s/VERSION/$(sed -n 's/version //p' src/main.rt)/" "$RT_ROOM/program" > out/anyk_cli
-    chmod +x out/anyk_cli
+    sed "s/VERSION/$(sed -n 's/version //p' ../src/main.rt)/" "$RT_ROOM/program" > anyk_cli
+    chmod +x anyk_cli
     [ ! -f "$RT_ROOM/edits" ] || echo 'version 99' > "$RT_ROOM/a house/crates/anyk_cli/src/main.rt"
 }
+hold() { while [ -f "$RT_ROOM/hold-$1" ]; do sleep 0.05; done; }
+"""
+
+RT = COMMON + """# Stands in for rt: proves nothing, and builds a script.
+echo "rt $*" >> "$RT_ROOM/calls"
+echo "${MIMALLOC_PURGE_DELAY-nothing}" > "$RT_ROOM/delay"
 case "$1 $2" in
-'ci ')
-    # The gate, in a copy that holds what the program is made from and nothing else.
-    [ -d .git ] && [ -f HANDLES ] && cd crates/anyk_cli || { echo 'rt: no repository'; exit 2; }
-    [ ! -d ../other_tests ] && [ ! -d ../low/must-fail ] && ! grep -q other ../../crates.txt || { echo 'rt: too much'; exit 1; }
-    mkdir out
-    for crate in low middle anyk_cli; do
-        while [ -f "$RT_ROOM/hold-$crate" ]; do sleep 0.05; done
-        [ -z "${at-}" ] || { echo "rt: $crate NOT PROVED: its library $at failed"; continue; }
-        echo "== $crate"
-        if broken $crate; then
-            echo 'src/lib.rt:3:5: error[E]: what is broken'; at=$crate
-            echo "rt: $crate NOT PROVED"
-        else
-            echo 'logic=proved functions=48'; echo "rt: $crate proved"
-        fi
-    done
-    [ -z "${at-}" ] || { echo "rt: FAILED: $at"; exit 1; }
-    link ;;
 'all check')
     state=ok
     for crate in low middle anyk_cli; do
-        while [ -f "$RT_ROOM/hold-$crate" ]; do sleep 0.05; done
+        hold $crate
         echo "== $crate"
         if [ "$state" != ok ]; then continue; fi
         if broken $crate; then
@@ -92,13 +78,46 @@ case "$1 $2" in
         fi
     done
     mkdir -p out
-    rm -f out/anyk_cli.stamp
+    cd out
+    rm -f anyk_cli.stamp
     link
-    echo stamp > out/anyk_cli.stamp
-    out/anyk_cli
+    echo stamp > anyk_cli.stamp
+    ./anyk_cli
     exit 2 ;;
 *) echo 'rt: what is this?'; exit 2 ;;
 esac
+"""
+
+PROVER = COMMON + """# Stands in for the prover: proves nothing, and writes an empty library or an empty object file.
+crate=$3
+echo "prove $crate" >> "$RT_ROOM/calls"
+echo "$*" > "$RT_ROOM/words-$crate"
+echo "${MIMALLOC_PURGE_DELAY-nothing}" > "$RT_ROOM/delay"
+[ "$1 $2" = 'build --crate-name' ] && [ -f "$4" ] && [ "$(basename "$(pwd)")" = "$crate" ] || { echo 'error: what is this?'; exit 2; }
+made= before=
+for word in "$@"; do
+    case $before in
+    --extern) [ -d "${word#*=}" ] || { echo "error: there is no library $word"; exit 2; } ;;
+    --logic-built|--toolchain) [ -d "$word" ] || { echo "error: there is no $word"; exit 2; } ;;
+    -o) made=$word ;;
+    esac
+    before=$word
+done
+hold $crate
+if [ -f "$RT_ROOM/killed" ]; then
+    rm "$RT_ROOM/killed"
+    kill -9 $$
+fi
+if broken $crate; then echo 'src/lib.rt:3:5: error[E]: what is broken'; exit 1; fi
+[ ! -f "$RT_ROOM/moves" ] || echo '//! Another text.' > src/lib.rt
+case $made in *.o) : > "$made" ;; *) mkdir -p "$made" ;; esac
+echo 'logic=proved functions=48'
+"""
+
+LINKER = COMMON + """# Stands in for the linker.
+echo link >> "$RT_ROOM/calls"
+[ "$1 $3 $5 $6" = '--target --toolchain -o '"$(pwd)/anyk_cli" ] && [ -f "$7" ] && [ -f "$8" ] && [ -f "$9" ] || { echo 'error: what is this?'; exit 2; }
+link
 """
 
 PROGRAM = """#!/bin/sh
@@ -176,11 +195,20 @@ class House:
         self.source("low", "specs/Lib.antt", "spec\n")
         self.source("low", "must-fail/wrong.edit", "an edit\n")
         self.source("anyk_cli", "src/main.rt", "version 1\n")
-        write(f"{self.room}/bin/rt", RT)
-        os.chmod(f"{self.room}/bin/rt", 0o755)
+        self.kit = f"{self.room}/kit"
+        for name, text in (("rt", RT), ("rattle", PROVER), ("rattle-link", LINKER)):
+            write(f"{self.kit}/bin/{name}", text)
+            os.chmod(f"{self.kit}/bin/{name}", 0o755)
+        for name in ("rattle/logic/antt-project.json", "c/libos_c.a", "c/liblibc_c.a"):
+            write(f"{self.kit}/{name}", "")
+        for name in ("rlibs/std.rlib", "logic_built", "toolchain"):
+            os.makedirs(f"{self.kit}/{name}")
+        os.makedirs(f"{self.room}/bin")
+        os.symlink("../kit/bin/rt", f"{self.room}/bin/rt")
         write(f"{self.room}/program", PROGRAM)
         self.out = f"{self.top}/crates/anyk_cli/out"
         self.program = f"{self.out}/anyk_cli"
+        self.proved = f"{self.out}/proved"
         path = SYSTEM if shutil.which("python3", path=SYSTEM) else os.environ["PATH"]
         self.env = {"PATH": f"{self.room}/bin:{path}", "RT_ROOM": self.room, "HOME": self.room, "TERM": "dumb"}
 
@@ -247,13 +275,17 @@ class House:
         return ran.returncode, output.decode(), said.decode(errors="surrogateescape")
 
     def calls(self):
-        """What rt was called with since the last time."""
+        """What was called to build since the last time."""
         file = f"{self.room}/calls"
         if not os.path.exists(file):
             return []
         calls = read(file).splitlines()
         os.remove(file)
         return calls
+
+    def links(self):
+        """How often the program was linked since the last time."""
+        return self.calls().count("link")
 
     def built(self, version=1):
         """Builds a version, by a first call."""
@@ -292,29 +324,69 @@ def test_first_call(house):
     status, output, error = house.call("one", "two")
     same((status, output), (0, ran(1, house.top, ["one", "two"])))
     same(error, f"anyk: the program is proved and built first, which takes a while (the progress is in {house.out}/build.log)\n")
-    same(house.calls(), ["ci"])
-    same([it for it in os.listdir(house.out) if "room" in it], [])
+    same(house.calls(), ["prove low", "prove middle", "prove anyk_cli", "link"])
+    same(sorted(os.listdir(house.proved)), ["anyk_cli.stamp", "low.rlib", "low.stamp", "middle.rlib", "middle.stamp"])
+    same([it for it in os.listdir(house.out) if it.endswith(".o")], [])
+    # A library is kept for the crates above by its statements, and the program is compiled.
+    has(read(f"{house.room}/words-middle"), f" --extern low={house.proved}/low.rlib ", " --statements -o ")
+    has(read(f"{house.room}/words-anyk_cli"), f" --extern std={house.kit}/rlibs/std.rlib ", " --toolchain ")
     same(house.call("one")[1:], (ran(1, house.top, ["one"]), ""))
     same(house.calls(), [])
 
 
-def test_developers_call(house):
-    house.developed()
+def by_rt(house):
+    """A call that has rt build the program."""
     same(house.call("one")[:2], (0, ran(1, house.top, ["one"])))
     first, second = house.calls()
-    check(re.fullmatch("all check --jobs [1-9][0-9]*", first), first)
-    same(second, "run --")
+    check(re.fullmatch("rt all check --jobs [1-9][0-9]*", first), first)
+    same(second, "rt run --")
     check(int(first.split()[-1]) <= len(os.sched_getaffinity(0)), first)
     house.source("low", "src/lib.rt", "BROKEN\n")
     refuses_old(house, "== low\nsrc/lib.rt:3:5: error[E]: what is broken\n", "anyk: the program was not built")
 
 
-def test_git_checkout(house):
-    os.mkdir(f"{house.top}/.git")
-    # What a build that was broken off left there is no hindrance.
-    write(f"{house.top}/.git/anyk-build/crates/low/src/lib.rt", "BROKEN\n")
-    same(house.call("one")[:2], (0, ran(1, house.top, ["one"])))
-    same(os.listdir(f"{house.top}/.git"), [])
+def test_developers_call(house):
+    by_rt(house.developed())
+
+
+def test_other_kit(house):
+    # Where a part of the kit is not where it is looked for, rt builds.
+    os.remove(f"{house.kit}/bin/rattle-link")
+    by_rt(house)
+
+
+def test_kept_libraries(house):
+    house.built()
+
+    def proves(*crates):
+        same(house.call("x")[0], 0)
+        same(house.calls(), [*[f"prove {it}" for it in crates], "link"])
+
+    house.version(2)
+    proves("anyk_cli")
+    house.source("middle", "specs/Lib.antt", "a first spec\n")
+    proves("middle", "anyk_cli")
+    house.source("low", "proofs/one/Proof.antt", "another proof\n")
+    proves("low", "middle", "anyk_cli")
+    # Another row for a crate is another crate, and a library that is gone is made again.
+    write(f"{house.top}/crates.txt", CRATES.replace("middle: low", "middle: low std"))
+    proves("middle", "anyk_cli")
+    write(f"{house.top}/crates.txt", CRATES.replace("middle: low", "middle: low std") + "# More.\n")
+    proves("anyk_cli")
+    os.rmdir(f"{house.proved}/low.rlib")
+    house.version(3)
+    proves("low", "anyk_cli")
+    # So are all with another kit.
+    write(f"{house.kit}/bin/rattle", PROVER + "# Another one.\n")
+    house.version(4)
+    proves("low", "middle", "anyk_cli")
+    # What was proved before a failure is kept, and what failed is not.
+    house.source("low", "src/lib.rt", "//! Another text.\n")
+    house.source("middle", "src/lib.rt", "BROKEN\n")
+    same(house.call("x")[0], 1)
+    same(house.calls(), ["prove low", "prove middle"])
+    house.source("middle", "src/lib.rt", "//! A crate.\n")
+    proves("middle", "anyk_cli")
 
 
 def test_closed_streams(house):
@@ -322,7 +394,7 @@ def test_closed_streams(house):
         house.version(1 if output else 2)
         by = ["sh", "-c", f'exec "$0" "$@" {closed}', f"{house.top}/anyk"]
         same((closed, house.call("x", by=by)[1]), (closed, output))
-        same(len(house.calls()), 1)
+        same(house.links(), 1)
 
 
 def test_words_and_input(house):
@@ -355,7 +427,7 @@ def test_first_call_by_sh(house):
         same(house.call("x", by=by, cwd=cwd)[:2], (0, ran(version, cwd, ["x"])))
     # It was built where it belongs, and not in the folder of the call.
     check(os.path.exists(house.program) and not os.path.exists(f"{house.room}/crates"))
-    same(len(house.calls()), 2)
+    same(house.links(), 2)
 
 
 def test_what_is_current(house):
@@ -443,7 +515,7 @@ def test_failed_proof(house):
     house.source("low", "src/lib.rt", good)
     house.version(3)
     same(house.call("x")[:2], (0, ran(3, house.top, ["x"])))
-    same(len(house.calls()), 1)
+    same(house.links(), 1)
 
 
 def test_failed_link(house):
@@ -456,7 +528,14 @@ def test_failed_link(house):
 
 
 def test_killed_check(house):
-    # Where a check was killed, as for memory, the next command tries again.
+    # Where a check was killed, as for memory, it is tried once more.
+    write(f"{house.room}/killed", "")
+    same(house.call("x")[:2], (0, ran(1, house.top, ["x"])))
+    same(house.calls(), ["prove low", "prove low", "prove middle", "prove anyk_cli", "link"])
+
+
+def test_killed_check_of_rt(house):
+    # There the next command tries again.
     house.developed()
     write(f"{house.room}/killed", "")
     same(house.call("x")[:2], (0, ran(1, house.top, ["x"])))
@@ -473,11 +552,20 @@ def test_edit_in_a_build(house):
     refuses_old(house, "a source was changed meanwhile")
     os.remove(f"{house.room}/edits")
     same(house.call("x")[:2], (0, ran(99, house.top, ["x"])))
+    # A library whose source is changed while it is proved is not kept.
+    house.source("low", "src/lib.rt", "//! One text.\n")
+    write(f"{house.room}/moves", "")
+    refuses_old(house, "a source was changed meanwhile")
+    os.remove(f"{house.room}/moves")
+    house.calls()
+    same(house.call("x")[:2], (0, ran(99, house.top, ["x"])))
+    has("\n".join(house.calls()), "prove low")
 
 
 def test_broken_off(house):
     house.built()
     for number, how in enumerate((signal.SIGINT, signal.SIGTERM, signal.SIGHUP, signal.SIGKILL), 2):
+        house.source("middle", "src/lib.rt", f"//! Text {number}.\n")
         house.version(number)
         house.hold("middle")
         begun = house.start("x")
@@ -489,7 +577,7 @@ def test_broken_off(house):
         house.go("middle")
         same(house.call("x", more={"ANYK_NO_BUILD": "1"})[:2], (1, ""))
         same(house.call("x")[:2], (0, ran(number, house.top, ["x"])))
-        same(len(house.calls()), 1)
+        same(house.links(), 1)
 
 
 def until(holds):
@@ -515,7 +603,7 @@ def test_two_at_once(house):
     for word, begun in [("one", first), *others.items()]:
         output, error = begun.communicate(timeout=40)
         same((begun.returncode, output.decode(), error.count(b"\n")), (0, ran(1, house.top, [word]), int(word == "one")))
-    same(len(house.calls()), 1)
+    same(house.links(), 1)
     # Where the first one fails, the one that waits builds for itself, and fails too.
     house.source("low", "src/lib.rt", "BROKEN\n")
     for begun in [house.start("x"), house.start("y")]:
@@ -528,7 +616,7 @@ def test_many_at_once(house):
     for number, begun in enumerate(many):
         output, _ = begun.communicate(timeout=40)
         same((begun.returncode, output.decode()), (0, ran(1, house.top, [str(number)])))
-    same(len(house.calls()), 1)
+    same(house.links(), 1)
 
 
 def test_read_only(house):
@@ -574,7 +662,7 @@ def test_noexec(house):
     same(status, 0)
     same(re.findall("status .*", output), ["status 1"] * 2)
     has(output, "anyk_cli\n", "anyk_cli.sums")
-    same(len(house.calls()), 1)
+    same(house.links(), 1)
     same(error.count("it may not be run: its file system is mounted noexec"), 2)
 
 
@@ -659,6 +747,7 @@ def test_progress(house):
     # The time that is left is shown if a table says what crates take.
     write(f"{house.top}/tools/gate_times.tsv", "crate\tproof seconds\nlow\t600\nmiddle\t1200.5\nanyk_cli\t30\n")
     house.version(2)
+    house.source("low", "src/lib.rt", "//! A second text.\n")
     said = progress()[2]
     check(re.search("0 of 3 .*about 3[01] min left.*1 of 3 .*about 4 min left", said), said)
     # What is written again and again has room in one line.
@@ -681,6 +770,7 @@ def test_estimate(house):
     crates = build.crates_below("anyk_cli", CRATES)
     same(crates, {"low": [], "middle": ["low"], "anyk_cli": ["low", "middle"]})
     same(build.crates_below("other", CRATES), {})
+    same(build.uses_of(CRATES)["anyk_cli"], ["low", "middle", "std"])
     times = build.times_of("crate\tseconds\nlow\t10\n\nmiddle\t20\textra\nanyk_cli\tnone\nanyk_cli\t5.5\nshort\n")
     same(times, {"low": 10.0, "middle": 20.0, "anyk_cli": 5.5})
     # One after another: each crate uses the one before.
@@ -690,9 +780,12 @@ def test_estimate(house):
     same(build.seconds_left(crates, {*crates}, 4, 40, times), 0)
     # Side by side, and with one that the table lacks.
     same(build.seconds_left({"a": [], "b": [], "c": [], "d": []}, set(), 2, 0, {"a": 10, "b": 20, "c": 30}), 40)
+    same(build.chains_of(crates, times), {"low": 35.5, "middle": 25.5, "anyk_cli": 5.5})
+    same(build.chains_of({"a": [], "b": [], "c": ["a", "b"]}, {"a": 10, "b": 20}), {"a": 25, "b": 35, "c": 15})
     # Without a table.
     same(build.seconds_left(crates, {"low"}, 4, 9, {}), None)
     same(build.seconds_left(dict.fromkeys("abcdef", []), set("abc"), 4, 60, {"other": 3}), 60)
+    same(build.chains_of(crates, {}), {"low": 3, "middle": 2, "anyk_cli": 1})
     gigabyte = 1_000_000_000
     same([build.at_once(*it) for it in ((4, None), (4, 22 * gigabyte), (4, 5 * gigabyte), (4, gigabyte), (1, 22 * gigabyte))], [4, 4, 2, 1, 1])
     same([build.minutes(it) for it in (5, 61, 150, 3600)], ["under a minute", "1 min", "2 min", "60 min"])
@@ -1131,7 +1224,7 @@ def test_install(house):
     to = f"{house.room}/an empty folder"
     house.version(1)
     same(house.call("install", to, umask=0o077)[0:2], (0, f"anyk: installed as {to}/bin/anyk\n"))
-    same(len(house.calls()), 1)
+    same(house.links(), 1)
     found = sorted(os.path.relpath(f"{at}/{it}", to) for at, _, files in os.walk(to) for it in files)
     wanted = ["bin/anyk", "libexec/anyk/anyk_cli", "share/anyk/call.sh", "share/anyk/hints.py", "share/anyk/picture.py", "share/bash-completion/completions/anyk",
               "share/doc/anyk/USING.md", "share/fish/vendor_completions.d/anyk.fish", "share/man/man1/anyk.1", "share/zsh/site-functions/_anyk"]

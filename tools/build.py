@@ -9,14 +9,16 @@ One call at a time builds; another one waits for it. These files are beside the 
 - anyk_cli.sums: the checksums of the sources and of the program that was built from them;
 - anyk_cli.files: the names of the sources and of their folders, for tools/current.pl;
 - anyk_cli.unfinished: a build began and did not end well, so that the program, if there is one, is not to be run;
-- build.log: what `rt` said.
+- build.log: what the prover said;
+- proved: the libraries of the crates that are proved, each with the checksum of all that it was proved from.
 
 The sums and the program are removed before a build starts, so no older program is taken for the new one. The program's time is then
 set to a time before its sources were read, and the sources are read again after the build, so no later edit is missed.
 
-Where no crate of the checkout has a library that `rt` built for its own checks, the crates are copied, without their wrong bodies, and
-`rt ci` proves them there: it keeps all processors at work, and goes first along the longest chain of crates. Elsewhere a developer is at
-work, and `rt` goes on with what its checks kept, so that only what changed is proved again.
+Where no crate of the checkout has a library that `rt` built for its own checks, this script calls the prover of the kit that `rt` belongs
+to, once for each crate, and the kit's linker. It keeps all processors at work, goes first along the longest chain of crates, and takes again
+the libraries of crates for which nothing changed. Elsewhere a developer is at work, and `rt` goes on with what its checks kept. `rt` does
+so too if a part of the kit is not where it is looked for.
 
 If the error output is a terminal, it shows how far the build is. The time that is left is estimated from the file
 tools/gate_times.tsv, if it is there: a line for each crate, with its name, a tab and the seconds that its proof takes.
@@ -30,7 +32,10 @@ import shutil
 import signal
 import subprocess
 import sys
+import tempfile
 import time
+from concurrent.futures import FIRST_COMPLETED, ThreadPoolExecutor, wait
+from typing import IO, NamedTuple
 
 TOP = os.path.dirname(os.path.dirname(os.path.realpath(__file__)))
 CRATE = f"{TOP}/crates/anyk_cli"
@@ -43,16 +48,20 @@ STAMP = f"{PROGRAM}.stamp"
 LOG = f"{OUT}/build.log"
 TIMES = f"{TOP}/tools/gate_times.tsv"
 PARTS = ("src", "specs", "proofs")
-# What `rt ci` gets of the program's crate besides: how it is run, and what it must then print.
-RUN = ("args", "status", "stdin", "stdout", "data")
-# Where the copy is made: beside what git keeps, which no command of `rt` reads, or else with the program.
-ROOM = f"{TOP}/.git/anyk-build" if os.path.isdir(f"{TOP}/.git") else f"{OUT}/anyk_cli.room"
+# Where the libraries of the crates that are proved are kept.
+PROVED = f"{OUT}/proved"
+# What a build calls or reads of a kit: the prover, the linker, the kit's own libraries, its logic, and what it compiles and links with.
+PROVER, LINKER, LIBRARIES, TOOLCHAIN = "bin/rattle", "bin/rattle-link", "rlibs", "toolchain"
+LOGIC, BUILT_LOGIC, LINKED = "rattle/logic/antt-project.json", "logic_built", ("c/libos_c.a", "c/liblibc_c.a")
+TARGET = "x86_64-unknown-linux-gnu"
 # How the log names a crate that is done.
-DONE = re.compile(r"(?:== (\w+)|rt: (\w+) (?:proved|is kept:.*))$")
+DONE = re.compile(r"== (\w+)$")
 # How the log names a crate whose check was killed, most likely for memory.
 KILLED = re.compile(r"^\S+: failed \(-9\)$", re.M)
-# The memory that the proof of one crate may take, in bytes.
+# The memory that the proof of one crate may take, in bytes, and each further process that works at it.
 MEMORY = 2_200_000_000
+# How many processes work at one crate at most: with more, the parts that one of them does alone take most of the time.
+SHARED = 4
 # The prover's allocator gives memory that it does not need back to the system, and soon takes it again. Where it keeps all, a proof
 # takes up to a tenth less time, and a twentieth more memory.
 ALLOCATOR = {"MIMALLOC_PURGE_DELAY": "-1"}
@@ -76,14 +85,19 @@ def text_of(file):
         return ""
 
 
-def crates_below(name, text):
-    """The crates that the crate needs, itself the last, each with those of them that it names, by the text of crates.txt."""
+def uses_of(text):
+    """What each crate names, by the text of crates.txt: other crates, and libraries of the kit."""
     named = {}
     for row in text.split("\n"):
         words, _, uses = row.partition("#")[0].partition(":")
         if words.strip():
-            named[words.split()[0]] = re.split(r"[\s,]+", uses.strip())
-    found = {}
+            named[words.split()[0]] = re.findall(r"[^\s,]+", uses)
+    return named
+
+
+def crates_below(name, text):
+    """The crates that the crate needs, itself the last, each with those of them that it names, by the text of crates.txt."""
+    named, found = uses_of(text), {}
 
     def visit(crate):
         if crate in named and crate not in found:
@@ -117,12 +131,22 @@ def sources_of(crates):
     return folders, files
 
 
-def sum_of_sources(crates):
-    """The checksum of the names and the bytes of the sources."""
+def sum_of_files(files):
+    """The checksum of the names and the bytes of files of the checkout."""
     total = hashlib.sha256()
-    for file in sources_of(crates)[1]:
+    for file in files:
         total.update(f"{os.path.relpath(file, TOP)}\0{sum_of(file)}\n".encode(errors="surrogateescape"))
     return total.hexdigest()
+
+
+def sum_of_sources(crates):
+    """The checksum of the names and the bytes of the sources."""
+    return sum_of_files(sources_of(crates)[1])
+
+
+def sum_of_crate(crate):
+    """The checksum of the names and the bytes of a crate's own sources."""
+    return sum_of_files(sources_of([crate])[1][1:])
 
 
 def write(file, text):
@@ -171,6 +195,10 @@ def at_once(processors, free):
     return max(1, processors if free is None else min(processors, free // MEMORY))
 
 
+def processors():
+    return len(os.sched_getaffinity(0))
+
+
 def times_of(text):
     """The seconds that the proof of each crate takes, by the lines of a table that have the form of one."""
     times = {}
@@ -181,18 +209,28 @@ def times_of(text):
     return times
 
 
+def seconds_of(crates, times):
+    """The seconds that each crate takes by the table. One that the table lacks is taken for a usual one."""
+    known = [times[it] for it in crates if it in times]
+    return {it: times.get(it, sum(known) / len(known) if known else 1) for it in crates}
+
+
 def work_left(crates, done, jobs, times):
     """The seconds that the crates which are left take by the table: all of them over the jobs, but at least the longest chain of
-    crates. One that the table lacks is taken for a usual one."""
-    known = [times[it] for it in crates if it in times]
-    usual = sum(known) / len(known)
-    chain, total = {}, 0
+    crates."""
+    seconds, chain = seconds_of(crates, times), {}
     for crate in crates:
         if crate not in done:
-            seconds = times.get(crate, usual)
-            total += seconds
-            chain[crate] = seconds + max([chain.get(it, 0) for it in crates[crate]], default=0)
-    return max(total / jobs, max(chain.values(), default=0))
+            chain[crate] = seconds[crate] + max([chain.get(it, 0) for it in crates[crate]], default=0)
+    return max(sum(seconds[it] for it in chain) / jobs, max(chain.values(), default=0))
+
+
+def chains_of(crates, times):
+    """The seconds that the longest chain of crates takes which begins with each crate, of which each waits for the one before."""
+    seconds, chains = seconds_of(crates, times), {}
+    for crate in reversed([*crates]):
+        chains[crate] = seconds[crate] + max([chains[it] for it in chains if crate in crates[it]], default=0)
+    return chains
 
 
 def seconds_left(crates, done, jobs, passed, times):
@@ -224,7 +262,7 @@ class Progress:
             log.seek(self.at)
             rows = (self.rest + log.read()).split("\n")
             self.at, self.rest = log.tell(), rows.pop()
-            done = [it[1] or it[2] for it in map(DONE.match, rows) if it]
+            done = [it[1] for it in map(DONE.match, rows) if it]
             self.done.update(it for it in done if it in self.crates)
 
     def show(self):
@@ -249,11 +287,16 @@ class Progress:
             print("\r" + " " * self.width, end="\r", file=sys.stderr, flush=True)
 
 
+def start(words, where, log, lock):
+    """Starts a command in a folder, its output in a file. It holds the lock as long as it runs."""
+    how = {"cwd": where, "env": {**ALLOCATOR, **os.environ}, "stdin": subprocess.DEVNULL, "stdout": log, "stderr": log}
+    return subprocess.Popen(words, pass_fds=[lock] if lock is not None else [], **how)
+
+
 def run(words, where, progress, lock):
-    """Runs `rt` in a folder, its output in the log, and returns its status. It holds the lock as long as it runs."""
+    """Runs a command in a folder, its output in the log, and returns its status."""
     with open(LOG, "ab") as log:
-        how = {"cwd": where, "env": {**ALLOCATOR, **os.environ}, "stdin": subprocess.DEVNULL, "stdout": log, "stderr": log}
-        ran = subprocess.Popen(["rt", *words], pass_fds=[lock] if lock is not None else [], **how)
+        ran = start(words, where, log, lock)
         try:
             while progress.is_shown:
                 with contextlib.suppress(subprocess.TimeoutExpired):
@@ -270,7 +313,7 @@ def run(words, where, progress, lock):
 def why_not(text):
     """The lines of the log that say why there is no program: of the first crate that is not proved, or else the last ones."""
     before, _, summary = text.rpartition("== summary\n")
-    failed = re.search(r"(?m)^(\S+): failed ", summary) if before else re.search(r"(?m)^rt: (\S+) NOT PROVED$", text)
+    failed = re.search(r"(?m)^(\S+): failed ", summary) if before else re.search(r"(?m)^anyk: (\S+) is not proved$", text)
     before = before or text
     if failed and not KILLED.search(summary):
         said = re.split(r"(?m)^== .*\n", before.partition(f"== {failed[1]}\n")[2])[0].splitlines()
@@ -290,43 +333,158 @@ def is_untouched(crates):
     return not any(os.path.exists(f"{TOP}/crates/{it}/out/rlib/stamp") for it in crates)
 
 
-def copy_crates(crates, to):
-    """Copies what the program is made from, as a repository of its own."""
-    os.makedirs(f"{to}/.git")
-    shutil.copyfile(f"{TOP}/HANDLES", f"{to}/HANDLES")
-    for crate in crates:
-        for part in (*PARTS, *(RUN if crate == os.path.basename(CRATE) else ())):
-            one, other = f"{TOP}/crates/{crate}/{part}", f"{to}/crates/{crate}/{part}"
-            if os.path.isdir(one):
-                shutil.copytree(one, other)
-            elif os.path.isfile(one):
-                shutil.copyfile(one, other)
-    rows = text_of(f"{TOP}/crates.txt").split("\n")
-    named = [it for it in rows if it.partition("#")[0].partition(":")[0].split()[:1] in [[crate] for crate in crates]]
-    write(f"{to}/crates.txt", "\n".join(named) + "\n")
+def kit_of_rt():
+    """The folder of the kit that `rt` belongs to, or None if not all that a build needs of it is there."""
+    kit = os.path.dirname(os.path.dirname(os.path.realpath(shutil.which("rt"))))
+    needed = (PROVER, LINKER, LIBRARIES, TOOLCHAIN, LOGIC, BUILT_LOGIC, *LINKED)
+    return kit if all(os.path.exists(f"{kit}/{it}") for it in needed) else None
 
 
-def prove_copy(crates, progress, lock):
-    """Has `rt ci` prove a copy of the crates and build the program there, takes the program, and returns whether that went well."""
-    shutil.rmtree(ROOM, ignore_errors=True)
+def tell(crate, said):
+    """Writes what was said of a crate to the log."""
+    with open(LOG, "a", encoding="utf-8", errors="replace") as log:
+        log.write(f"== {crate}\n{said}")
+
+
+def stamps_of(sums, uses, kit):
+    """A checksum of all that each crate is proved from, by the checksums of the crates' own sources: these, the kit, and what it uses."""
+    prover, stamps = os.stat(f"{kit}/{PROVER}"), {}
+    for crate, own in sums.items():
+        named = [stamps.get(it, it) for it in uses[crate]]
+        text = f"{kit} {prover.st_size} {prover.st_mtime_ns} {own} {named}"
+        stamps[crate] = hashlib.sha256(text.encode(errors="surrogateescape")).hexdigest()
+    return stamps
+
+
+def is_proved(crate, stamp):
+    """Whether the crate's library is kept, and was proved from what is there now."""
+    return os.path.isdir(f"{PROVED}/{crate}.rlib") and text_of(f"{PROVED}/{crate}.stamp") == stamp
+
+
+def words_for(crate, crates, uses, kit):
+    """What the prover is called with for a crate: a library is proved and written, and the program is proved and compiled."""
+    is_program = crate == os.path.basename(CRATE)
+    words = ["build", "--crate-name", crate, f"src/{'main' if is_program else 'lib'}.rt", "--links", f"{crate}="]
+    for it in dict.fromkeys(["std", *uses[crate]]):
+        words += ["--extern", f"{it}={PROVED if it in crates else f'{kit}/{LIBRARIES}'}/{it}.rlib"]
+    words += ["-L", f"dependency={kit}/{LIBRARIES}", "-L", f"dependency={PROVED}"]
+    words += ["--antt-project", f"{kit}/{LOGIC}", "--logic-built", f"{kit}/{BUILT_LOGIC}"]
+    if is_program:
+        return [*words, "--toolchain", f"{kit}/{TOOLCHAIN}", "-o", f"{PROGRAM}.o"]
+    # The crates above need its statements, and not its proofs.
+    return [*words, "--statements", "-o", f"{PROVED}/{crate}.rlib"]
+
+
+class Proof(NamedTuple):
+    """The proof of a crate, as it runs: the process, how many of them work at it, and the file that gets what it says."""
+    process: subprocess.Popen
+    jobs: int
+    log: IO
+
+
+class Proofs:
+    """The proofs of all crates, of which several run side by side."""
+
+    def __init__(self, crates, kit, lanes, places, lock):
+        """`lanes` is how many crates are proved at once, and `places` how many processes there is memory for."""
+        self.crates, self.kit, self.lanes, self.places, self.lock = crates, kit, lanes, max(places, lanes), lock
+        self.uses, times = uses_of(text_of(f"{TOP}/crates.txt")), times_of(text_of(TIMES))
+        self.sums = {it: sum_of_crate(it) for it in crates}
+        self.stamps = stamps_of(self.sums, self.uses, kit)
+        self.seconds, self.chains = seconds_of(crates, times), chains_of(crates, times)
+        self.done = {it for it in crates if is_proved(it, self.stamps[it])}
+        self.left = sorted((it for it in crates if it not in self.done), key=lambda it: -self.chains[it])
+        # What runs, by crate, and the crates whose check was killed once.
+        self.running, self.killed = {}, set()
+        for it in self.done:
+            tell(it, "anyk: it was proved before\n")
+
+    def waits(self, crate):
+        """Whether a crate has to wait though the crates that it uses are proved: for a processor, or, if its check or one that runs was
+        killed before, until nothing else runs."""
+        is_alone = crate in self.killed or not self.killed.isdisjoint(self.running)
+        return len(self.running) >= self.lanes or is_alone and bool(self.running)
+
+    def share(self, crate, ready):
+        """How many processes work at a crate: one, or more if the chain that begins with it would outlast all else that is left, or if
+        processors have nothing to do. `ready` is how many crates could begin now."""
+        if crate in self.killed:
+            return 1
+        work, jobs = sum(self.seconds[it] for it in self.crates if it not in self.done), [it.jobs for it in self.running.values()]
+        is_last = self.chains[crate] * self.lanes >= work and max(jobs, default=1) == 1
+        wanted = self.lanes if is_last else (self.lanes - len(jobs)) // ready
+        return max(1, min(wanted, SHARED, self.places - sum(jobs)))
+
+    def begin(self):
+        """Begins the proofs that can begin, first that with the longest chain behind it."""
+        ready = [it for it in self.left if self.done.issuperset(self.crates[it])]
+        for at, crate in enumerate(ready):
+            if self.waits(crate):
+                continue
+            self.left.remove(crate)
+            jobs, log = self.share(crate, len(ready) - at), tempfile.TemporaryFile("w+", errors="replace")
+            words = words_for(crate, self.crates, self.uses, self.kit)
+            with contextlib.suppress(FileNotFoundError):
+                os.remove(f"{PROVED}/{crate}.stamp")
+            process = start([f"{self.kit}/{PROVER}", *words, "--jobs", str(jobs)], f"{TOP}/crates/{crate}", log, self.lock)
+            self.running[crate] = Proof(process, jobs, log)
+
+    def end(self, crate):
+        """Takes in that a proof ended, and returns whether all is well so far."""
+        proof = self.running.pop(crate)
+        status = proof.process.wait()
+        with proof.log as log:
+            log.seek(0)
+            said = log.read()
+        if status == -signal.SIGKILL and crate not in self.killed:
+            # Most likely for memory.
+            self.killed.add(crate)
+            self.left.append(crate)
+            return True
+        tell(crate, said if status == 0 else f"{said}anyk: {crate} is not proved\n")
+        # What was changed meanwhile may not be what was proved.
+        if status == 0 and sum_of_crate(crate) == self.sums[crate]:
+            self.done.add(crate)
+            write(f"{PROVED}/{crate}.stamp", self.stamps[crate])
+        return crate in self.done
+
+    def run(self, progress):
+        """Proves all, and returns whether that went well."""
+        is_well, waiting = True, {}
+        with ThreadPoolExecutor(self.lanes) as pool:
+            try:
+                while is_well and (self.left or self.running):
+                    self.begin()
+                    waiting.update({pool.submit(it.process.wait): crate for crate, it in self.running.items() if crate not in waiting.values()})
+                    ended = wait(waiting, timeout=PAUSE, return_when=FIRST_COMPLETED).done
+                    is_well = all([self.end(waiting.pop(it)) for it in ended])
+                    progress.show()
+            finally:
+                for it in self.running.values():
+                    it.process.kill()
+        return is_well
+
+
+def prove_apart(crates, kit, lanes, places, progress, lock):
+    """Has the kit's prover prove the crates side by side, links the program, and returns whether that went well."""
+    os.makedirs(PROVED, exist_ok=True)
     try:
-        copy_crates(crates, ROOM)
-        made = f"{ROOM}/crates/{os.path.basename(CRATE)}/out/{os.path.basename(PROGRAM)}"
-        if run(["ci"], ROOM, progress, lock) or not os.path.isfile(made):
+        if not Proofs(crates, kit, lanes, places, lock).run(progress):
             return False
-        shutil.move(made, PROGRAM)
-        return True
+        words = [f"{kit}/{LINKER}", "--target", TARGET, "--toolchain", f"{kit}/{TOOLCHAIN}", "-o", PROGRAM, f"{PROGRAM}.o"]
+        return run([*words, *[f"{kit}/{it}" for it in LINKED]], OUT, progress, lock) == 0 and os.path.isfile(PROGRAM)
     finally:
-        shutil.rmtree(ROOM, ignore_errors=True)
+        with contextlib.suppress(FileNotFoundError):
+            os.remove(f"{PROGRAM}.o")
 
 
 def prove_here(jobs, progress, lock):
     """Has `rt` prove the crates here, over what earlier checks kept, and build the program, and returns whether that went well."""
-    status = run(["all", "check", "--jobs", str(jobs)], CRATE, progress, lock)
+    status = run(["rt", "all", "check", "--jobs", str(jobs)], CRATE, progress, lock)
     # A check that was killed is tried again by the next command, which does one at a time.
     if status == 0 or KILLED.search(text_of(LOG)):
         # Without arguments the program says only its usage. `rt` writes the stamp once the program is proved and linked.
-        run(["run", "--"], CRATE, progress, lock)
+        run(["rt", "run", "--"], CRATE, progress, lock)
     return os.path.isfile(STAMP) and os.path.isfile(PROGRAM)
 
 
@@ -342,18 +500,22 @@ def build(crates, lock):
     began, sources = time.time_ns(), sum_of_sources(crates)
     open(LOG, "w").close()
     say(f"the program is proved and built first, which takes a while (the progress is in {LOG})")
-    jobs = at_once(len(os.sched_getaffinity(0)), free_memory())
+    free = free_memory()
+    jobs, kit = at_once(processors(), free), kit_of_rt() if is_untouched(crates) else None
     progress = Progress(crates, jobs)
     try:
-        proves = prove_copy(crates, progress, lock) if is_untouched(crates) else prove_here(jobs, progress, lock)
+        if kit:
+            proves = prove_apart(crates, kit, jobs, at_once(jobs * SHARED, free), progress, lock)
+        else:
+            proves = prove_here(jobs, progress, lock)
     finally:
         progress.end()
-    if not proves:
-        print(*why_not(text_of(LOG)), sep="\n", file=sys.stderr)
-        say(f"the program was not built (all that rt said is in {LOG})")
-        return False
     if sum_of_sources(crates) != sources:
         say("the program was not built, since a source was changed meanwhile: call again")
+        return False
+    if not proves:
+        print(*why_not(text_of(LOG)), sep="\n", file=sys.stderr)
+        say(f"the program was not built (all that was said is in {LOG})")
         return False
     write(SUMS, f"{sources}\n{sum_of(PROGRAM)}\n")
     mark(crates, began)
