@@ -8,7 +8,7 @@ ghost use Rattle.tdp_core.specs.Solutions.{IsTreeRanking};
 ghost use Rattle.tdp_core.specs.TreeView.{row_count};
 ghost use Rattle.tdp_core.specs.WellFormed.{IsTieFreeTree};
 ghost use Rattle.tree_dp.specs.BestRanking.{IsBestRanking};
-ghost use Rattle.engine_choice.specs.Engines.{calls_of, rest_of, tree_of};
+ghost use Rattle.plan_engine.specs.Engines.{calls_of, rest_of, tree_of};
 
 use crate::kind::EngineKind;
 use anyk_part::Part;

@@ -5,8 +5,8 @@ use Rattle.tdp_core.specs.AnswerView.{AnswerView}
 use Rattle.tdp_core.specs.TreeView.{NodeView}
 use Rattle.anyk_part.specs.Regions.{rest_of as rest_of_part}
 use Rattle.anyk_rec.specs.RecView.{rest_of as rest_of_rec}
-use Rattle.engine_choice.specs.declared.engine.ChosenEngine.{ChosenEngine}
-use Rattle.engine_choice.specs.declared.engine.ChosenEngine.TheVariants.{Best, Part, Rec}
+use Rattle.plan_engine.specs.declared.choice.ChosenEngine.{ChosenEngine}
+use Rattle.plan_engine.specs.declared.choice.ChosenEngine.TheVariants.{Best, Part, Rec}
 
 -- the answers that are left
 abbrev pub rest_of : {R : Type 0} (d : ℕ) (key : R → KeyOf d 16) → ChosenEngine R → List AnswerView

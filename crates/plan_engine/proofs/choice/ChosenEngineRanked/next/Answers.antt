@@ -1,7 +1,7 @@
 use Rattle.std.proofs.Common.{◌≤◌, ℕ, List, arith}
 use Rattle.tdp_core.specs.RisingShares.{shares_rise}
 use Rattle.tdp_core.specs.Shares.{share_of, size_of}
-use Rattle.engine_choice.proofs.engine.ChosenEngineRanked.next.Goals as goal
+use Rattle.plan_engine.proofs.choice.ChosenEngineRanked.next.Goals as goal
 
 pub returns-in-Best-clause-cost : goal.returns-in-Best-clause-cost
 returns-in-Best-clause-cost g c =

@@ -1,7 +1,7 @@
 use Rattle.std.proofs.Common.{ℕ, ◌+◌, ◌*◌, ◌≤◌, length, arith}
 use Rattle.std.proofs.lemmas.Result.{IfOk-from_err}
 use Rattle.tdp_core.specs.TreeView.{row_count}
-use Rattle.engine_choice.proofs.engine.choose_engine.Goals as goal
+use Rattle.plan_engine.proofs.choice.choose_engine.Goals as goal
 
 one_product : (steps old m n : ℕ) → steps ≤ old + 16 * m * (1 + n) → steps ≤ old + 16 * (m * (1 + n))
 one_product steps old m n h = omega arith
