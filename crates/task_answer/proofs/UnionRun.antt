@@ -10,7 +10,7 @@ use Rattle.std.proofs.Math.Seq.{take-length}
 use Rattle.anyk_model.specs.Query.{Query}
 use Rattle.anyk_model.specs.Ranking.{ranking_of}
 use Rattle.anyk_model.specs.Table.{Table}
-use Rattle.command_union.specs.UnionSteps.{AreMembers, IsMember as IsUnionMember, steps_from}
+use Rattle.command_output.specs.UnionSteps.{AreMembers, IsMember as IsUnionMember, steps_from}
 use Rattle.plan_engine.specs.Engines.{calls_of, rest_of, tree_of}
 use Rattle.plan_engine.specs.declared.choice.ChosenEngine.{ChosenEngine}
 use Rattle.plan_build.specs.Plan.{IsPlanOf, PlanView}

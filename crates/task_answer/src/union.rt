@@ -19,7 +19,7 @@ use answer_print::Style;
 use bound_query::Query;
 use bumpalo::Bump;
 use cmd_words::Engine;
-use command_union::print_union;
+use command_output::print_union;
 use outer_io::Sink;
 use plan_build::Plan;
 use plan_engine::{ChosenEngine, engine_over};

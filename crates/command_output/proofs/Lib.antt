@@ -1,0 +1,15 @@
+pub mod Given
+pub mod Calls
+pub mod Pacing
+pub mod UnionMembers
+pub mod Rows
+pub mod GivenEnds
+pub mod EndMembers
+pub mod Left
+pub mod Moves
+pub mod Names
+pub mod Follows
+pub mod Steps
+pub mod Costs
+pub mod Reach
+pub mod Run
