@@ -1,6 +1,6 @@
 pub mod Given
-pub mod Calls
-pub mod Pacing
+pub mod UnionCalls
+pub mod UnionPacing
 pub mod UnionMembers
 pub mod Rows
 pub mod GivenEnds
@@ -9,7 +9,7 @@ pub mod Left
 pub mod Moves
 pub mod Names
 pub mod Follows
-pub mod Steps
-pub mod Costs
+pub mod SessionSteps
+pub mod SessionCosts
 pub mod Reach
-pub mod Run
+pub mod SessionRun

@@ -8,7 +8,7 @@ use Rattle.session_script.specs.declared.step.Step.{Step}
 use Rattle.session_script.specs.declared.step.Step.TheVariants.{Open, Next, Fork, Rewind, Close}
 use Rattle.session_script.specs.Script.{KeepsRules, is_open, names_after, names_without}
 use Rattle.verdict.specs.Session.{Places, place_in, places_after, with_cursor}
-use Rattle.command_output.specs.Rules.{CanFollow}
+use Rattle.command_output.specs.SessionRules.{CanFollow}
 
 -- ---- names as texts
 

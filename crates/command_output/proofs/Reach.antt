@@ -10,8 +10,8 @@ use Rattle.session_script.specs.declared.step.Step.{Step}
 use Rattle.session_script.specs.declared.step.Step.TheVariants.{Next}
 use Rattle.verdict.specs.Session.{Places, no_cursors, place_in, places_after}
 use Rattle.verdict.specs.SessionCalls.{calls_among, calls_of_step, calls_of_steps, ends_by_itself, reach_of_step, reach_of_steps}
-use Rattle.command_output.specs.Costs.{IsWithin, Spent, calls_at}
-use Rattle.command_output.proofs.Costs.{spent_places, spent_then, spent_wider, within_spent, within_then}
+use Rattle.command_output.specs.SessionCosts.{IsWithin, Spent, calls_at}
+use Rattle.command_output.proofs.SessionCosts.{spent_places, spent_then, spent_wider, within_spent, within_then}
 
 -- ---- the calls of one step
 

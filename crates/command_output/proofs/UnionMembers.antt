@@ -13,8 +13,8 @@ use Rattle.union_all.specs.Firsts.{tagged_view}
 use Rattle.union_all.specs.declared.tagged.Tagged as stored
 use Rattle.command_output.proofs.Given.{HasGiven, given_more}
 use Rattle.command_output.specs.UnionSteps.{AreMembers, IsMember, UnionPaced, union_steps}
-use Rattle.command_output.proofs.Calls.{AreCalled, called_more, none_called, steps_rise}
-use Rattle.command_output.proofs.Pacing.{next_within, paced}
+use Rattle.command_output.proofs.UnionCalls.{AreCalled, called_more, none_called, steps_rise}
+use Rattle.command_output.proofs.UnionPacing.{next_within, paced}
 
 -- a member as it is
 abbrev pub itself : Tagged → Tagged

@@ -1,7 +1,7 @@
 pub mod UnionSteps
 pub mod Ends
 pub mod OpenCursors
-pub mod Rules
-pub mod Costs
-pub mod Listing
-pub mod Taken
+pub mod SessionRules
+pub mod SessionCosts
+pub mod SessionListing
+pub mod TakenSteps

@@ -9,8 +9,8 @@ ghost use Rattle.tdp_model.specs.KeyNumbers.{numbers};
 ghost use Rattle.verdict.specs.Session.{next_text};
 ghost use Rattle.verdict.specs.SessionCalls.{calls_among};
 ghost use Rattle.witness_key.specs.WitnessKey.{AreCombinations};
-ghost use Rattle.command_output.specs.Costs.{Paid, calls_at};
-ghost use Rattle.command_output.specs.Listing.{ends_in, line_in, members_in};
+ghost use Rattle.command_output.specs.SessionCosts.{Paid, calls_at};
+ghost use Rattle.command_output.specs.SessionListing.{ends_in, line_in, members_in};
 
 use crate::listing::Listing;
 use answer_print::{Style, print_answer};

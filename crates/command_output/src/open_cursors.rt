@@ -2,7 +2,7 @@
 ghost use Rattle.std.specs.Prelude.{◌≡◌, ℕ, IfNone, IfSome, IsSome, List, None, OnOk, Some, position};
 ghost use Rattle.verdict.specs.Session.{Places, places_after, with_cursor};
 ghost use Rattle.command_output.specs.OpenCursors.{Found, IsHeld, is_named};
-ghost use Rattle.command_output.specs.Rules.{CanStep, PrintsNothing};
+ghost use Rattle.command_output.specs.SessionRules.{CanStep, PrintsNothing};
 
 use cursor_set::{CursorId, Cursors, MAX_OPEN};
 use session_script::Step;

@@ -11,10 +11,10 @@ ghost use Rattle.verdict.specs.SessionCalls.{calls_of_steps, ends_by_itself, rea
 ghost use Rattle.step_bounds.specs.Steps.{steps_for};
 ghost use Rattle.witness_key.specs.WitnessKey.{AreCombinations, combinations_in};
 ghost use Rattle.command_output.specs.OpenCursors.{IsHeld};
-ghost use Rattle.command_output.specs.Rules.{CanStep};
-ghost use Rattle.command_output.specs.Costs.{IsWithin};
-ghost use Rattle.command_output.specs.Listing.{ends_in, line_in, members_in};
-ghost use Rattle.command_output.specs.Taken.{IsTaken};
+ghost use Rattle.command_output.specs.SessionRules.{CanStep};
+ghost use Rattle.command_output.specs.SessionCosts.{IsWithin};
+ghost use Rattle.command_output.specs.SessionListing.{ends_in, line_in, members_in};
+ghost use Rattle.command_output.specs.TakenSteps.{IsTaken};
 
 use crate::listing::Listing;
 use crate::moving::print_next;

@@ -1,8 +1,8 @@
 use Rattle.std.proofs.Common.{ℕ, ◌≡◌, ◌+◌, ◌≤◌, inl, inr, Some, None, Ok, ap, length, refl, sym, subst, ◌∙◌, arith}
 use Rattle.std.specs.Prelude.{slice_set}
 use Rattle.anyk_model.specs.Output.{cut}
-use Rattle.command_output.specs.Costs.{IsWithin, Spent}
-use Rattle.command_output.proofs.Costs.{paid_spent, spent_call, spent_places, within_call, within_spent}
+use Rattle.command_output.specs.SessionCosts.{IsWithin, Spent}
+use Rattle.command_output.proofs.SessionCosts.{paid_spent, spent_call, spent_places, within_call, within_spent}
 use Rattle.command_output.proofs.Follows.{at_none, at_some, cut_ended, cut_short, place_kept, same_place_in}
 use Rattle.command_output.proofs.Reach.{at_below, at_limit}
 use Rattle.command_output.proofs.moving.next_member.Goals as goal

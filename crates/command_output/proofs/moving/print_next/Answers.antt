@@ -7,9 +7,9 @@ use Rattle.refusal_lines.specs.Printing.{Printed}
 use Rattle.refusal_lines.specs.SinkState.{state_of}
 use Rattle.verdict.specs.Session.{next_text}
 use Rattle.tdp_core.specs.AnswerView.{AnswerView}
-use Rattle.command_output.specs.Listing.{line_in, members_in, ranking_in}
+use Rattle.command_output.specs.SessionListing.{line_in, members_in, ranking_in}
 use Rattle.command_output.proofs.Follows.{always, answer_given, answer_inside, answers_ended, at_none, at_some, ending_left, given_all, given_less, next_done, next_start, place_set, places_set, told_all}
-use Rattle.command_output.proofs.Costs.{paid_spent, spent_places}
+use Rattle.command_output.proofs.SessionCosts.{paid_spent, spent_places}
 use Rattle.command_output.proofs.Reach.{HasGiven, given_done, given_more, given_spent, given_within}
 use Rattle.command_output.proofs.Left.{HasLeft, left_last, left_more, left_none, left_stopped, left_unprinted, left_whole}
 use Rattle.command_output.proofs.moving.print_next.Given.{Over}

@@ -3,8 +3,8 @@ use Rattle.std.specs.Prelude.{codes, slice_set}
 use Rattle.cursor_set.specs.CursorSet.{place_of}
 use Rattle.refusal_lines.specs.SinkState.{state_of}
 use Rattle.verdict.specs.Session.{next_text}
-use Rattle.command_output.specs.Costs.{Spent}
-use Rattle.command_output.specs.Listing.{line_in, members_in}
+use Rattle.command_output.specs.SessionCosts.{Spent}
+use Rattle.command_output.specs.SessionListing.{line_in, members_in}
 use Rattle.command_output.proofs.Left.{HasLeft}
 use Rattle.command_output.proofs.moving.print_next.Given as goal
 

@@ -1,6 +1,6 @@
 use Rattle.std.proofs.Common.{ap}
 use Rattle.cursor_set.specs.CursorSet.{CursorSet, seen_of}
-use Rattle.command_output.proofs.Costs.{within_new}
+use Rattle.command_output.proofs.SessionCosts.{within_new}
 use Rattle.command_output.proofs.session.print_session.Goals as goal
 
 pub returns-clause-printed : goal.returns-clause-printed

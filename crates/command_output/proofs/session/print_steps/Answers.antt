@@ -1,7 +1,7 @@
 use Rattle.std.proofs.Common.{◌≡◌, ◌<◌, Err, get_or, length, refl, subst, sym, ◌∙◌, arith, rules}
 use Rattle.refusal_lines.proofs.Prints.{printed_stopped, printed_then}
 use Rattle.witness_key.specs.WitnessKey.{AreCombinations}
-use Rattle.command_output.proofs.Run.{run_all, run_cost, run_more, run_start, run_stopped, run_within}
+use Rattle.command_output.proofs.SessionRun.{run_all, run_cost, run_more, run_start, run_stopped, run_within}
 use Rattle.command_output.proofs.session.print_steps.Goals as goal
 
 pub returns-in_err-print_header-clause-printed : goal.returns-in_err-print_header-clause-printed

@@ -1,6 +1,6 @@
 use Rattle.std.proofs.Common.{◌≡◌}
 use Rattle.refusal_lines.specs.SinkState.{state_of}
-use Rattle.command_output.proofs.Run.{HasRun}
+use Rattle.command_output.proofs.SessionRun.{HasRun}
 use Rattle.command_output.proofs.session.print_steps.Given as goal
 
 abbrev pub invariant-loop-step : goal.invariant-loop-step

@@ -2,7 +2,7 @@ use Rattle.std.proofs.Common.{◌≡◌, Err, Ok, ap, refl, rules}
 use Rattle.cursor_set.specs.CursorSet.{CursorSet}
 use Rattle.refusal_lines.specs.declared.fault.PrintFault.TheVariants as fault
 use Rattle.command_output.proofs.Moves.{same_place, unknown_closed}
-use Rattle.command_output.proofs.Run.{is_quiet, next_taken, quiet_taken}
+use Rattle.command_output.proofs.SessionRun.{is_quiet, next_taken, quiet_taken}
 use Rattle.command_output.proofs.session.take_step.Goals as goal
 
 pub returns-in_default-cursor_of-clause-taken : goal.returns-in_default-cursor_of-clause-taken

@@ -1,6 +1,6 @@
 use Rattle.std.proofs.Common.{◌≡◌, Err, rules, arith}
 use Rattle.refusal_lines.proofs.Prints.{printed_stopped, printed_then}
-use Rattle.command_output.proofs.Pacing.{paced_after}
+use Rattle.command_output.proofs.UnionPacing.{paced_after}
 use Rattle.command_output.proofs.union.print_union.Goals as goal
 
 pub returns-in_err-print_union_header-clause-printed : goal.returns-in_err-print_union_header-clause-printed

@@ -11,7 +11,7 @@ use Rattle.session_script.specs.declared.step.Step.TheVariants.{Next}
 use Rattle.verdict.specs.Session.{Places, next_text, no_cursors, place_in, places_after, step_text, steps_text, with_cursor}
 use Rattle.command_output.specs.declared.open_cursors.OpenCursor.{OpenCursor}
 use Rattle.command_output.specs.OpenCursors.{IsAt, IsHeld}
-use Rattle.command_output.specs.Rules.{CanFollow, CanStep}
+use Rattle.command_output.specs.SessionRules.{CanFollow, CanStep}
 use Rattle.command_output.proofs.Left.{HasLeft, left_more, left_none, left_stopped}
 use Rattle.command_output.proofs.Moves.{Cursor, inside_at, no_place, none_some, place_of_cursor}
 

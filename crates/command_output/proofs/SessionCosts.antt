@@ -5,7 +5,7 @@ use Rattle.std.proofs.lemmas.Nat.{mul-le}
 use Rattle.cursor_set.specs.CursorSet.{CursorSet, IsKnownAt, Keeps, place_of, seen_of}
 use Rattle.step_bounds.specs.Steps.{steps_for}
 use Rattle.step_bounds.proofs.Pacing.{steps_more}
-use Rattle.command_output.specs.Costs.{IsWithin, Paid, Spent, engine_steps}
+use Rattle.command_output.specs.SessionCosts.{IsWithin, Paid, Spent, engine_steps}
 
 module _ (share : List ℕ → ℕ → ℕ) (rises : (s : List ℕ) (c d : ℕ) → c ≤ d → share s c ≤ share s d) where
   -- ---- calls of the engine

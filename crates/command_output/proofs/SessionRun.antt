@@ -14,18 +14,18 @@ use Rattle.verdict.specs.Session.{Places, next_text, no_cursors, places_after, s
 use Rattle.verdict.specs.SessionCalls.{calls_among, calls_of_step, calls_of_steps, reach_of_step, reach_of_steps}
 use Rattle.command_output.specs.declared.listing.Listing.{Listing}
 use Rattle.command_output.specs.declared.open_cursors.OpenCursor.{OpenCursor}
-use Rattle.command_output.specs.Costs.{IsWithin, Paid}
-use Rattle.command_output.specs.Listing.{ends_in, line_in, members_in}
+use Rattle.command_output.specs.SessionCosts.{IsWithin, Paid}
+use Rattle.command_output.specs.SessionListing.{ends_in, line_in, members_in}
 use Rattle.command_output.specs.OpenCursors.{Found, IsHeld}
-use Rattle.command_output.specs.Rules.{CanStep, PrintsNothing}
-use Rattle.command_output.specs.Taken.{IsTaken, State}
-use Rattle.command_output.proofs.Costs.{paid_places}
+use Rattle.command_output.specs.SessionRules.{CanStep, PrintsNothing}
+use Rattle.command_output.specs.TakenSteps.{IsTaken, State}
+use Rattle.command_output.proofs.SessionCosts.{paid_places}
 use Rattle.command_output.proofs.Follows.{both_ok}
 use Rattle.command_output.proofs.Left.{left_whole, printed_nothing}
 use Rattle.command_output.proofs.Moves.{Cursor, held_at, place_named}
 use Rattle.command_output.proofs.Names.{can_follow}
 use Rattle.command_output.proofs.Reach.{HasPaid, next_paid, paid_all, paid_more, paid_start, paid_stopped}
-use Rattle.command_output.proofs.Steps.{HasTaken, can_step, next_after, next_told, none_held, taken_all, taken_more, taken_stopped}
+use Rattle.command_output.proofs.SessionSteps.{HasTaken, can_step, next_after, next_told, none_held, taken_all, taken_more, taken_stopped}
 
 -- ---- one step
 

@@ -9,7 +9,7 @@ use Rattle.verdict.specs.Session.{Places, places_after, step_text}
 use Rattle.verdict.specs.SessionCalls.{calls_of_step, reach_of_step}
 use Rattle.command_output.specs.declared.open_cursors.OpenCursor.{OpenCursor}
 use Rattle.command_output.specs.OpenCursors.{IsHeld}
-use Rattle.command_output.specs.Costs.{Paid}
+use Rattle.command_output.specs.SessionCosts.{Paid}
 
 -- the state of a session between two steps
 pub record State : Type 0 where
