@@ -8,10 +8,9 @@ ghost use Rattle.anyk_top.specs.Requests.{asked_by};
 
 use crate::request::Request;
 use cmd_words::{Command, Words, WordsFault, read_words};
-use input_load::MadeTables;
 use std::alloc::Global;
 use step_counter::NoMemory;
-use task_plan::Task;
+use task_plan::{MadeTables, Task};
 
 /// The command that the arguments ask for. `Usage` if they are not a command, and `NoMemory` if
 /// memory is refused.

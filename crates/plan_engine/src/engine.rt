@@ -1,7 +1,7 @@
 //! The engine over a plan.
 ghost use Rattle.std.specs.Prelude.{◌≡◌, ◌+◌, ◌*◌, ◌≤◌, IfOk, List, None, length};
 ghost use Rattle.anyk_model.specs.Table.{Table};
-ghost use Rattle.engine_choice.specs.Engines.{calls_of, rest_of, tree_of};
+ghost use Rattle.plan_engine.specs.Engines.{calls_of, rest_of, tree_of};
 ghost use Rattle.plan_build.specs.Plan.{IsPlanOf};
 ghost use Rattle.bound_query.specs.WeighedQuery.{BoundQuery};
 ghost use Rattle.tdp_core.specs.AnswerView.{answers_of};
@@ -11,9 +11,10 @@ ghost use Rattle.tdp_model.specs.KeyTuple.{KeyOf};
 ghost use Rattle.tdp_core.specs.WellFormed.{IsTieFreeTree};
 ghost use Rattle.plan_engine.specs.AskedList.{IsAskedList};
 
+use crate::choice::{ChosenEngine, best_engine, choose_engine};
+use crate::kind::EngineKind;
 use bumpalo::Bump;
 use cmd_words::Engine;
-use engine_choice::{ChosenEngine, EngineKind, best_engine, choose_engine};
 use plan_build::Plan;
 use rank_key::Rank;
 use std::alloc::Global;

@@ -18,7 +18,7 @@ use Rattle.proof_model.specs.Problem.{Problem}
 use Rattle.proof_model.specs.QueryProblem.{IsPassing, RowsEqual, RowsMatch, problem_in, row_rank}
 use Rattle.proof_model.proofs.Wider.{wide_lists}
 use Rattle.proof_model.proofs.Matching.{equal_iff, match_iff}
-use Rattle.proof_bounds.specs.BoundedRows.{HasProblemRows, query_key}
+use Rattle.proof_check.specs.BoundedRows.{HasProblemRows, query_key}
 use Rattle.step_bounds.proofs.NodeSums.{sum_of_lengths}
 use Rattle.node_build.proofs.ShapeOf.{flaw_if_many, nodes-count, numbers_in_all, numbers_of, rows_of_built, shape_if_few, shape_with}
 

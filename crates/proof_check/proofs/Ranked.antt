@@ -22,7 +22,7 @@ use Rattle.proof_model.specs.Valid.{IsValid}
 use Rattle.proof_model.proofs.FirstAnswers.{answers_first, whole}
 use Rattle.proof_model.proofs.QueryItems.{few_items, tree_problem}
 use Rattle.proof_check.specs.Laws.{answer_rows}
-use Rattle.proof_check.proofs.Solutions.{rows_count, rows_key, solution_witness, solutions_ranking}
+use Rattle.proof_check.proofs.SolutionWitnesses.{rows_count, rows_key, solution_witness, solutions_ranking}
 
 cut_map : {A B : Type 0} (f : A → B) (limit : Option ℕ) (xs : List A) → cut limit (map f xs) ≡ map f (cut limit xs)
 cut_map f None xs = refl

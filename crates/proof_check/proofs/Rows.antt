@@ -14,7 +14,7 @@ use Rattle.proof_model.specs.Laws.{IsProblem}
 use Rattle.proof_model.specs.QueryProblem.{problem_in}
 use Rattle.proof_model.proofs.QueryLaws.{query_problem}
 use Rattle.proof_model.proofs.Soundness.{all_below}
-use Rattle.proof_answers.proofs.Nodes.{all_nodes, parents_first_lem}
+use Rattle.proof_check.proofs.Nodes.{all_nodes, parents_first_lem}
 use Rattle.proof_check.specs.RowLists.{list_at}
 
 sum_ones : (f : ℕ → ℕ) (n q : ℕ) → ((i : ℕ) → q ≤ i → i < q + n → f i ≡ 1) → sum_from ◌+◌ 0 f n q ≡ n

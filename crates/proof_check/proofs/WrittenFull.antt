@@ -29,7 +29,7 @@ use Rattle.proof_model.proofs.OneText.{firsts_same}
 use Rattle.proof_model.proofs.QueryItems.{few_items, keys_hold, node_items, tree_problem}
 use Rattle.proof_model.proofs.SolutionRows.{HasItems, list_key, list_of, list_solves, own_below}
 use Rattle.proof_check.proofs.Lists.{AreFirst, are_first, ascending_at, member_of, place_at}
-use Rattle.proof_check.proofs.Solutions.{root_below, rows_key, solution_witness, witness_solution}
+use Rattle.proof_check.proofs.SolutionWitnesses.{root_below, rows_key, solution_witness, witness_solution}
 
 module _ (query : Query) (tables : List Table) (atoms parents : List ℕ) (within : IsWithin query tables)
     (hung : HasTree query atoms parents)

@@ -1,2 +1,14 @@
 pub mod RowLists
 pub mod Laws
+pub mod BoundedRows
+pub mod Faults
+pub mod Lines
+pub mod Places
+pub mod Subtrees
+pub mod Coverage
+pub mod Lows
+pub mod RowPlaces
+pub mod Solutions
+pub mod Adding
+pub mod Choices
+pub mod Levels

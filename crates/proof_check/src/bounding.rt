@@ -6,12 +6,13 @@ ghost use Rattle.join_tree.specs.Rerooting.{IsTree};
 ghost use Rattle.node_build.specs.Nodes.{CapsBelow};
 ghost use Rattle.proof_text.specs.ProofView.{proof_view};
 ghost use Rattle.proof_model.specs.Faults.{TellsFlaw};
-ghost use Rattle.proof_bounds.specs.BoundedRows.{IsBounded};
+ghost use Rattle.proof_check.specs.BoundedRows.{IsBounded};
 
+use crate::bounded::BoundedTree;
+use crate::bounds::with_bounds;
 use crate::node_rows::query_rows;
 use bound_query::Query;
 use join_tree::JoinTree;
-use proof_bounds::{BoundedTree, with_bounds};
 use proof_text::{Proof, ProofFault};
 use rank_key::Rank;
 use std::alloc::Global;

@@ -12,12 +12,12 @@ ghost use Rattle.proof_model.specs.Valid.{IsValid};
 ghost use Rattle.proof_check.specs.RowLists.{item_rows, list_at};
 ghost use Rattle.proof_text.specs.declared.fault.ProofFault.TheVariants.{NoMemory};
 
+use crate::answers::placed_answers;
+use crate::bounded::BoundedTree;
 use crate::bounding::bounded_tree;
+use crate::choices::check_choices;
 use bound_query::Query;
 use join_tree::JoinTree;
-use proof_answers::placed_answers;
-use proof_bounds::BoundedTree;
-use proof_choices::check_choices;
 use proof_text::{Listed, Proof, ProofFault};
 use rank_key::Rank;
 use std::alloc::Global;

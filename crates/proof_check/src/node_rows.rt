@@ -6,7 +6,7 @@ ghost use Rattle.query_shape.specs.JoinTreeView.{HasStoredTree};
 ghost use Rattle.node_build.specs.Nodes.{CapsBelow};
 ghost use Rattle.proof_text.specs.Certificate.{Certificate};
 ghost use Rattle.proof_model.specs.Faults.{TellsFlaw};
-ghost use Rattle.proof_bounds.specs.BoundedRows.{HasProblemRows};
+ghost use Rattle.proof_check.specs.BoundedRows.{HasProblemRows};
 
 use bound_query::Query;
 use join_tree::JoinTree;

@@ -16,7 +16,7 @@ use Rattle.union_list.specs.TaggedRows.{Tagged, branch_at}
 use Rattle.union_list.specs.Union.{union_of}
 use Rattle.union_list.specs.UnionOutput.{union_output_of}
 use Rattle.bound_query.specs.WeighedQuery.{BoundQuery}
-use Rattle.input_load.specs.Input.{InputView, loaded_of}
+use Rattle.task_plan.specs.Input.{InputView, loaded_of}
 use Rattle.plan_build.specs.Plans.{ArePrepared, preparation_of}
 use Rattle.verdict.specs.Bound.{IsBounded, IsPaced, IsPrompt, IsWithin, cost_of}
 use Rattle.verdict.specs.AcceptedInput.{Found, found_of, is_union, queries_in, query_of, structure_of}

@@ -10,9 +10,9 @@ use Rattle.std.proofs.Math.Seq.{take-length}
 use Rattle.anyk_model.specs.Query.{Query}
 use Rattle.anyk_model.specs.Ranking.{ranking_of}
 use Rattle.anyk_model.specs.Table.{Table}
-use Rattle.command_union.specs.UnionSteps.{AreMembers, IsMember as IsUnionMember, steps_from}
-use Rattle.engine_choice.specs.Engines.{calls_of, rest_of, tree_of}
-use Rattle.engine_choice.specs.declared.engine.ChosenEngine.{ChosenEngine}
+use Rattle.command_output.specs.UnionSteps.{AreMembers, IsMember as IsUnionMember, steps_from}
+use Rattle.plan_engine.specs.Engines.{calls_of, rest_of, tree_of}
+use Rattle.plan_engine.specs.declared.choice.ChosenEngine.{ChosenEngine}
 use Rattle.plan_build.specs.Plan.{IsPlanOf, PlanView}
 use Rattle.plan_build.proofs.ShapeIs.{rows_counted}
 use Rattle.plan_build.proofs.Rooted.{whole_of}

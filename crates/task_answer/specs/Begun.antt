@@ -2,8 +2,8 @@
 use Rattle.std.specs.Prelude.{◌≡◌, ◌+◌, ◌*◌, ℕ, List, None, length}
 use Rattle.std.specs.List.{AllZip, sum_by}
 use Rattle.anyk_model.specs.Table.{Table}
-use Rattle.engine_choice.specs.Engines.{calls_of, rest_of, tree_of}
-use Rattle.engine_choice.specs.declared.engine.ChosenEngine.{ChosenEngine}
+use Rattle.plan_engine.specs.Engines.{calls_of, rest_of, tree_of}
+use Rattle.plan_engine.specs.declared.choice.ChosenEngine.{ChosenEngine}
 use Rattle.plan_build.specs.Plan.{IsPlanOf, PlanView}
 use Rattle.bound_query.specs.WeighedQuery.{BoundQuery}
 use Rattle.tdp_model.specs.KeyTuple.{KeyOf}

@@ -1,6 +1,6 @@
 //! A command that plans its queries, from its input to its output.
 ghost use Rattle.std.specs.Prelude.{◌<◌, [], ◌∷◌, IfErr, OnOk, length};
-ghost use Rattle.input_load.specs.Input.{loaded_of};
+ghost use Rattle.task_plan.specs.Input.{loaded_of};
 ghost use Rattle.plan_build.specs.Plan.{IsPlanOf, shape_of};
 ghost use Rattle.plan_build.specs.Plans.{ArePrepared, HavePlans};
 ghost use Rattle.proof_text.specs.Certificate.{Certificate};
@@ -30,7 +30,6 @@ use crate::style::style_in;
 use crate::union::print_union_run;
 use bound_query::Query;
 use hash_keys::Keys;
-use input_load::Input;
 use outer_io::{Shelf, Sink};
 use plan_build::{Plan, RankedPlan};
 use rank_key::Rank;
@@ -40,7 +39,7 @@ use std::alloc::Global;
 use std::sync::ledger::Ledger;
 use step_counter::Steps;
 use table_store::Tables;
-use task_plan::{Planned, Plans, Task, plan_task};
+use task_plan::{Input, Planned, Plans, Task, plan_task};
 
 /// Reads or makes the input of the command, plans its query, and prints the command's output. The
 /// result is an error if the input is refused, if a read or a write failed, or if memory is

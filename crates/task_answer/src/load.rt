@@ -12,7 +12,7 @@ ghost use Rattle.verdict.specs.Summary.{summary_text};
 use bound_query::Query;
 use bumpalo::Bump;
 use cmd_words::Engine;
-use command_load::print_summary;
+use command_output::print_summary;
 use outer_io::Sink;
 use plan_build::Plan;
 use plan_engine::engine_over;

@@ -13,7 +13,7 @@ use answer_print::Style;
 use bound_query::Query;
 use bumpalo::Bump;
 use cmd_words::Engine;
-use command_run::print_ranking;
+use command_output::print_ranking;
 use outer_io::Sink;
 use plan_build::Plan;
 use plan_engine::engine_over;

@@ -16,7 +16,7 @@ use answer_print::Style;
 use bound_query::Query;
 use bumpalo::Bump;
 use cmd_words::Engine;
-use command_session::print_session;
+use command_output::print_session;
 use outer_io::Sink;
 use plan_build::Plan;
 use plan_engine::engine_over;

@@ -5,7 +5,7 @@ use Rattle.query_select.specs.declared.select.Select.{Select}
 use Rattle.rankings.specs.Order.{IsMember}
 use Rattle.refusal_lines.specs.Reason as reason
 use Rattle.refusal_lines.specs.Reason.{Reason}
-use Rattle.input_load.specs.Turns.{IsTurn as IsLoadTurn}
+use Rattle.task_plan.specs.Turns.{IsTurn as IsLoadTurn}
 use Rattle.verdict.specs.AcceptedInput.{Found}
 use Rattle.verdict.specs.Loading.{all_items, files_read, first_uses, unknown_table}
 use Rattle.verdict.specs.MadeFiles.{known_to}

@@ -1,7 +1,7 @@
 -- An input, as contracts see it, from its parts.
 use Rattle.proof_text.specs.ProofView.{proof_view}
-use Rattle.input_load.specs.Input.{InputView}
-use Rattle.input_load.specs.declared.binding.Input.TheInside.{Inside}
+use Rattle.task_plan.specs.Input.{InputView}
+use Rattle.task_plan.specs.declared.binding.Input.TheInside.{Inside}
 
 abbrev pub input_view : Inside → InputView
 input_view input =

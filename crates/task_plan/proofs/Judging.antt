@@ -9,8 +9,8 @@ use Rattle.outer_io.specs.Files.{Files}
 use Rattle.bound_query.specs.WeighedQuery.{BoundQuery}
 use Rattle.query_shape.specs.Shape.{Shape}
 use Rattle.union_list.specs.TaggedRows.{branch_at}
-use Rattle.input_load.specs.Input.{InputView, loaded_of}
-use Rattle.input_load.specs.Turns.{IsTurn}
+use Rattle.task_plan.specs.Input.{InputView, loaded_of}
+use Rattle.task_plan.specs.Turns.{IsTurn}
 use Rattle.plan_build.specs.Plans.{ArePrepared, preparation_of}
 use Rattle.refusal_lines.specs.Reason.{Reason}
 use Rattle.step_bounds.specs.RunBounds.{IsPrepared}

@@ -2,3 +2,16 @@ pub mod Judging
 pub mod Ends
 pub mod Inputs
 pub mod PlanList
+pub mod AllItems
+pub mod Asides
+pub mod Best
+pub mod BoundQueries
+pub mod Faults
+pub mod Files
+pub mod FirstUses
+pub mod MadeShelf
+pub mod NoneRefused
+pub mod Reading
+pub mod Selected
+pub mod Shapes
+pub mod Seeking

@@ -30,7 +30,7 @@ use Rattle.session_script.specs.declared.step.Step.{Step}
 use Rattle.step_bounds.specs.RunBounds.{IsPrepared}
 use Rattle.tdp_model.specs.KeyTuple.{KeyOf}
 use Rattle.union_list.specs.TaggedRows.{HaveKeys}
-use Rattle.input_load.specs.Input.{InputView, loaded_of}
+use Rattle.task_plan.specs.Input.{InputView, loaded_of}
 use Rattle.verdict.specs.Faults.{of_shape}
 use Rattle.verdict.specs.AcceptedInput.{found_of, queries_in}
 use Rattle.verdict.specs.Loading.{are_several}

@@ -1,7 +1,7 @@
 -- What reading the input of a command and planning its query give.
 use Rattle.std.specs.Prelude.{◌≡◌, ℕ, Bool, List, [], None, Option, Result, length}
-use Rattle.input_load.specs.Input.{InputView}
-use Rattle.input_load.specs.Turns.{IsTurn}
+use Rattle.task_plan.specs.Input.{InputView}
+use Rattle.task_plan.specs.Turns.{IsTurn}
 use Rattle.refusal_lines.specs.Reason.{Reason}
 use Rattle.verdict.specs.AcceptedInput.{Found}
 use Rattle.verdict.specs.Loading.{Loaded}

@@ -1,3 +1,10 @@
 pub mod Tasks
 pub mod Judgement
 pub mod Plans
+pub mod Entries
+pub mod Input
+pub mod Limits
+pub mod StageViews
+pub mod Sought
+pub mod Turns
+pub mod Wholes

@@ -22,7 +22,7 @@ use Rattle.refusal_lines.specs.Reason as reason
 use Rattle.refusal_lines.specs.Reason.{Reason}
 use Rattle.refusal_lines.specs.RefusalReasons.{reason_of}
 use Rattle.step_bounds.specs.RunBounds.{IsPrepared}
-use Rattle.input_load.specs.Input.{InputView, loaded_of}
+use Rattle.task_plan.specs.Input.{InputView, loaded_of}
 use Rattle.verdict.specs.AcceptedInput.{Found, found_of, query_of}
 use Rattle.verdict.specs.Loading.{Loaded}
 use Rattle.verdict.specs.Verdict.{IsVerdict}

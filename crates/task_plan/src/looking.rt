@@ -2,17 +2,20 @@
 ghost use Rattle.std.specs.Prelude.{◌≡◌, None, false, IfOk, Option, length, option_map};
 ghost use Rattle.std.specs.String.{string_bytes};
 ghost use Rattle.cmd_words.specs.ArgumentMeaning.{words_view};
-ghost use Rattle.input_load.specs.StageViews.{input_result_view};
-ghost use Rattle.input_load.specs.Sought.{aside_view};
+ghost use Rattle.task_plan.specs.StageViews.{input_result_view};
+ghost use Rattle.task_plan.specs.Sought.{aside_view};
 ghost use Rattle.verdict.specs.StageResults.{shelved};
 ghost use Rattle.task_plan.specs.Tasks.{words_of};
 ghost use Rattle.task_plan.specs.Judgement.{HasOne, IsLooked, IsLookedUp, sought_in};
 ghost use Rattle.task_plan.specs.Tasks.{command_of};
 
+use crate::binding::Input;
+use crate::input::load_input;
+use crate::made::load_made;
+use crate::sought::{Aside, Sought};
 use crate::task::Task;
 use cmd_words::Words;
 use hash_keys::Keys;
-use input_load::{Aside, Input, Sought, load_input, load_made};
 use outer_io::Shelf;
 use refusal_lines::Refusal;
 use std::alloc::Global;

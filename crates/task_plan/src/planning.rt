@@ -1,7 +1,7 @@
 //! The input of a command, with the plans of its queries.
 ghost use Rattle.std.specs.Prelude.{◌≡◌, ◌<◌, ◌≤◌, None, true, IfErr, IfOk, IfSome, length};
 ghost use Rattle.std.specs.List.{All};
-ghost use Rattle.input_load.specs.Input.{loaded_of};
+ghost use Rattle.task_plan.specs.Input.{loaded_of};
 ghost use Rattle.node_build.specs.Nodes.{CapsBelow};
 ghost use Rattle.plan_build.specs.Plans.{ArePrepared, HavePlans};
 ghost use Rattle.plan_build.specs.RankedPlan.{IsRankedPlan};
@@ -18,11 +18,11 @@ ghost use Rattle.task_plan.specs.Plans.{ArePlans, IsEarlyWithin, plan_reason};
 ghost use Rattle.task_plan.specs.Plans.{plans_result_view, planned_result_view, shape_result_view, shapes_result_view};
 ghost use Rattle.task_plan.specs.Tasks.{command_of};
 
+use crate::binding::Input;
 use crate::looking::look_at;
 use crate::task::Task;
 use bound_query::Query;
 use hash_keys::Keys;
-use input_load::Input;
 use outer_io::Shelf;
 use plan_build::{Plan, PlanFault, RankedPlan, prepare, prepare_ranked};
 use rank_key::{LexRank, Rank, SumRank};

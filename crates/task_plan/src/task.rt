@@ -1,6 +1,6 @@
 //! The commands that plan their queries.
+use crate::generated::MadeTables;
 use cmd_words::{Engine, Words};
-use input_load::MadeTables;
 
 /// A command that plans its queries.
 #[derive(Drop)]

@@ -29,8 +29,8 @@ use Rattle.query_shape.proofs.OneShape.{one_tree}
 use Rattle.refusal_lines.specs.Reason as reason
 use Rattle.refusal_lines.specs.Reason.{Reason}
 use Rattle.session_script.specs.declared.step.Step.{Step}
-use Rattle.input_load.specs.Input.{InputView, loaded_of}
-use Rattle.input_load.specs.Turns.{IsTurn}
+use Rattle.task_plan.specs.Input.{InputView, loaded_of}
+use Rattle.task_plan.specs.Turns.{IsTurn}
 use Rattle.verdict.specs.Faults.{of_proof}
 use Rattle.verdict.specs.Output.{answers_text, style_of}
 use Rattle.verdict.specs.AcceptedInput.{Found, found_of, queries_in}

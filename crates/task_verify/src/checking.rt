@@ -15,7 +15,6 @@ ghost use Rattle.verdict.specs.Verdict.{IsStructure};
 ghost use Rattle.task_verify.specs.Verifications.{IsCheckedFor, shape_reason, done_result_view};
 
 use bound_query::Query;
-use input_load::proof_refusal;
 use join_tree::JoinTree;
 use proof_check::verify;
 use proof_text::Proof;
@@ -26,6 +25,7 @@ use std::alloc::Global;
 use std::sync::ledger::Ledger;
 use step_counter::Steps;
 use table_store::Tables;
+use task_plan::proof_refusal;
 
 /// The answers that a certificate lists, which are the first answers of the query: for each a row
 /// for each item, from 1, and 0 past the last item. `Cyclic` if the query has no join tree,

@@ -1,7 +1,7 @@
 //! The command `verify`.
 ghost use Rattle.std.specs.Prelude.{◌≡◌, ◌∷◌, [], IfErr, IfOk, None, OnOk, length};
 ghost use Rattle.cmd_words.specs.ArgumentMeaning.{words_view};
-ghost use Rattle.input_load.specs.Input.{loaded_of};
+ghost use Rattle.task_plan.specs.Input.{loaded_of};
 ghost use Rattle.query_shape.specs.Shape.{Shape};
 ghost use Rattle.refusal_lines.specs.Printing.{Printed};
 ghost use Rattle.refusal_lines.specs.RefusalReasons.{reason_of};
@@ -20,13 +20,12 @@ use crate::printing::print_listed;
 use answer_print::Style;
 use cmd_words::Words;
 use hash_keys::Keys;
-use input_load::{Aside, Input};
 use outer_io::{Shelf, Sink};
 use refusal_lines::{PrintFault, Refusal, refused};
 use std::alloc::Global;
 use std::sync::ledger::Ledger;
 use step_counter::Steps;
-use task_plan::look_up;
+use task_plan::{Aside, Input, look_up};
 
 /// An accepted input, with the answers that its certificate lists.
 #[derive(Drop)]

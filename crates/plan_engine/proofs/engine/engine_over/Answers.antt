@@ -1,6 +1,6 @@
 use Rattle.std.proofs.Common.{◌≡◌, ◌∙◌, List, Option, Some, None, ℕ, subst, sym}
 use Rattle.std.proofs.lemmas.Result.{IfOk-weaker}
-use Rattle.engine_choice.specs.Engines.{rest_of}
+use Rattle.plan_engine.specs.Engines.{rest_of}
 use Rattle.plan_build.specs.Plan.{IsPlanOf}
 use Rattle.tdp_core.specs.Solutions.{IsTreeRanking}
 use Rattle.tdp_core.specs.TreeView.{NodeView}

@@ -13,7 +13,7 @@ use Rattle.proof_text.specs.ProofView.{listed_view, proof_view}
 use Rattle.proof_model.specs.Faults.{TellsFlaw}
 use Rattle.proof_model.specs.QueryProblem.{problem_in}
 use Rattle.proof_model.specs.Valid.{IsFirst, missed}
-use Rattle.proof_choices.specs.Choices.{IsMissed, TellsMissed}
+use Rattle.proof_check.specs.Choices.{IsMissed, TellsMissed}
 use Rattle.proof_check.specs.RowLists.{item_rows, list_at}
 use Rattle.proof_check.proofs.Missing.{missed_first}
 use Rattle.proof_check.proofs.Rows.{rows_at, rows_seen, tree_size}

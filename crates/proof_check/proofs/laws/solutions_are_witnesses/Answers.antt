@@ -1,4 +1,4 @@
-use Rattle.proof_check.proofs.Solutions.{rows_count, rows_key, solution_witness, witness_solution}
+use Rattle.proof_check.proofs.SolutionWitnesses.{rows_count, rows_key, solution_witness, witness_solution}
 use Rattle.proof_check.proofs.laws.solutions_are_witnesses.Goals as goal
 
 pub returns : goal.returns

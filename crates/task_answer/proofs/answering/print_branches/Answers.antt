@@ -3,7 +3,7 @@ use Rattle.anyk_model.specs.Output.{Style, cut}
 use Rattle.cmd_words.specs.ArgumentMeaning.{words_view}
 use Rattle.refusal_lines.proofs.Prints.{printed_some}
 use Rattle.refusal_lines.specs.SinkState.{state_of}
-use Rattle.input_load.specs.Input.{InputView, loaded_of}
+use Rattle.task_plan.specs.Input.{InputView, loaded_of}
 use Rattle.plan_build.specs.Plans.{ArePrepared, HavePlans}
 use Rattle.union_list.specs.TaggedRows.{branch_at}
 use Rattle.union_list.specs.Union.{union_of}

@@ -1,5 +1,5 @@
 use Rattle.std.proofs.Common.{◌∷◌, [], ℕ, sym, subst}
-use Rattle.input_load.specs.Input.{InputView, loaded_of}
+use Rattle.task_plan.specs.Input.{InputView, loaded_of}
 use Rattle.plan_build.specs.Plan.{shape_of}
 use Rattle.plan_build.specs.Plans.{ArePrepared}
 use Rattle.refusal_lines.specs.SinkState.{state_of}

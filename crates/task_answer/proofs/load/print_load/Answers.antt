@@ -1,5 +1,5 @@
 use Rattle.std.proofs.Common.{◌≡◌, Err, rules}
-use Rattle.engine_choice.specs.Engines.{calls_of, tree_of}
+use Rattle.plan_engine.specs.Engines.{calls_of, tree_of}
 use Rattle.refusal_lines.specs.declared.fault.PrintFault.TheVariants as fault
 use Rattle.refusal_lines.proofs.Prints.{unprinted}
 use Rattle.plan_build.proofs.Rooted.{whole_of}

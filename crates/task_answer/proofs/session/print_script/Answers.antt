@@ -1,6 +1,6 @@
 use Rattle.std.proofs.Common.{◌≡◌, ◌≤◌, ◌+◌, ◌-◌, ◌*◌, ℕ, Err, arith, rules}
 use Rattle.best_list.specs.BestList.{list_of}
-use Rattle.engine_choice.specs.Engines.{calls_of, tree_of}
+use Rattle.plan_engine.specs.Engines.{calls_of, tree_of}
 use Rattle.refusal_lines.specs.declared.fault.PrintFault.TheVariants as fault
 use Rattle.refusal_lines.proofs.Prints.{unprinted}
 use Rattle.step_bounds.specs.Steps.{steps_for}

@@ -1,7 +1,7 @@
 use Rattle.std.proofs.Common.{◌≡◌, ◌∙◌, ℕ, List, Err, sym, subst, ap, rules}
 use Rattle.anyk_model.specs.Query.{Query}
-use Rattle.command_union.specs.UnionSteps.{AreMembers}
-use Rattle.engine_choice.specs.Engines.{rest_of}
+use Rattle.command_output.specs.UnionSteps.{AreMembers}
+use Rattle.plan_engine.specs.Engines.{rest_of}
 use Rattle.refusal_lines.specs.declared.fault.PrintFault.TheVariants as fault
 use Rattle.refusal_lines.proofs.Prints.{unprinted}
 use Rattle.union_all.specs.Merge.{AreLeft, rests_of}

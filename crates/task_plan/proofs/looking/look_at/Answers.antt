@@ -1,5 +1,5 @@
 use Rattle.std.proofs.Common.{◌≡◌, None, Result, Ok, Err, IfOk, length, refl}
-use Rattle.input_load.specs.Input.{InputView}
+use Rattle.task_plan.specs.Input.{InputView}
 use Rattle.refusal_lines.specs.declared.refusal.Refusal.{Refusal}
 use Rattle.task_plan.proofs.looking.look_at.Goals as goal
 

@@ -1,5 +1,5 @@
 use Rattle.std.proofs.Common.{◌≡◌, Err, Ok, rules}
-use Rattle.input_load.specs.Input.{loaded_of}
+use Rattle.task_plan.specs.Input.{loaded_of}
 use Rattle.refusal_lines.specs.RefusalReasons.{reason_of}
 use Rattle.verdict.specs.MadeFiles.{known_to}
 use Rattle.verdict.specs.StageResults.{Shelved, shelved}

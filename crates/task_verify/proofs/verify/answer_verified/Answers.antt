@@ -1,6 +1,6 @@
 use Rattle.std.proofs.Common.{◌∷◌, [], refl}
 use Rattle.cmd_words.specs.ArgumentMeaning.{words_view}
-use Rattle.input_load.specs.Input.{loaded_of}
+use Rattle.task_plan.specs.Input.{loaded_of}
 use Rattle.refusal_lines.specs.Printing.{PrintedSome}
 use Rattle.refusal_lines.specs.RefusalReasons.{reason_of}
 use Rattle.refusal_lines.specs.SinkState.{state_of}

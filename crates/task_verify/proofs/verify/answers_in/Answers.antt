@@ -1,5 +1,5 @@
 use Rattle.std.proofs.Common.{◌≡◌, ◌∙◌, ap, length, subst}
-use Rattle.input_load.specs.Input.{InputView, loaded_of}
+use Rattle.task_plan.specs.Input.{InputView, loaded_of}
 use Rattle.task_verify.specs.Verifications.{IsVerifiedIn}
 use Rattle.task_plan.proofs.Inputs.{input_view}
 use Rattle.task_plan.proofs.PlanList.{only_one}

@@ -5,7 +5,7 @@ use Rattle.anyk_model.specs.Query.{IsCombination, row_counts}
 use Rattle.cmd_words.specs.ArgumentMeaning.{words_view}
 use Rattle.proof_check.specs.RowLists.{item_rows}
 use Rattle.bound_query.specs.WeighedQuery.{BoundQuery}
-use Rattle.input_load.specs.Input.{InputView, loaded_of}
+use Rattle.task_plan.specs.Input.{InputView, loaded_of}
 use Rattle.refusal_lines.specs.Printing.{Printed}
 use Rattle.refusal_lines.specs.SinkState.{state_of}
 use Rattle.verdict.specs.AcceptedInput.{found_of}

@@ -1,9 +1,0 @@
-use Rattle.std.proofs.Common.{◌≡◌, ◌*◌, ◌≤◌, take}
-use Rattle.verdict.specs.Summary.{rows_in_all}
-use Rattle.command_load.proofs.text.rows_in_all.Given as goal
-
-abbrev pub invariant-loop-table : goal.invariant-loop-table
-invariant-loop-table l = record {
-  sum : l.sum ≡ rows_in_all (take l.table l.tables);
-  small : l.sum ≤ l.table * 1048576;
-}

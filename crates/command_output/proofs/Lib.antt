@@ -1,0 +1,15 @@
+pub mod Given
+pub mod UnionCalls
+pub mod UnionPacing
+pub mod UnionMembers
+pub mod Rows
+pub mod GivenEnds
+pub mod EndMembers
+pub mod Left
+pub mod Moves
+pub mod Names
+pub mod Follows
+pub mod SessionSteps
+pub mod SessionCosts
+pub mod Reach
+pub mod SessionRun

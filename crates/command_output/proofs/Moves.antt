@@ -1,0 +1,260 @@
+-- Cursors that are opened, moved and closed.
+use Rattle.std.proofs.Common.{◌≡◌, ◌≢◌, ◌<◌, ℕ, List, Bool, true, false, cond, Option, Some, None, IsSome, map, option_map, is_none, length, set, get_or, not, zero, suc, [], ◌∷◌, ◌+◌, nat_lt, refl, sym, ap, subst, ◌∙◌, inl, inr, ◌⊎◌, arith}
+use Rattle.std.specs.Prelude.{position}
+use Rattle.std.specs.List.{position_or_len}
+use Rattle.std.specs.Str.{bytes_eq}
+use Rattle.std.proofs.lemmas.Bool.{cases_order}
+use Rattle.std.proofs.lemmas.Bool.Decides.{nat_tests}
+use Rattle.std.proofs.lemmas.List.{get_or-map, get_or-set_other, get_or-set_same, length-map, map-set}
+use Rattle.std.proofs.lemmas.List.Quantifiers.{position-Some}
+use Rattle.cursor_set.specs.CursorSet.{CursorSet}
+use Rattle.verdict.specs.Session.{Places, with_cursor}
+use Rattle.command_output.specs.declared.open_cursors.OpenCursor.{OpenCursor}
+use Rattle.command_output.specs.OpenCursors.{Found, IsAt, IsHeld, is_named}
+use Rattle.command_output.proofs.Names.{name_differs, name_same, same_name}
+
+abbrev pub Cursor : Type 0
+Cursor = Option OpenCursor
+
+abbrev pub place_of_cursor : Cursor → Option ℕ
+place_of_cursor cursor = option_map (λ (c : OpenCursor). c.place) cursor
+
+abbrev pub Is : Cursor → Cursor → Type 0
+Is a b = a ≡ b
+
+pub some_same : {a b : OpenCursor} → Is (Some a) (Some b) → a ≡ b
+some_same e = cc
+
+pub none_some : {A : Type 0} {c : OpenCursor} → Is None (Some c) → A
+none_some e = cc
+
+pub no_place : {A : Type 0} {p : ℕ} → ◌≡◌ {A = Option ℕ} None (Some p) → A
+no_place e = cc
+
+-- a set of which only the places are others
+pub only_places : (old new : CursorSet) (places : List (Option ℕ)) → new ≡ record old { places = places } → new ≡ record old { places = new.places }
+only_places old new places e = e ∙ ap (λ (p : List (Option ℕ)). record old { places = p }) (sym (ap (λ (s : CursorSet). s.places) e))
+
+apart : (i j : ℕ) → (i ≡ j) ⊎ (i ≢ j)
+apart i j = elim (cases_order i j) [ inl same ↦ inl same | inr (inl less) ↦ inr (λ e. omega (arith, less, e)) | inr (inr more) ↦ inr (λ e. omega (arith, more, e)) ]
+
+cond-true : {A : Type 0} (b : Bool) (x y : A) → b ≡ true → cond b x y ≡ x
+cond-true b x y e = rw e refl
+
+cond-false : {A : Type 0} (b : Bool) (x y : A) → b ≡ false → cond b x y ≡ y
+cond-false b x y e = rw e refl
+
+-- one cursor replaces what was there, with the one name that it has before or after
+module _ (old new : CursorSet) (cursors : List Cursor) (places : Places) (number : ℕ) (name : List ℕ) (now : Cursor) (held : IsHeld old cursors places)
+    (within : number < length cursors) (only : (j : ℕ) (c : OpenCursor) → IsAt cursors j c → c.name.now ≡ name → j ≡ number)
+    (here : (c : OpenCursor) → IsAt cursors number c → c.name.now ≡ name) (named : (c : OpenCursor) → Is now (Some c) → c.name.now ≡ name)
+    (moved : new.places ≡ set old.places number (place_of_cursor now)) where
+  after : List Cursor
+  after = set cursors number now
+
+  at_number : (c : OpenCursor) → IsAt (set cursors number now) number c → Is now (Some c)
+  at_number c at = sym (get_or-set_same cursors number now None within) ∙ at
+
+  at_other : (j : ℕ) (c : OpenCursor) → j ≢ number → IsAt (set cursors number now) j c → IsAt cursors j c
+  at_other j c other at = sym (get_or-set_other cursors number j now None other) ∙ at
+
+  other_at : (j : ℕ) (c : OpenCursor) → j ≢ number → IsAt cursors j c → IsAt (set cursors number now) j c
+  other_at j c other at = get_or-set_other cursors number j now None other ∙ at
+
+  placed_after : (j : ℕ) (c : OpenCursor) → IsAt (set cursors number now) j c → with_cursor places name (place_of_cursor now) c.name.now ≡ Some c.place
+  placed_after j c at = elim (apart j number) [ inl same ↦ at_it same | inr other ↦ at_another other ]
+    where
+      at_it : j ≡ number → with_cursor places name (place_of_cursor now) c.name.now ≡ Some c.place
+      at_it same =
+          let is : Is now (Some c) = at_number c (subst (λ (k : ℕ). IsAt (set cursors number now) k c) same at) in
+          cond-true (bytes_eq c.name.now name) (place_of_cursor now) (places c.name.now) (name_same c.name.now name (named c is))
+          ∙ ap place_of_cursor is
+
+      at_another : j ≢ number → with_cursor places name (place_of_cursor now) c.name.now ≡ Some c.place
+      at_another other =
+          let before = at_other j c other at in
+          cond-false (bytes_eq c.name.now name) (place_of_cursor now) (places c.name.now)
+          (name_differs c.name.now name (λ same. other (only j c before same)))
+          ∙ held.placed j c before
+
+  known_after : (wanted : List ℕ) (place : ℕ) → with_cursor places name (place_of_cursor now) wanted ≡ Some place
+      → (j : ℕ) × (c : OpenCursor) × IsAt (set cursors number now) j c × (c.name.now ≡ wanted)
+  known_after wanted place known = by (bytes_eq wanted name) refl
+    where
+      new_one : (cursor : Cursor) → Is now cursor → place_of_cursor cursor ≡ Some place → wanted ≡ name
+          → (j : ℕ) × (c : OpenCursor) × IsAt (set cursors number now) j c × (c.name.now ≡ wanted)
+      new_one None is e same = no_place e
+      new_one (Some c) is e same = (number, c, get_or-set_same cursors number now None within ∙ is, named c is ∙ sym same)
+
+      old_one : wanted ≢ name → (j : ℕ) × (c : OpenCursor) × IsAt cursors j c × (c.name.now ≡ wanted)
+          → (j : ℕ) × (c : OpenCursor) × IsAt (set cursors number now) j c × (c.name.now ≡ wanted)
+      old_one differs (j, c, at, is) =
+          let other : j ≢ number = λ same. differs (sym is ∙ here c (subst (λ (k : ℕ). IsAt cursors k c) same at)) in
+          (j, c, other_at j c other at, is)
+
+      by : (t : Bool) → bytes_eq wanted name ≡ t → (j : ℕ) × (c : OpenCursor) × IsAt (set cursors number now) j c × (c.name.now ≡ wanted)
+      by true e = new_one now refl (sym (cond-true (bytes_eq wanted name) (place_of_cursor now) (places wanted) e) ∙ known) (same_name wanted name e)
+      by false e =
+          old_one (λ same. let t : true ≡ false = sym (name_same wanted name same) ∙ e in cc)
+          (held.known wanted place (sym (cond-false (bytes_eq wanted name) (place_of_cursor now) (places wanted) e) ∙ known))
+
+  distinct_after : (i j : ℕ) (a b : OpenCursor) → IsAt (set cursors number now) i a → IsAt (set cursors number now) j b → a.name.now ≡ b.name.now → i ≡ j
+  distinct_after i j a b at bt same = elim (apart i number) [
+    | inl first ↦ elim (apart j number) [
+      | inl second ↦ first ∙ sym second
+      | inr other ↦
+          let is = named a (at_number a (subst (λ (k : ℕ). IsAt (set cursors number now) k a) first at)) in
+          absurd (other (only j b (at_other j b other bt) (sym same ∙ is)))
+    ]
+    | inr other ↦ elim (apart j number) [
+      | inl second ↦
+          let is = named b (at_number b (subst (λ (k : ℕ). IsAt (set cursors number now) k b) second bt)) in
+          absurd (other (only i a (at_other i a other at) (same ∙ is)))
+      | inr another ↦ held.distinct i j a b (at_other i a other at) (at_other j b another bt) same
+    ]
+  ]
+
+  pub held_put : IsHeld new (set cursors number now) (with_cursor places name (place_of_cursor now))
+  held_put = record {
+    same = moved ∙ ap (λ (l : List (Option ℕ)). set l number (place_of_cursor now)) held.same ∙ sym (map-set place_of_cursor cursors number now);
+    placed = placed_after;
+    known = known_after;
+    distinct = distinct_after;
+  }
+
+-- ---- a new cursor
+
+module _ (old new : CursorSet) (cursors : List Cursor) (places : Places) (number : ℕ) (held : IsHeld old cursors places)
+    (free : position is_none old.places ≡ Some number) where
+  places_long : length old.places ≡ length cursors
+  places_long = ap length held.same ∙ length-map cursors place_of_cursor
+
+  free_within : number < length cursors
+  free_within = let h = (position-Some is_none old.places number None free).0 in omega (arith, h, places_long)
+
+  free_none : (c : OpenCursor) → IsAt cursors number c → ⊥
+  free_none c at = by (get_or old.places number None) (position-Some is_none old.places number None free).1 taken
+    where
+      taken : get_or old.places number None ≡ Some c.place
+      taken = ap (λ (l : List (Option ℕ)). get_or l number None) held.same ∙ get_or-map place_of_cursor cursors number None None free_within ∙ ap place_of_cursor at
+
+      by : (o : Option ℕ) → is_none o ≡ true → o ≡ Some c.place → ⊥
+      by None e is = no_place is
+      by (Some p) e is = cc
+
+  pub held_new : (c : OpenCursor) → places c.name.now ≡ None → new.places ≡ set old.places number (Some c.place)
+      → IsHeld new (set cursors number (Some c)) (with_cursor places c.name.now (Some c.place))
+  held_new c closed moved =
+      held_put old new cursors places number c.name.now (Some c) held free_within
+      (λ j d at is. no_place (sym closed ∙ sym (ap places is) ∙ held.placed j d at))
+      (λ d at. absurd (free_none d at)) (λ d is. ap (λ (e : OpenCursor). e.name.now) (sym (some_same is))) moved
+
+-- ---- a cursor that is open
+
+-- a place that passes the test is found
+position_at : (p : Cursor → Bool) (x : Cursor) (xs : List Cursor) (b : Bool) → p x ≡ b → position_or_len p (x ∷ xs) ≡ cond (not b) (1 + position_or_len p xs) 0
+position_at p x xs b e = ap (λ t. cond (not t) (1 + position_or_len p xs) 0) e
+
+first_passes : (p : Cursor → Bool) (x : Cursor) (xs : List Cursor) → p x ≡ true → position_or_len p (x ∷ xs) < length (x ∷ xs)
+first_passes p x xs e = let first = position_at p x xs true e in omega (arith, first)
+
+later_passes : (p : Cursor → Bool) (x : Cursor) (xs : List Cursor) → position_or_len p xs < length xs → position_or_len p (x ∷ xs) < length (x ∷ xs)
+later_passes p x xs rest = by (p x) refl
+  where
+    by : (b : Bool) → p x ≡ b → position_or_len p (x ∷ xs) < length (x ∷ xs)
+    by true e = first_passes p x xs e
+    by false e = let next = position_at p x xs false e in omega (arith, next, rest)
+
+passes_before : (p : Cursor → Bool) (cursors : List Cursor) (k : ℕ) → k < length cursors → p (get_or cursors k None) ≡ true → position_or_len p cursors < length cursors
+passes_before p [] k within passes = absurd (omega arith)
+passes_before p (x ∷ xs) zero within passes = first_passes p x xs passes
+passes_before p (x ∷ xs) (suc k) within passes = later_passes p x xs (passes_before p xs k (omega arith) passes)
+
+not_none : (p : Cursor → Bool) (cursors : List Cursor) → position_or_len p cursors < length cursors → position p cursors ≡ None → ⊥
+not_none p cursors before none = by (nat_lt (position_or_len p cursors) (length cursors)) refl none
+  where
+    by : (t : Bool) → nat_lt (position_or_len p cursors) (length cursors) ≡ t → cond t (Some (position_or_len p cursors)) None ≡ None → ⊥
+    by true e is = cc
+    by false e is = absurd (grind (arith, nat_tests))
+
+pub inside_at : (cursors : List Cursor) (number : ℕ) (c : OpenCursor) → IsAt cursors number c → number < length cursors
+inside_at [] number c at = none_some at
+inside_at (x ∷ xs) zero c at = omega arith
+inside_at (x ∷ xs) (suc number) c at = let h = inside_at xs number c at in omega (arith, h)
+
+named_is : (name : List ℕ) (c : OpenCursor) → c.name.now ≡ name → is_named name (Some c) ≡ true
+named_is name c is = name_same c.name.now name is
+
+-- if no cursor has the name, it is not open
+pub unknown_closed : {A : Type 0} (set : CursorSet) (cursors : List Cursor) (places : Places) (name : List ℕ) → position (is_named name) cursors ≡ None
+    → IsHeld set cursors places → IsSome (places name) → A
+unknown_closed {A} s cursors places name none held opened = by (places name) refl opened
+  where
+    by : (o : Option ℕ) → places name ≡ o → IsSome o → A
+    by None e h = let t : false ≡ true = h in cc
+    by (Some place) e h =
+        let (number, c, at, is) = held.known name place e in
+        absurd (not_none (is_named name) cursors
+        (passes_before (is_named name) cursors number (inside_at cursors number c at) (ap (is_named name) at ∙ named_is name c is)) none)
+
+-- a cursor that was found by its name
+found_named : (cursors : List Cursor) (number : ℕ) (name : List ℕ) → Some number ≡ position (is_named name) cursors
+    → (c : OpenCursor) × Found cursors number name c.place
+found_named cursors number name e =
+    let h = position-Some (is_named name) cursors number None (sym e) in by (get_or cursors number None) refl h.1 h.0
+  where
+    by : (o : Cursor) → get_or cursors number None ≡ o → is_named name o ≡ true → number < length cursors → (c : OpenCursor) × Found cursors number name c.place
+    by None at passes within = let t : false ≡ true = passes in cc
+    by (Some c) at passes within = (c, record { cursor = c; at = at; is = same_name c.name.now name passes; there = refl; within = within })
+
+pub found_at : (cursors : List Cursor) (number : ℕ) (name : List ℕ) (c : OpenCursor) → Some number ≡ position (is_named name) cursors → IsAt cursors number c
+    → Found cursors number name c.place
+found_at cursors number name c e at =
+    let (d, found) = found_named cursors number name e in
+    record { cursor = c; at = at; is = ap (λ (o : OpenCursor). o.name.now) (some_same (sym at ∙ found.at)) ∙ found.is; there = refl; within = found.within }
+
+-- the number of a cursor that was found is one of the 64
+pub number_below : (cursors : List Cursor) (number : ℕ) (name : List ℕ) → length cursors ≡ 64 → Some number ≡ position (is_named name) cursors → number < 64
+number_below cursors number name long e = let within = (found_named cursors number name e).1.within in omega (arith, long, within)
+
+pub no_cursor : {A : Type 0} (cursors : List Cursor) (number : ℕ) (name : List ℕ) → Some number ≡ position (is_named name) cursors → get_or cursors number None ≡ None → A
+no_cursor cursors number name e none = none_some (sym none ∙ (found_named cursors number name e).1.at)
+
+-- its place in the set is its own place
+pub same_place : (in_set : List (Option ℕ)) (cursors : List Cursor) (number : ℕ) (name : List ℕ) (place : ℕ) → in_set ≡ map place_of_cursor cursors
+    → Found cursors number name place → get_or in_set number None ≡ Some place
+same_place in_set cursors number name place same found =
+    ap (λ (l : List (Option ℕ)). get_or l number None) same ∙ get_or-map place_of_cursor cursors number None None found.within
+    ∙ ap place_of_cursor found.at ∙ ap Some found.there
+
+module _ (old new : CursorSet) (cursors : List Cursor) (places : Places) (number : ℕ) (name : List ℕ) (place : ℕ) (held : IsHeld old cursors places)
+    (found : Found cursors number name place) where
+  pub place_held : get_or old.places number None ≡ Some place
+  place_held = same_place old.places cursors number name place held.same found
+
+  pub place_named : places name ≡ Some place
+  place_named = ap places (sym found.is) ∙ held.placed number found.cursor found.at ∙ ap Some found.there
+
+  held_moved : (now : Cursor) → ((d : OpenCursor) → Is now (Some d) → d.name.now ≡ name) → new.places ≡ set old.places number (place_of_cursor now)
+      → IsHeld new (set cursors number now) (with_cursor places name (place_of_cursor now))
+  held_moved now named moved =
+      held_put old new cursors places number name now held found.within
+      (λ j d dt same. held.distinct j number d found.cursor dt found.at (same ∙ sym found.is))
+      (λ d dt. ap (λ (e : OpenCursor). e.name.now) (some_same (sym dt ∙ found.at)) ∙ found.is) named moved
+
+  -- it gets another place, or is closed
+  pub held_at : (now : OpenCursor) → now.name.now ≡ name → new.places ≡ set old.places number (Some now.place)
+      → IsHeld new (set cursors number (Some now)) (with_cursor places name (Some now.place))
+  held_at now is moved = held_moved (Some now) (λ d same. ap (λ (e : OpenCursor). e.name.now) (sym (some_same same)) ∙ is) moved
+
+  pub held_closed : new.places ≡ set old.places number None → IsHeld new (set cursors number None) (with_cursor places name None)
+  held_closed moved = held_moved None (λ d same. none_some same) moved
+
+  -- a new cursor gets its place
+  pub held_forked : (copy : ℕ) (now : OpenCursor) → position is_none old.places ≡ Some copy → places now.name.now ≡ None → now.place ≡ place
+      → new.places ≡ set old.places copy (get_or old.places number None) → IsHeld new (set cursors copy (Some now)) (with_cursor places now.name.now (places name))
+  held_forked copy now free closed there moved =
+      let P : Option ℕ → Type 0 = λ p. IsHeld new (set cursors copy (Some now)) (with_cursor places now.name.now p) in
+      let here : ◌≡◌ {A = Option ℕ} (Some place) (Some now.place) = ap Some (sym there) in
+      subst P (sym (place_named ∙ here))
+      (held_new old new cursors places copy held free now closed (moved ∙ ap (λ (p : Option ℕ). set old.places copy p) (place_held ∙ here)))

@@ -1,0 +1,70 @@
+use Rattle.std.proofs.Common.{◌≡◌, ◌≤◌, ◌+◌, ℕ, Option, None, IfSome, subst, sym, refl, arith, rules}
+use Rattle.std.proofs.lemmas.List.{length-take-le}
+use Rattle.step_bounds.proofs.Pacing.{calls_more, calls_same}
+use Rattle.step_bounds.proofs.Calls.{called_more, counted_few, limit_below, limit_reached, limit_within}
+use Rattle.command_output.proofs.GivenEnds.{calls_within, taken_all, taken_limit, taken_more}
+use Rattle.command_output.proofs.ends.take_ends.Goals as goal
+
+pub returns-in_err-answer-clause-bounded : goal.returns-in_err-answer-clause-bounded
+returns-in_err-answer-clause-bounded g c =
+    let answers = g.E.Ranked.rest c.args.engine.now in
+    let i = c.loop-given._given in
+    let below = limit_below c.args.limit i _ _ c.unwrap_or-most.ensures c.loop-given-test.true in
+    let called = called_more g.E.Ranked.share g.met.E.Ranked.share_rises _ _ i _ _ _ _ _ _ _ _ c.loop-given.invariant.called (g.met.E.Ranked.due_within c.loop-given.engine)
+    c.next.ensures.cost (counted_few _ _ c.next.ensures.counted) c.next.ensures.size in
+    calls_within g.E.Ranked.share g.met.E.Ranked.share_rises _ _ (i + 1) _ _ _ _ _ called (calls_more c.args.limit answers i c.loop-given.invariant.within below)
+
+pub returns-in_default-clause-ends : goal.returns-in_default-clause-ends
+returns-in_default-clause-ends g c =
+    let i = c.loop-given._given in
+    let low = limit_within c.args.limit i _ _ c.unwrap_or-most.ensures c.loop-given-test.true in
+    let ended = rw c.in_default.is at c.in_ok-answer.ensures.end in
+    taken_all (g.E.Ranked.rest c.args.engine.now) i _ c.loop-given.ends _ _ _ _ _ _ _ c.loop-given.invariant c.args.limit low ended.0
+
+pub returns-in_default-clause-bounded : goal.returns-in_default-clause-bounded
+returns-in_default-clause-bounded g c =
+    let answers = g.E.Ranked.rest c.args.engine.now in
+    let i = c.loop-given._given in
+    let below = limit_below c.args.limit i _ _ c.unwrap_or-most.ensures c.loop-given-test.true in
+    let called = called_more g.E.Ranked.share g.met.E.Ranked.share_rises _ _ i _ _ _ _ _ _ _ _ c.loop-given.invariant.called (g.met.E.Ranked.due_within c.loop-given.engine)
+    c.next.ensures.cost (counted_few _ _ c.next.ensures.counted) c.next.ensures.size in
+    calls_within g.E.Ranked.share g.met.E.Ranked.share_rises _ _ (i + 1) _ _ _ _ _ called (calls_more c.args.limit answers i c.loop-given.invariant.within below)
+
+pub push-requires : goal.push-requires
+push-requires g c =
+    let answers = g.E.Ranked.rest c.args.engine.now in
+    let i = c.loop-given._given in
+    let taken = length-take-le i answers c.loop-given.invariant.within in
+    omega (arith, taken, c.loop-given.invariant.kept.count, c.loop-given-test.true, c.loop-given.auto._given-end)
+
+pub loop-given-preserved : goal.loop-given-preserved
+loop-given-preserved g c =
+    let answers = g.E.Ranked.rest c.args.engine.now in
+    let i = c.loop-given._given in
+    let found = rw c.in-Some.is at c.in_ok-answer.ensures.found in
+    let called = called_more g.E.Ranked.share g.met.E.Ranked.share_rises _ _ i _ _ _ _ _ _ _ _ c.loop-given.invariant.called (g.met.E.Ranked.due_within c.loop-given.engine)
+    c.next.ensures.cost (counted_few _ _ c.next.ensures.counted) c.next.ensures.size in
+    taken_more answers i _ c.loop-given.ends _ _ _ _ _ _ _ c.loop-given.invariant _ _ _ _ _ _ found
+    (c.push.ensures _ _ c.loop-given.invariant.kept refl) called
+
+pub returns-then-is_none-clause-bounded : goal.returns-then-is_none-clause-bounded
+returns-then-is_none-clause-bounded g c =
+    let answers = g.E.Ranked.rest c.args.engine.now in
+    let i = c.loop-given._given in
+    let none : c.args.limit ≡ None = search rules in
+    let low = subst (λ (o : Option ℕ). IfSome o (λ n. i ≤ n)) (sym none) tt in
+    calls_within g.E.Ranked.share g.met.E.Ranked.share_rises _ _ i _ _ _ _ _ c.loop-given.invariant.called (calls_same c.args.limit answers i c.loop-given.invariant.within low)
+
+pub returns-clause-ends : goal.returns-clause-ends
+returns-clause-ends g c =
+    let i = c.loop-given._given in
+    let reached = limit_reached c.args.limit i _ _ c.unwrap_or-most.ensures c.if-is_none.ensures c.loop-given-test.false c.loop-given.auto._given-end in
+    taken_limit (g.E.Ranked.rest c.args.engine.now) i _ c.loop-given.ends _ _ _ _ _ _ _ c.loop-given.invariant c.args.limit reached
+
+pub returns-clause-bounded : goal.returns-clause-bounded
+returns-clause-bounded g c =
+    let answers = g.E.Ranked.rest c.args.engine.now in
+    let i = c.loop-given._given in
+    let reached = limit_reached c.args.limit i _ _ c.unwrap_or-most.ensures c.if-is_none.ensures c.loop-given-test.false c.loop-given.auto._given-end in
+    let low = subst (λ (o : Option ℕ). IfSome o (λ n. i ≤ n)) (sym reached) (omega arith) in
+    calls_within g.E.Ranked.share g.met.E.Ranked.share_rises _ _ i _ _ _ _ _ c.loop-given.invariant.called (calls_same c.args.limit answers i c.loop-given.invariant.within low)

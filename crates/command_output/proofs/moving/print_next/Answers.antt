@@ -1,0 +1,209 @@
+use Rattle.std.proofs.Common.{◌≡◌, ◌+◌, ◌-◌, ◌++◌, ℕ, List, None, Err, Ok, length, drop, take, ap, sym, refl, subst, ◌∙◌, arith, rules}
+use Rattle.std.specs.Prelude.{codes, slice_set}
+use Rattle.std.proofs.lemmas.List.{set-get_or}
+use Rattle.anyk_model.specs.Query.{IsCombination, row_counts}
+use Rattle.refusal_lines.specs.declared.fault.PrintFault.TheVariants as fault
+use Rattle.refusal_lines.specs.Printing.{Printed}
+use Rattle.refusal_lines.specs.SinkState.{state_of}
+use Rattle.verdict.specs.Session.{next_text}
+use Rattle.tdp_core.specs.AnswerView.{AnswerView}
+use Rattle.command_output.specs.SessionListing.{line_in, members_in, ranking_in}
+use Rattle.command_output.proofs.Follows.{always, answer_given, answer_inside, answers_ended, at_none, at_some, ending_left, given_all, given_less, next_done, next_start, place_set, places_set, told_all}
+use Rattle.command_output.proofs.SessionCosts.{paid_spent, spent_places}
+use Rattle.command_output.proofs.Reach.{HasGiven, given_done, given_more, given_spent, given_within}
+use Rattle.command_output.proofs.Left.{HasLeft, left_last, left_more, left_none, left_stopped, left_unprinted, left_whole}
+use Rattle.command_output.proofs.moving.print_next.Given.{Over}
+use Rattle.command_output.proofs.moving.print_next.Goals.{At-loop-given}
+use Rattle.command_output.proofs.moving.print_next.Goals as goal
+
+-- # What the proofs share
+
+module _ (g : Over) (c : At-loop-given g) where
+  -- the combination that an answer stands for
+  abbrev rows_of : AnswerView → List ℕ
+  rows_of a = take (length c.args.listing.now.query.now.query.items) a.rows
+
+  -- the list, and its members within the limit
+  abbrev ranking : List (List ℕ)
+  ranking = ranking_in c.args.listing.now c.args.set.now.answers
+
+  abbrev members : List (List ℕ)
+  members = members_in c.args.listing.now c.args.set.now.answers
+
+  -- what is printed of a member, and at the end
+  abbrev line : List ℕ → List ℕ
+  line = line_in c.args.listing.now c.args.name.now
+
+  abbrev ending : List ℕ
+  ending = c.args.name.now ++ codes "\n"
+
+  -- the whole text, and what is left of it
+  abbrev whole : List ℕ
+  whole = next_text line ending (drop c.args.place.now members) c.args.count
+
+  abbrev left : List ℕ
+  left = next_text line ending (drop (c.args.place.now + c.loop-given._given) members) (c.args.count - c.loop-given._given)
+
+  -- the members that were given, and their cost
+  given : HasGiven g.E.Ranked.share c.args.listing.now.query.now.query.limit ranking c.args.place.now c.loop-given._given c.args.count c.loop-given.place
+      c.args.set.now c.loop-given.set c.args.steps.now c.loop-given.steps
+  given = record {
+    rises = g.met.E.Ranked.share_rises;
+    is = c.loop-given.invariant.place;
+    within = c.loop-given.invariant.within;
+    spent = c.loop-given.invariant.spent;
+  }
+
+pub loop-given-init : goal.loop-given-init
+loop-given-init g c =
+    let members = members_in c.args.listing.now c.args.set.now.answers in
+    let line = line_in c.args.listing.now c.args.name.now in
+    let ending = c.args.name.now ++ codes "\n" in
+    let start = c.args.place.now in
+    let whole = next_text line ending (drop start members) c.args.count in
+    record {
+      place = omega arith;
+      within = omega arith;
+      answers = refl;
+      places = sym (set-get_or c.args.set.now.places c.args.id.number None) ∙ ap (λ p. slice_set c.args.set.now.places c.args.id.number p) c.requires.here;
+      here = c.requires.here;
+      left = next_start (λ left. HasLeft whole left (state_of g.S.Sink c.args.out.now) (state_of g.S.Sink c.args.out.now))
+          line ending members start c.args.count (left_whole whole (state_of g.S.Sink c.args.out.now));
+      spent = spent_places g.E.Ranked.share g.met.E.Ranked.share_rises c.args.set.now c.args.set.now (start + 0) 0 c.args.steps.now c.args.steps.now refl (omega arith);
+    }
+
+pub next_member-requires : goal.next_member-requires
+next_member-requires g c = c.loop-given.invariant.here
+
+pub returns-in_default-clause-printed : goal.returns-in_default-clause-printed
+returns-in_default-clause-printed g c =
+    let loop = (goal.at.returns-in_default-clause-printed g c).At-loop-given in
+    let start = c.args.place.now in
+    let done = c.loop-given._given in
+    let ended = at_none _ _ c.in_default.is c.in_ok-answer.ensures.end in
+    let short = answers_ended (rows_of g loop) c.args.listing.now.query.now.query.limit c.args.set.now.answers start done c.loop-given.place c.loop-given.invariant.place
+    (rw (c.limit.ensures, c.loop-given.invariant.answers) at ended.1) in
+    let last = ending_left (line g loop) (ending g loop) (members g loop) start done c.args.count short c.loop-given-test.true in
+    let P : List ℕ → Type 0 = λ text. Printed (state_of g.S.Sink c.loop-given.out) (state_of g.S.Sink c.print_end.new.out) text c.print_end.result in
+    left_last (whole g loop) (left g loop) _ _ _ c.loop-given.invariant.left c.print_end.result (subst P (sym last) c.print_end.ensures)
+
+pub returns-in_default-clause-moved : goal.returns-in_default-clause-moved
+returns-in_default-clause-moved g c =
+    let loop = (goal.at.returns-in_default-clause-moved g c).At-loop-given in
+    let start = c.args.place.now in
+    let done = c.loop-given._given in
+    let ended = at_none _ _ c.in_default.is c.in_ok-answer.ensures.end in
+    let short = answers_ended (rows_of g loop) c.args.listing.now.query.now.query.limit c.args.set.now.answers start done c.loop-given.place c.loop-given.invariant.place
+    (rw (c.limit.ensures, c.loop-given.invariant.answers) at ended.1) in
+    let all = given_less (members g loop) start done c.args.count c.loop-given.invariant.within c.loop-given-test.true short in
+    always c.print_end.result (omega (arith, ended.0, c.loop-given.invariant.place, all))
+
+pub returns-in_default-clause-places : goal.returns-in_default-clause-places
+returns-in_default-clause-places g c =
+    always c.print_end.result
+    (places_set c.args.set.now.places c.loop-given.set.places c.next_member.new.set.places c.args.id.number c.loop-given.place c.next_member.new.place
+    c.loop-given.invariant.places c.in_ok-answer.ensures.places)
+
+pub returns-in_default-clause-kept : goal.returns-in_default-clause-kept
+returns-in_default-clause-kept g c = always c.print_end.result (c.in_ok-answer.ensures.kept ∙ c.loop-given.invariant.answers)
+
+pub print_answer-requires-clause-rows : goal.print_answer-requires-clause-rows
+print_answer-requires-clause-rows g c =
+    let query = c.args.listing.now.query.now.query in
+    let found = at_some _ _ _ c.in-Some.is c.in_ok-answer.ensures.some in
+    let at_place = rw c.loop-given.invariant.answers at found.2 in
+    told_all (λ (a : AnswerView). IsCombination (row_counts query.items c.args.listing.now.tables.now) (take (length query.items) a.rows)) c.args.set.now.answers
+    c.loop-given.place _ c.requires.rows at_place
+
+pub loop-given-preserved : goal.loop-given-preserved
+loop-given-preserved g c =
+    let loop = (goal.at.loop-given-preserved g c).At-loop-given in
+    let limit = c.args.listing.now.query.now.query.limit in
+    let start = c.args.place.now in
+    let done = c.loop-given._given in
+    let place = c.loop-given.place in
+    let at = c.loop-given.invariant.place in
+    let found = at_some _ _ _ c.in-Some.is c.in_ok-answer.ensures.some in
+    let below = rw c.limit.ensures at found.0 in
+    let here = rw c.loop-given.invariant.answers at found.2 in
+    let split = answer_given (rows_of g loop) limit c.args.set.now.answers start done place at (line g loop) (ending g loop) c.args.count _
+    c.loop-given-test.true below here in
+    let printed = c.in_ok-print_answer.ensures in
+    record {
+      place = omega (arith, found.1, at);
+      within = answer_inside (rows_of g loop) limit c.args.set.now.answers start done place at _ below here;
+      answers = c.in_ok-answer.ensures.kept ∙ c.loop-given.invariant.answers;
+      places = places_set c.args.set.now.places c.loop-given.set.places c.next_member.new.set.places c.args.id.number place c.next_member.new.place
+          c.loop-given.invariant.places c.in_ok-answer.ensures.places;
+      here = place_set c.loop-given.set.places c.next_member.new.set.places c.args.id.number place c.next_member.new.place c.loop-given.invariant.here
+          c.in_ok-answer.ensures.places;
+      left = left_more (whole g loop) (left g loop) _ _ _ c.loop-given.invariant.left _ _ split printed.whole printed.later;
+      spent = given_more (given g loop) c.next_member.new.set c.next_member.new.steps below (rw c.limit.ensures at c.in_ok-answer.ensures.paid.spent);
+    }
+
+pub returns-clause-printed : goal.returns-clause-printed
+returns-clause-printed g c =
+    let loop = (goal.at.returns-clause-printed g c).At-loop-given in
+    let start = c.args.place.now in
+    let done = c.loop-given._given in
+    left_none (whole g loop) (left g loop) _ _ c.loop-given.invariant.left
+    (next_done (line g loop) (ending g loop) (members g loop) (start + done) (c.args.count - done) (omega (arith, c.loop-given-test.false)))
+
+pub returns-clause-moved : goal.returns-clause-moved
+returns-clause-moved g c =
+    let loop = (goal.at.returns-clause-moved g c).At-loop-given in
+    let all = given_all (members g loop) c.args.place.now c.loop-given._given c.args.count c.loop-given.invariant.within (omega arith) in
+    omega (arith, c.loop-given.invariant.place, all)
+
+pub returns-in_default-clause-paid : goal.returns-in_default-clause-paid
+returns-in_default-clause-paid g c =
+    let loop = (goal.at.returns-in_default-clause-paid g c).At-loop-given in
+    paid_spent g.E.Ranked.share g.met.E.Ranked.share_rises c.args.set.now c.next_member.new.set _ _ c.args.steps.now c.next_member.new.steps c.print_end.result
+    (given_spent (given g loop) c.next_member.new.set c.next_member.new.steps c.loop-given-test.true (rw c.limit.ensures at c.in_ok-answer.ensures.paid.spent))
+
+pub returns-clause-paid : goal.returns-clause-paid
+returns-clause-paid g c =
+    let loop = (goal.at.returns-clause-paid g c).At-loop-given in
+    paid_spent g.E.Ranked.share g.met.E.Ranked.share_rises c.args.set.now c.loop-given.set _ _ c.args.steps.now c.loop-given.steps (Ok tt)
+    (given_done (given g loop) (omega arith))
+
+pub print_answer-requires-clause-fits : goal.print_answer-requires-clause-fits
+print_answer-requires-clause-fits g c = c.requires.fits
+
+pub returns-clause-places : goal.returns-clause-places
+returns-clause-places g c = c.loop-given.invariant.places
+
+pub returns-clause-kept : goal.returns-clause-kept
+returns-clause-kept g c = c.loop-given.invariant.answers
+
+pub returns-in_err-answer : goal.returns-in_err-answer
+returns-in_err-answer g c =
+    let loop = (goal.at.returns-in_err-answer g c).At-loop-given in
+    let e : c.from_residual.result ≡ Err fault.NoMemory = search rules in
+    rw e (record {
+      printed = left_unprinted (whole g loop) (left g loop) _ _ c.loop-given.invariant.left;
+      moved = tt;
+      places = tt;
+      kept = tt;
+      paid = record {
+        spent = tt;
+        within = given_within (given g loop) c.next_member.new.steps c.loop-given-test.true (rw c.limit.ensures at c.in_err-answer.ensures.paid.within);
+      };
+    })
+
+pub returns-in_err-print_answer : goal.returns-in_err-print_answer
+returns-in_err-print_answer g c =
+    let loop = (goal.at.returns-in_err-print_answer g c).At-loop-given in
+    let found = at_some _ _ _ c.in-Some.is c.in_ok-answer.ensures.some in
+    let split = answer_given (rows_of g loop) c.args.listing.now.query.now.query.limit c.args.set.now.answers c.args.place.now c.loop-given._given c.loop-given.place
+    c.loop-given.invariant.place (line g loop) (ending g loop) c.args.count _ c.loop-given-test.true (rw c.limit.ensures at found.0) (rw c.loop-given.invariant.answers at found.2) in
+    let e : c.from_residual-in_err-print_answer.result ≡ Err c.in_err-print_answer.field-0.0 = search rules in
+    rw e (record {
+      printed = left_stopped (whole g loop) (left g loop) _ _ _ c.loop-given.invariant.left _ _ c.in_err-print_answer.field-0.0 split c.in_err-print_answer.ensures;
+      moved = tt;
+      places = tt;
+      kept = tt;
+      paid = paid_spent g.E.Ranked.share g.met.E.Ranked.share_rises c.args.set.now c.next_member.new.set _ _ c.args.steps.now c.next_member.new.steps
+          (Err c.in_err-print_answer.field-0.0)
+          (given_spent (given g loop) c.next_member.new.set c.next_member.new.steps c.loop-given-test.true (rw c.limit.ensures at c.in_ok-answer.ensures.paid.spent));
+    })

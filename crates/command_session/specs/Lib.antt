@@ -1,5 +1,0 @@
-pub mod OpenCursors
-pub mod Rules
-pub mod Costs
-pub mod Listing
-pub mod Taken

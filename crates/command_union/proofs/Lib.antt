@@ -1,3 +1,0 @@
-pub mod Calls
-pub mod Pacing
-pub mod Members

@@ -1,5 +1,0 @@
-use Rattle.input_load.proofs.BoundQueries.{HasQueries}
-use Rattle.input_load.proofs.binding.bind_queries.Given as goal
-
-abbrev pub invariant-loop-select : goal.invariant-loop-select
-invariant-loop-select l = HasQueries l.selects l.tables l.select-index l.rest l.queries.items

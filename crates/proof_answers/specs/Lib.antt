@@ -1,4 +1,0 @@
-pub mod Coverage
-pub mod Lows
-pub mod RowPlaces
-pub mod Solutions

@@ -1,6 +1,0 @@
-use Rattle.proof_text.specs.ProofView.{proof_view}
-use Rattle.proof_bounds.specs.Lines.{AreLineGroups}
-use Rattle.proof_bounds.proofs.groups.line_groups.Given as goal
-
-abbrev pub invariant-loop-line : goal.invariant-loop-line
-invariant-loop-line g l = AreLineGroups l.raw (proof_view l.proof) l.tops l.line l.groups.items

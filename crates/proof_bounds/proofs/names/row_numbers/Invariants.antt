@@ -1,5 +1,0 @@
-use Rattle.proof_bounds.specs.Lines.{AreNumbers}
-use Rattle.proof_bounds.proofs.names.row_numbers.Given as goal
-
-abbrev pub invariant-loop-row : goal.invariant-loop-row
-invariant-loop-row g l = AreNumbers l.raw l.groups l.node l.child l.row l.numbers.items

@@ -1,6 +1,0 @@
-use Rattle.std.proofs.Common.{◌≡◌}
-use Rattle.proof_bounds.proofs.RankSums.{rank_sum}
-use Rattle.proof_bounds.proofs.places.rank_of_places.Given as goal
-
-abbrev pub invariant-loop-at : goal.invariant-loop-at
-invariant-loop-at g l = g.R.Rank.key l.rank ≡ rank_sum g.R.Rank.KEYS g.R.Rank.key l.raw l.node l.places l.at

@@ -1,5 +1,0 @@
-pub mod BoundedRows
-pub mod Faults
-pub mod Lines
-pub mod Places
-pub mod Subtrees

@@ -1,0 +1,99 @@
+use Rattle.std.proofs.Common.{◌≡◌, option_map, length, sym, ap, subst, inl, inr, arith}
+use Rattle.std.proofs.lemmas.Bool.{cases_lt, false≢true}
+use Rattle.tdp_core.specs.RawView.{IsRawFormed}
+use Rattle.proof_check.proofs.Nodes.{all_nodes}
+use Rattle.proof_check.specs.Levels.{IsPassedAt}
+use Rattle.std.proofs.lemmas.Result.{IfOk-from_err}
+use Rattle.proof_check.proofs.choices.all_leave_after.Goals as goal
+
+pub node_leaves_after-requires-clause-ready : goal.node_leaves_after-requires-clause-ready
+node_leaves_after-requires-clause-ready g c =
+    let b = c.requires.bounded in
+    let join = c.args.join in
+    let long : length join.atom ≡ 16 = omega arith in
+    record {
+      ordered = c.requires.ordered;
+      bounded = b;
+      formed = subst (λ z. IsRawFormed g.R.Rank.KEYS g.R.Rank.key z.raw) c.tree.view_is c.nodes-node-end.ensures.formed;
+      long = long;
+      node = omega (
+        arith,
+        c.loop-node-test.true,
+        c.nodes-node-end.ensures.count,
+        ap (λ z. length z.raw.shapes) c.tree.view_is,
+        b.bounded.rows.nodes,
+        all_nodes b.query b.tables join c.requires.ordered long,
+      );
+    }
+
+pub node_leaves_after-requires-clause-within : goal.node_leaves_after-requires-clause-within
+node_leaves_after-requires-clause-within g c = c.requires.within
+
+pub node_leaves_after-requires-clause-prefixes : goal.node_leaves_after-requires-clause-prefixes
+node_leaves_after-requires-clause-prefixes g c = c.loop-node.invariant.prefixes
+
+pub loop-node-init : goal.loop-node-init
+loop-node-init g c = record { prefixes = c.in_ok-prefixes.ensures; passed = λ p l. absurd (omega (arith, l)) }
+
+pub loop-node-preserved : goal.loop-node-preserved
+loop-node-preserved g c =
+    let key = g.R.Rank.key in
+    let last = option_map key c.args.last.now in
+    record {
+      prefixes = c.in-Ok-true.ensures.prefixes;
+      passed = λ p l. elim (cases_lt p c.loop-node.node) [
+        | inl less ↦ c.loop-node.invariant.passed p less
+        | inr far ↦
+            let at : p ≡ c.loop-node.node = omega (arith, l, far) in
+            subst (IsPassedAt c.args.join c.args.tree.now g.R.Rank.KEYS key c.args.places.now last) (sym at)
+            (c.in-Ok-true.ensures.passed c.in-Ok-true.field-0-test)
+      ];
+    }
+
+pub returns-clause-room : goal.returns-clause-room
+returns-clause-room g c = omega arith
+
+pub returns-clause-passed : goal.returns-clause-passed
+returns-clause-passed g c _ p l =
+    let b = c.requires.bounded in
+    let join = c.args.join in
+    let long : length join.atom ≡ 16 = omega arith in
+    c.loop-node.invariant.passed p (omega (
+      arith,
+      l,
+      c.loop-node-test.false,
+      c.nodes-node-end.ensures.count,
+      ap (λ z. length z.raw.shapes) c.tree.view_is,
+      b.bounded.rows.nodes,
+      all_nodes b.query b.tables join c.requires.ordered long,
+    ))
+
+pub returns-clause-missed : goal.returns-clause-missed
+returns-clause-missed g c bad = absurd (false≢true (sym bad))
+
+pub returns-in_err-prefixes-clause-room : goal.returns-in_err-prefixes-clause-room
+returns-in_err-prefixes-clause-room g c = omega arith
+
+pub returns-in_err-prefixes-clause-passed : goal.returns-in_err-prefixes-clause-passed
+returns-in_err-prefixes-clause-passed g c = IfOk-from_err c.from_residual.result _ c.from_residual.ensures.0
+
+pub returns-in_err-prefixes-clause-missed : goal.returns-in_err-prefixes-clause-missed
+returns-in_err-prefixes-clause-missed g c = IfOk-from_err c.from_residual.result _ c.from_residual.ensures.0
+
+pub returns-in-Ok-false-clause-room : goal.returns-in-Ok-false-clause-room
+returns-in-Ok-false-clause-room g c = omega arith
+
+pub returns-in-Ok-false-clause-passed : goal.returns-in-Ok-false-clause-passed
+returns-in-Ok-false-clause-passed g c good = absurd (false≢true good)
+
+pub returns-in-Ok-false-clause-missed : goal.returns-in-Ok-false-clause-missed
+returns-in-Ok-false-clause-missed g c _ = c.in-Ok-false.ensures.missed c.in-Ok-false.field-0-test
+
+pub returns-in-Err-clause-room : goal.returns-in-Err-clause-room
+returns-in-Err-clause-room g c = omega arith
+
+pub returns-in-Err-clause-passed : goal.returns-in-Err-clause-passed
+returns-in-Err-clause-passed g c = tt
+
+pub returns-in-Err-clause-missed : goal.returns-in-Err-clause-missed
+returns-in-Err-clause-missed g c = tt

@@ -1,0 +1,6 @@
+use Rattle.proof_text.specs.ProofView.{proof_view}
+use Rattle.proof_check.specs.Lines.{AreLineGroups}
+use Rattle.proof_check.proofs.groups.line_groups.Given as goal
+
+abbrev pub invariant-loop-line : goal.invariant-loop-line
+invariant-loop-line g l = AreLineGroups l.raw (proof_view l.proof) l.tops l.line l.groups.items

@@ -1,0 +1,14 @@
+use Rattle.std.proofs.Common.{[], ◌∷◌, ◌++◌, ap, ◌∙◌}
+use Rattle.std.proofs.lemmas.List.{replicate-append-replicate}
+use Rattle.std.proofs.lemmas.Result.{IfOk-from_err}
+use Rattle.proof_check.proofs.groups.no_groups.Goals as goal
+
+pub returns-in_err-push : goal.returns-in_err-push
+returns-in_err-push c = IfOk-from_err c.from_residual.result _ c.from_residual.ensures.0
+
+pub loop-node-preserved : goal.loop-node-preserved
+loop-node-preserved c =
+    let old = c.loop-node.groups.items in
+    c.in_ok-push.ensures.items
+    ∙ ap (λ x. old ++ (x ∷ [])) c.new-none.ensures
+    ∙ ap (λ xs. xs ++ ([] ∷ [])) c.loop-node.invariant ∙ replicate-append-replicate c.loop-node._node 1 []

@@ -1,0 +1,29 @@
+use Rattle.std.proofs.Common.{◌+◌, None, [], ◌∷◌, length, get_or, ap, ◌∙◌, arith, length-append}
+use Rattle.std.proofs.lemmas.List.{get_or_past}
+use Rattle.std.proofs.lemmas.Result.{IfOk-from_err}
+use Rattle.proof_check.proofs.Nothing.{nothing_more}
+use Rattle.proof_check.proofs.leaving.nothing_known.Goals as goal
+
+pub loop-group-init : goal.loop-group-init
+loop-group-init g c = record {
+  count = ap length c.new-least.ensures.items;
+  none = λ k. ap (λ xs. get_or xs k None) c.new-least.ensures.items ∙ get_or_past [] k None (omega arith);
+}
+
+pub returns-in_err-push-clause-count : goal.returns-in_err-push-clause-count
+returns-in_err-push-clause-count g c = IfOk-from_err c.from_residual.result _ c.from_residual.ensures.0
+
+pub returns-in_err-push-clause-none : goal.returns-in_err-push-clause-none
+returns-in_err-push-clause-none g c = IfOk-from_err c.from_residual.result _ c.from_residual.ensures.0
+
+pub loop-group-preserved : goal.loop-group-preserved
+loop-group-preserved g c = record {
+  count = ap length c.in_ok-push.ensures.items ∙ length-append c.loop-group.least.items (None ∷ []) ∙ ap (λ n. n + 1) c.loop-group.invariant.count;
+  none = λ k. ap (λ xs. get_or xs k None) c.in_ok-push.ensures.items ∙ nothing_more c.loop-group.least.items None c.loop-group.invariant.none k;
+}
+
+pub returns-clause-count : goal.returns-clause-count
+returns-clause-count g c = let n = c.loop-group.invariant.count in omega (arith, n)
+
+pub returns-clause-none : goal.returns-clause-none
+returns-clause-none g c = c.loop-group.invariant.none

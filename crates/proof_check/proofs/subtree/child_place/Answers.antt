@@ -1,0 +1,56 @@
+use Rattle.std.proofs.Common.{◌≡◌, ◌≢◌, ◌+◌, ◌-◌, length, sym, ap, ◌∙◌, arith}
+use Rattle.tdp_core.specs.RawView.{shape_parent}
+use Rattle.tdp_core.specs.TreeView.{kids_below}
+use Rattle.tdp_core.proofs.Children.{kids_below_first, kids_below_child, kids_below_other, kids_below_most, child_place_within}
+use Rattle.proof_check.proofs.Subtrees.{parents_first_lem}
+use Rattle.proof_check.proofs.subtree.child_place.Goals as goal
+use Rattle.proof_check.proofs.subtree.child_place.Goals.{then-shape-parent, else-shape-parent}
+
+pub loop-other-init : goal.loop-other-init
+loop-other-init g c =
+    sym (kids_below_first (shape_parent c.args.raw.now.shapes) (shape_parent c.args.raw.now.shapes c.args.node))
+
+pub overflow_add-place : goal.overflow_add-place
+overflow_add-place g c =
+    let most = kids_below_most (shape_parent c.args.raw.now.shapes) (shape_parent c.args.raw.now.shapes c.args.node) c.loop-other.other in
+    omega (arith, most)
+
+pub loop-other-preserved : goal.loop-other-preserved
+loop-other-preserved g c =
+    let here = ap (λ s. s.parent) c.shape.ensures in
+    let there = ap (λ s. s.parent) c.shape-in-loop-other.ensures in
+    elim c.if-shape-parent.branch [
+      | then-shape-parent w ↦
+          let same : shape_parent c.args.raw.now.shapes c.loop-other.other ≡ shape_parent c.args.raw.now.shapes c.args.node =
+          sym there ∙ w.if-shape-parent.true ∙ here in
+          let more = kids_below_child (shape_parent c.args.raw.now.shapes) (shape_parent c.args.raw.now.shapes c.args.node)
+          c.loop-other.other (omega arith) same in
+          omega (arith, more)
+      | else-shape-parent w ↦
+          let other : shape_parent c.args.raw.now.shapes c.loop-other.other ≢ shape_parent c.args.raw.now.shapes c.args.node =
+          λ e. w.if-shape-parent.false (there ∙ e ∙ sym here) in
+          let more = kids_below_other (shape_parent c.args.raw.now.shapes) (shape_parent c.args.raw.now.shapes c.args.node)
+          c.loop-other.other other in
+          omega (arith, more)
+    ]
+
+pub returns-clause-place : goal.returns-clause-place
+returns-clause-place g c =
+    let end : c.loop-other.other ≡ c.args.node = omega arith in
+    c.loop-other.invariant
+    ∙ ap (kids_below (shape_parent c.args.raw.now.shapes) (shape_parent c.args.raw.now.shapes c.args.node)) end
+
+pub returns-clause-within : goal.returns-clause-within
+returns-clause-within g c =
+    let end : c.loop-other.other ≡ c.args.node = omega arith in
+    let kids = kids_below (shape_parent c.args.raw.now.shapes) (shape_parent c.args.raw.now.shapes c.args.node) in
+    let here = ap kids end in
+    let rest = length c.args.raw.now.shapes - (c.args.node + 1) in
+    let whole : rest + (c.args.node + 1) ≡ length c.args.raw.now.shapes = omega arith in
+    let less = child_place_within (shape_parent c.args.raw.now.shapes) c.args.node rest c.requires.below_root in
+    let all = ap kids whole in
+    omega (arith, here, less, all)
+
+pub returns-clause-above : goal.returns-clause-above
+returns-clause-above g c =
+    parents_first_lem c.args.raw.now c.nodes-nodes.ensures.formed.shaped c.args.node c.requires.below_root c.requires.node

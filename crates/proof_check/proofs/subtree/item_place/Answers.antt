@@ -1,0 +1,55 @@
+use Rattle.std.proofs.Common.{◌≡◌, ◌+◌, ◌<◌, length, sym, ap, ◌∙◌, arith}
+use Rattle.tdp_model.specs.TreeProblem.{sum_from}
+use Rattle.step_bounds.proofs.NodeSums.{sum_none}
+use Rattle.proof_check.proofs.Subtrees.{before, below_small, place_more, place_same, place_within}
+use Rattle.proof_check.proofs.subtree.item_place.Goals as goal
+use Rattle.proof_check.proofs.subtree.item_place.Goals.{then-shape-item, else-shape-item}
+
+pub loop-other-init : goal.loop-other-init
+loop-other-init g c = record {
+  few = omega arith;
+  sum = λ v l are. sym (sum_none (before c.args.raw.now c.nodes-nodes.ensures.formed.shaped v c.args.node));
+}
+
+pub overflow_add-place : goal.overflow_add-place
+overflow_add-place g c =
+    let inside : c.loop-other.other < length c.args.raw.now.shapes = omega (arith, c.nodes-nodes.ensures.count) in
+    let few = c.nodes-nodes.ensures.formed.shaped.few_nodes in
+    let at = c.requires.below.2 c.loop-other.other inside in
+    let small = below_small c.args.raw.now c.nodes-nodes.ensures.formed.shaped c.requires.below.0 c.loop-other.other inside in
+    omega (arith, few, at, small, c.loop-other.invariant.few)
+
+pub loop-other-preserved : goal.loop-other-preserved
+loop-other-preserved g c =
+    let inside : c.loop-other.other < length c.args.raw.now.shapes = omega (arith, c.nodes-nodes.ensures.count) in
+    let at = c.requires.below.2 c.loop-other.other inside in
+    let small = below_small c.args.raw.now c.nodes-nodes.ensures.formed.shaped c.requires.below.0 c.loop-other.other inside in
+    let here = ap (λ s. s.item) c.shape.ensures in
+    let there = ap (λ s. s.item) c.shape-in-loop-other.ensures in
+    elim c.if-shape-item.branch [
+      | then-shape-item w ↦ record {
+        few = omega (arith, at, small, c.loop-other.invariant.few, w.place-is);
+        sum = λ v l are. w.place-is
+            ∙ place_more c.args.raw.now c.nodes-nodes.ensures.formed.shaped v c.args.node c.loop-other.other c.loop-other.place
+            c.args.below.now are inside (omega (arith, here, there, w.if-shape-item.true)) (c.loop-other.invariant.sum v l are);
+      }
+      | else-shape-item w ↦ record {
+        few = omega (arith, c.loop-other.invariant.few, w.place-is);
+        sum = λ v l are. w.place-is
+            ∙ place_same c.args.raw.now c.nodes-nodes.ensures.formed.shaped v c.args.node c.loop-other.other c.loop-other.place
+            (omega (arith, here, there, w.if-shape-item.false)) (c.loop-other.invariant.sum v l are);
+      }
+    ]
+
+pub returns-clause-place : goal.returns-clause-place
+returns-clause-place g c = λ v l are.
+    let end : c.loop-other.other ≡ length c.args.raw.now.shapes = omega (arith, c.nodes-nodes.ensures.count) in
+    c.loop-other.invariant.sum v l are
+    ∙ ap (λ n. sum_from ◌+◌ 0 (before c.args.raw.now c.nodes-nodes.ensures.formed.shaped v c.args.node) n 0) end
+
+pub returns-clause-within : goal.returns-clause-within
+returns-clause-within g c = λ v l are some.
+    let end : c.loop-other.other ≡ length c.args.raw.now.shapes = omega (arith, c.nodes-nodes.ensures.count) in
+    let place = c.loop-other.invariant.sum v l are
+    ∙ ap (λ n. sum_from ◌+◌ 0 (before c.args.raw.now c.nodes-nodes.ensures.formed.shaped v c.args.node) n 0) end in
+    omega (arith, place, place_within c.args.raw.now c.nodes-nodes.ensures.formed.shaped v c.args.node c.requires.node some)

@@ -1,0 +1,33 @@
+//! Rows found by their numbers.
+ghost use Rattle.std.specs.Prelude.{◌≡◌, ◌≢◌, ℕ, ◌<◌, length, IfNone, IfSome};
+ghost use Rattle.tdp_core.specs.RawView.{raw_len, raw_number};
+ghost use Rattle.proof_check.specs.Subtrees.{AreAscending};
+
+use rank_key::Rank;
+use tdp_core::RawTree;
+
+/// The place of a row of a node, from 0, by binary search among the node's rows. If these ascend,
+/// `None` exactly if the node does not have the row.
+pub(crate) fn row_place<R: Rank>(raw: &RawTree<R>, node: u32, row: u32) -> Option<u32>
+    requires { node < length raw.now.shapes }
+    ensures within { IfSome result (λ i. i < raw_len raw.now node) }
+    ensures number { IfSome result (λ i. raw_number raw.now node i ≡ row) }
+    ensures absent { IfNone result (AreAscending raw.now node
+        → (i : ℕ) → i < raw_len raw.now node → raw_number raw.now node i ≢ row) }
+{
+    let mut low = 0;
+    let mut high = raw.len(node);
+    while low < high {
+        let middle = low + (high - low) / 2;
+        let number = raw.row(node, middle).row;
+        if number == row {
+            return Some(middle);
+        }
+        if number < row {
+            low = middle + 1;
+        } else {
+            high = middle;
+        }
+    }
+    None
+}

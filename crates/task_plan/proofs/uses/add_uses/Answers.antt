@@ -1,0 +1,47 @@
+use Rattle.std.proofs.Common.{◌≡◌, ◌∙◌, None, Option, map, option_map, sym, ap, rules, arith}
+use Rattle.std.proofs.lemmas.List.{length-map}
+use Rattle.cmd_words.specs.NamedPairs.{named_pair}
+use Rattle.refusal_lines.specs.Reason.{Reason}
+use Rattle.session_script.specs.Script.{unless}
+use Rattle.task_plan.proofs.FirstUses.{found_entry, found_table, items_end, items_known, items_more, items_none, items_used, none_file, number_shown}
+use Rattle.task_plan.proofs.uses.add_uses.Goals as goal
+
+pub returns-in_default-clause-known : goal.returns-in_default-clause-known
+returns-in_default-clause-known c =
+    let named = c.args.named.now in
+    let item = c.item-item.result in
+    let none : c.entry_of.result ≡ None = search rules in
+    let missing = none_file item.table named (rw c.bytes.ensures at (sym c.entry_of.ensures ∙ ap (option_map (λ e. e.now)) none)) in
+    let unknown = items_end (map named_pair named) c.args.items.now c.loop-item.item-index _ _ _ _ item c.loop-item-test.true c.item-item.is missing c.loop-item.invariant in
+    sym (ap (λ (o : Option Reason). unless o c.args.items.now) unknown)
+
+pub loop-item-init : goal.loop-item-init
+loop-item-init c = items_none (map named_pair c.args.named.now) c.args.items.now (map (λ e. named_pair e.now) c.args.uses.now.firsts.items) c.args.uses.now.numbers.items
+
+pub loop-item-preserved : goal.loop-item-preserved
+loop-item-preserved c =
+    let named = c.args.named.now in
+    let item = c.item-item.result in
+    let entry = c.in-Some.entry.now in
+    let some = rw c.bytes.ensures at (sym c.entry_of.ensures ∙ ap (option_map (λ e. e.now)) c.in-Some.is) in
+    rw c.in_ok-push.ensures.items
+    (items_more (map named_pair named) c.args.items.now c.loop-item.item-index _ _ _ _ item _ (named_pair entry) c.in_ok-number.number c.loop-item-test.true c.item-item.is
+    (found_table item.table named entry some) (found_entry item.table named entry some) c.in_ok-number.ensures.firsts
+    (c.in_ok-number.ensures.number ∙ sym (number_shown (λ e. named_pair e.now) c.number_of.new.firsts.items (named_pair entry).0)) c.loop-item.invariant)
+
+pub returns-clause-known : goal.returns-clause-known
+returns-clause-known c =
+    sym (ap (λ (o : Option Reason). unless o c.args.items.now)
+    (items_known (map named_pair c.args.named.now) c.args.items.now c.loop-item.item-index _ _ _ _ (omega (arith, c.loop-item-test.false)) c.loop-item.invariant))
+
+pub returns-clause-used : goal.returns-clause-used
+returns-clause-used c =
+    items_used (map named_pair c.args.named.now) c.args.items.now c.loop-item.item-index _ _ _ _ (omega (arith, c.loop-item-test.false)) c.loop-item.invariant
+
+pub number_of-requires : goal.number_of-requires
+number_of-requires c =
+    let few = c.loop-item.invariant.few in
+    let before = length-map c.args.uses.now.firsts.items (λ e. named_pair e.now) in
+    let now = length-map c.loop-item.uses.firsts.items (λ e. named_pair e.now) in
+    let room = c.requires in
+    omega (arith, few, before, now, room, c.loop-item-test.true)

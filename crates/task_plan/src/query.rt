@@ -1,0 +1,101 @@
+//! The query of the query file, or its branches.
+ghost use Rattle.std.specs.Prelude.{◌≡◌, ◌∷◌, [], false, true, IfOk, Ok, length, map};
+ghost use Rattle.refusal_lines.specs.RefusalReasons.{reason_of};
+ghost use Rattle.verdict.specs.Faults.{of_parse};
+ghost use Rattle.verdict.specs.Loading.{IsReading, branches_of};
+ghost use Rattle.verdict.specs.Stages.{Is};
+ghost use Rattle.verdict.specs.StageResults.{Pure};
+ghost use Rattle.task_plan.specs.Limits.{AreWithinLimits, limited};
+ghost use Rattle.task_plan.specs.StageViews.{selects_result_view};
+
+use query_grammar::fault::ParseFault;
+use query_grammar::{parse, parse_all};
+use query_select::select::{Select, SelectAll};
+use refusal_lines::Refusal;
+use std::alloc::Global;
+
+/// The query that these bytes write, or its branches if it may have several. The error is the
+/// refusal for the parser's fault.
+pub(crate) fn read_selects<'a>(
+    alloc: Global,
+    several: bool,
+    bytes: &[u8],
+) -> Result<Vec<Select>, Refusal<'a>>
+    ensures parsed { Pure (IsReading several bytes.now) (selects_result_view result) }
+    ensures limits { IfOk result (λ selects. AreWithinLimits selects.items) }
+    // If several branches are not allowed, there is one.
+    ensures alone { several ≡ false → IfOk result (λ selects. length selects.items ≡ 1) }
+{
+    if several {
+        read_branches(alloc, bytes)
+    } else {
+        read_alone(alloc, bytes)
+    }
+}
+
+/// The branches that these bytes write, each with the limit of the whole.
+fn read_branches<'a>(alloc: Global, bytes: &[u8]) -> Result<Vec<Select>, Refusal<'a>>
+    ensures parsed { Pure (IsReading true bytes.now) (selects_result_view result) }
+    ensures limits { IfOk result (λ selects. AreWithinLimits selects.items) }
+{
+    match parse_all(alloc, bytes) {
+        Ok(all) => Ok(with_limit(all)),
+        Err(fault) => Err(parse_refusal(fault)),
+    }
+}
+
+/// The branches, each with the limit of the whole.
+fn with_limit(all: SelectAll) -> Vec<Select>
+    ensures { result.items ≡ branches_of all }
+{
+    let SelectAll { branches, limit } = all;
+    let mut selects = branches.into_vec();
+    set_limits(selects.as_mut_slice(), limit);
+    selects
+}
+
+/// Gives each select this limit.
+fn set_limits(selects: &mut [Select], limit: Option<u64>)
+    ensures { selects.new ≡ map (limited limit) selects.old }
+{
+    for select in selects.iter_mut() {
+        select.limit = limit;
+    }
+}
+
+/// The one query that these bytes write.
+fn read_alone<'a>(alloc: Global, bytes: &[u8]) -> Result<Vec<Select>, Refusal<'a>>
+    ensures parsed { Pure (IsReading false bytes.now) (selects_result_view result) }
+    ensures limits { IfOk result (λ selects. AreWithinLimits selects.items) }
+    ensures alone { IfOk result (λ selects. length selects.items ≡ 1) }
+{
+    match parse(alloc, bytes) {
+        Ok(select) => one_select(alloc, select),
+        Err(fault) => Err(parse_refusal(fault)),
+    }
+}
+
+/// This select alone. `NoMemory` if memory is refused.
+fn one_select<'a>(alloc: Global, select: Select) -> Result<Vec<Select>, Refusal<'a>>
+    ensures said { Pure (Is (Ok (select ∷ []))) (selects_result_view result) }
+    ensures alone { IfOk result (λ selects. selects.items ≡ select ∷ []) }
+{
+    let mut selects = Vec::new(alloc);
+    selects.push(select)?;
+    Ok(selects)
+}
+
+/// The refusal for a fault of a query's text.
+fn parse_refusal<'a>(fault: ParseFault) -> Refusal<'a>
+    ensures { reason_of result ≡ of_parse fault }
+{
+    match fault {
+        ParseFault::TooLong => Refusal::TooLong,
+        ParseFault::Syntax(at) => Refusal::Syntax(at),
+        ParseFault::TooManyBranches => Refusal::TooManyBranches,
+        ParseFault::TooManyItems => Refusal::TooManyItems,
+        ParseFault::TooManyKeys => Refusal::TooManyKeys,
+        ParseFault::LimitRange(at) => Refusal::LimitRange(at),
+        ParseFault::NoMemory => Refusal::NoMemory,
+    }
+}
