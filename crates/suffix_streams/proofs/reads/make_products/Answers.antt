@@ -34,12 +34,6 @@ loop-child-preserved g c =
       steps = omega (arith, c.loop-child.invariant.steps, c.child_head-head.ensures.cost, c.get.ensures.cost, c.join-rank.ensures.counted);
     }
 
-pub returns-clause-fresh : goal.returns-clause-fresh
-returns-clause-fresh g c =
-    let kids : length c.index-nodes-node.result.children ≡ child_count c.args.tree.now c.args.node = children_count g.R.Rank.KEYS g.R.Rank.key c.args.tree.now c.args.entries.now.entries c.args.nodes.now c.args.node c.args.row c.index-nodes-node.result c.requires.headed c.requires.node c.index-nodes-node.is in
-    let end : c.loop-child.child ≡ child_count c.args.tree.now c.args.node = omega (arith, kids, c.child_count-children.ensures, c.loop-child.auto.child-end) in
-    subst (λ n. AreFreshTo g.R.Rank.KEYS g.R.Rank.key c.args.tree.now c.args.nodes.now c.args.node c.args.row n c.loop-child.products.items) end c.loop-child.invariant.fresh
-
 pub get-requires : goal.get-requires
 get-requires g c =
     let kids : length c.index-nodes-node.result.children ≡ child_count c.args.tree.now c.args.node = children_count g.R.Rank.KEYS g.R.Rank.key c.args.tree.now c.args.entries.now.entries c.args.nodes.now c.args.node c.args.row c.index-nodes-node.result c.requires.headed c.requires.node c.index-nodes-node.is in
@@ -91,8 +85,11 @@ returns-in_err-push-clause-cost g c =
     let kid_in : c.loop-child.child < child_count c.args.tree.now c.args.node = omega (arith, kids, c.child_count-children.ensures) in
     omega (arith, kid_in, c.loop-child.invariant.steps, c.child_head-head.ensures.cost, c.get.ensures.cost, c.join-rank.ensures.counted)
 
-pub returns-clause-cost : goal.returns-clause-cost
-returns-clause-cost g c =
+pub returns : goal.returns
+returns g c =
     let kids : length c.index-nodes-node.result.children ≡ child_count c.args.tree.now c.args.node = children_count g.R.Rank.KEYS g.R.Rank.key c.args.tree.now c.args.entries.now.entries c.args.nodes.now c.args.node c.args.row c.index-nodes-node.result c.requires.headed c.requires.node c.index-nodes-node.is in
     let end : c.loop-child.child ≡ child_count c.args.tree.now c.args.node = omega (arith, kids, c.child_count-children.ensures, c.loop-child.auto.child-end) in
-    omega (arith, end, c.loop-child.invariant.steps)
+    record {
+      fresh = subst (λ n. AreFreshTo g.R.Rank.KEYS g.R.Rank.key c.args.tree.now c.args.nodes.now c.args.node c.args.row n c.loop-child.products.items) end c.loop-child.invariant.fresh;
+      cost = omega (arith, end, c.loop-child.invariant.steps);
+    }

@@ -1,11 +1,8 @@
-use Rattle.std.proofs.Common.{OnOk, ◌<◌, [], length, slice_index_or, sym, ap, ◌∙◌, subst}
+use Rattle.std.proofs.Common.{OnOk, ◌<◌, [], sym, ap, ◌∙◌, subst}
 use Rattle.suffix_streams.specs.NodeStreamsView.{product_at, with_product}
 use Rattle.suffix_streams.specs.ProductView.{ProductView}
 use Rattle.suffix_streams.proofs.NodeFacts.{product_changed}
 use Rattle.suffix_streams.proofs.node.NodeStreams.reserve_product.Goals as goal
-
-pub product_mut-product-requires : goal.product_mut-product-requires
-product_mut-product-requires g c = subst (λ n. c.args.child < length (slice_index_or n.products c.args.row [])) (sym c.self.view_is) c.requires.child
 
 pub returns-clause-changed : goal.returns-clause-changed
 returns-clause-changed g c =

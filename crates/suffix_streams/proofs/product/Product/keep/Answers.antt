@@ -11,11 +11,10 @@ push_reserved-requires-clause-some g c = c.self.invariant.0
 pub push_reserved-requires-clause-spare : goal.push_reserved-requires-clause-spare
 push_reserved-requires-clause-spare g c = spare_some _ _ _ (ap (λ (p : ProductView g.row.R.Denot). p.room) c.self.view_is) c.requires
 
-pub returns-clause-found : goal.returns-clause-found
-returns-clause-found g c = c.push_reserved.ensures.cells ∙ ap (λ (p : ProductView g.row.R.Denot). p.found ++ (c.args.sum.tag ∷ [])) c.self.view_is
-
-pub returns-clause-ranks : goal.returns-clause-ranks
-returns-clause-ranks g c = c.push_reserved.ensures.ranks ∙ ap (λ (p : ProductView g.row.R.Denot). with_rank p.ranks c.args.sum.rank) c.self.view_is
-
-pub returns-clause-frontier : goal.returns-clause-frontier
-returns-clause-frontier g c = ap (λ (p : ProductView g.row.R.Denot). p.frontier) c.self.view_is
+pub returns : goal.returns
+returns g c =
+    record {
+      frontier = ap (λ (p : ProductView g.row.R.Denot). p.frontier) c.self.view_is;
+      ranks = c.push_reserved.ensures.ranks ∙ ap (λ (p : ProductView g.row.R.Denot). with_rank p.ranks c.args.sum.rank) c.self.view_is;
+      found = c.push_reserved.ensures.cells ∙ ap (λ (p : ProductView g.row.R.Denot). p.found ++ (c.args.sum.tag ∷ [])) c.self.view_is;
+    }

@@ -104,23 +104,22 @@ add_entry_rows-add_own_row-requires-clause-fits g t c =
     let at = goal.at.add_entry_rows-add_own_row-requires-clause-fits g t c in
     subst (AreAddable g.R.Rank.KEYS c.args.numbers.now) (sym (own_is g t at.After-child_count-count (solved_of g t at.After-get-found) (omega (arith, c.if-count-eq0.true)))) c.requires.fits
 
-pub add_entry_rows-returns-then-count-eq0-clause-added : goal.add_entry_rows-returns-then-count-eq0-clause-added
-add_entry_rows-returns-then-count-eq0-clause-added g t c =
-    let at = goal.at.add_entry_rows-returns-then-count-eq0-clause-added g t c in
-    subst (λ k. AreAdded g.R.Rank.KEYS c.args.numbers.now k c.add_own_row.new.numbers) (own_is g t at.After-child_count-count (solved_of g t at.After-get-found) (omega (arith, c.if-count-eq0.true))) c.add_own_row.ensures.added
-
-pub add_entry_rows-returns-then-count-eq0-clause-cost : goal.add_entry_rows-returns-then-count-eq0-clause-cost
-add_entry_rows-returns-then-count-eq0-clause-cost g t c =
-    let at = goal.at.add_entry_rows-returns-then-count-eq0-clause-cost g t c in
-    let tree = c.args.self.now.tree.now in
-    let s = solved_of g t at.After-get-found in
-    let kids = kids_of g t at.After-child_count-count s in
-    omega (
-      arith,
-      c.get-found.ensures.cost,
-      kids_smaller g.R.Rank.KEYS g.R.Rank.key tree c.requires.formed.tree c.get-found.result.now.node c.child_count-count.result s.node (omega (arith, kids)),
-      ap (λ v. subtree_size tree v) s.owner,
-    )
+pub add_entry_rows-returns-then-count-eq0 : goal.add_entry_rows-returns-then-count-eq0
+add_entry_rows-returns-then-count-eq0 g t c =
+    let at = goal.at.add_entry_rows-returns-then-count-eq0 g t c in
+    record {
+      added = subst (λ k. AreAdded g.R.Rank.KEYS c.args.numbers.now k c.add_own_row.new.numbers) (own_is g t at.After-child_count-count (solved_of g t at.After-get-found) (omega (arith, c.if-count-eq0.true))) c.add_own_row.ensures.added;
+      cost =
+          let tree = c.args.self.now.tree.now in
+          let s = solved_of g t at.After-get-found in
+          let kids = kids_of g t at.After-child_count-count s in
+          omega (
+            arith,
+            c.get-found.ensures.cost,
+            kids_smaller g.R.Rank.KEYS g.R.Rank.key tree c.requires.formed.tree c.get-found.result.now.node c.child_count-count.result s.node (omega (arith, kids)),
+            ap (λ v. subtree_size tree v) s.owner,
+          );
+    }
 
 pub add_entry_rows-add_sum_rows-requires : goal.add_entry_rows-add_sum_rows-requires
 add_entry_rows-add_sum_rows-requires g t c κs within =
@@ -164,30 +163,30 @@ add_entry_rows-add_sum_rows-requires g t c κs within =
       ),
     )
 
-pub add_entry_rows-returns-else-count-eq0-clause-added : goal.add_entry_rows-returns-else-count-eq0-clause-added
-add_entry_rows-returns-else-count-eq0-clause-added g t c =
-    let at = goal.at.add_entry_rows-returns-else-count-eq0-clause-added g t c in
+pub add_entry_rows-returns-else-count-eq0 : goal.add_entry_rows-returns-else-count-eq0
+add_entry_rows-returns-else-count-eq0 g t c =
+    let at = goal.at.add_entry_rows-returns-else-count-eq0 g t c in
     let s = solved_of g t at.After-get-found in
     let kids = kids_of g t at.After-child_count-count s in
-    let last : child_count c.args.self.now.tree.now c.get-found.result.now.node ≡ suc (c.child_count-count.result - 1) = omega (arith, kids, c.if-count-eq0.false) in
-    subst (λ k. AreAdded g.R.Rank.KEYS c.args.numbers.now k c.add_sum_rows.new.numbers) (sum_is g t at.After-child_count-count s (c.child_count-count.result - 1) last) c.add_sum_rows.ensures.added
-
-pub add_entry_rows-returns-else-count-eq0-clause-cost : goal.add_entry_rows-returns-else-count-eq0-clause-cost
-add_entry_rows-returns-else-count-eq0-clause-cost g t c =
-    let at = goal.at.add_entry_rows-returns-else-count-eq0-clause-cost g t c in
-    let tree = c.args.self.now.tree.now in
-    let f = c.get-found.result.now in
-    let s = solved_of g t at.After-get-found in
-    let kids = kids_of g t at.After-child_count-count s in
-    let more : c.child_count-count.result - 1 + 1 ≡ c.child_count-count.result = omega (arith, c.if-count-eq0.false) in
-    omega (
-      arith,
-      c.get-found.ensures.cost,
-      c.add_sum_rows.ensures.cost,
-      ap (λ k. kids_size tree f.node k) more,
-      kids_smaller g.R.Rank.KEYS g.R.Rank.key tree c.requires.formed.tree f.node c.child_count-count.result s.node (omega (arith, kids)),
-      ap (λ v. subtree_size tree v) s.owner,
-    )
+    record {
+      added =
+          let last : child_count c.args.self.now.tree.now c.get-found.result.now.node ≡ suc (c.child_count-count.result - 1) = omega (arith, kids, c.if-count-eq0.false) in
+          subst (λ k. AreAdded g.R.Rank.KEYS c.args.numbers.now k c.add_sum_rows.new.numbers) (sum_is g t at.After-child_count-count s (c.child_count-count.result - 1) last) c.add_sum_rows.ensures.added;
+      cost =
+          let tree = c.args.self.now.tree.now in
+          let f = c.get-found.result.now in
+          let s = solved_of g t at.After-get-found in
+          let kids = kids_of g t at.After-child_count-count s in
+          let more : c.child_count-count.result - 1 + 1 ≡ c.child_count-count.result = omega (arith, c.if-count-eq0.false) in
+          omega (
+            arith,
+            c.get-found.ensures.cost,
+            c.add_sum_rows.ensures.cost,
+            ap (λ k. kids_size tree f.node k) more,
+            kids_smaller g.R.Rank.KEYS g.R.Rank.key tree c.requires.formed.tree f.node c.child_count-count.result s.node (omega (arith, kids)),
+            ap (λ v. subtree_size tree v) s.owner,
+          );
+    }
 
 -- # The rows of a row's solution with its first children
 
@@ -201,25 +200,12 @@ add_part_rows-add_own_row-requires-clause-fits g t c =
     (sym (own_at g.R.Rank.KEYS g.R.Rank.key c.args.self.now.tree.now c.requires.formed.tree c.args.self.now.nodes.items c.args.node c.args.row c.args.count c.args.place (rank c.args.self.now.tree.now g.R.Rank.KEYS g.R.Rank.key c.args.node c.args.row) c.requires.node (omega arith) known refl))
     c.requires.fits
 
-pub add_part_rows-returns-then-count-eq0-clause-added : goal.add_part_rows-returns-then-count-eq0-clause-added
-add_part_rows-returns-then-count-eq0-clause-added g t c =
-    let known = known_own g.R.Rank.KEYS g.R.Rank.key c.args.self.now.tree.now c.args.self.now.entries.entries c.args.self.now.nodes.items c.requires.formed c.args.node c.args.row c.args.count c.args.place (omega arith) c.requires.place in
-    subst (λ k. AreAdded g.R.Rank.KEYS c.args.numbers.now k c.add_own_row.new.numbers)
-    (own_at g.R.Rank.KEYS g.R.Rank.key c.args.self.now.tree.now c.requires.formed.tree c.args.self.now.nodes.items c.args.node c.args.row c.args.count c.args.place (rank c.args.self.now.tree.now g.R.Rank.KEYS g.R.Rank.key c.args.node c.args.row) c.requires.node (omega arith) known refl)
-    c.add_own_row.ensures.added
-
 pub add_part_rows-add_sum_rows-requires : goal.add_part_rows-add_sum_rows-requires
 add_part_rows-add_sum_rows-requires g t c κs within =
     let at = goal.at.add_part_rows-add_sum_rows-requires g t c in
     let more : c.args.count - 1 + 1 ≡ c.args.count = omega (arith, c.if-count-eq0.false) in
     let fits = subst (AreAddable g.R.Rank.KEYS c.args.numbers.now) (sym (part_is g t at.After-part_cell-cell more)) c.requires.fits in
     (omega (arith, c.decreases, c.if-count-eq0.false), (within.0, (within.1.0, (within.1.1, (c.requires.formed, (c.requires.tie_free, (c.requires.node, (c.requires.row, (c.requires.number, (omega (arith, c.requires.count, c.if-count-eq0.false), ((c.args.place, c.part_cell-cell.ensures.sum), fits)))))))))))
-
-pub add_part_rows-returns-else-count-eq0-clause-added : goal.add_part_rows-returns-else-count-eq0-clause-added
-add_part_rows-returns-else-count-eq0-clause-added g t c =
-    let at = goal.at.add_part_rows-returns-else-count-eq0-clause-added g t c in
-    let more : c.args.count - 1 + 1 ≡ c.args.count = omega (arith, c.if-count-eq0.false) in
-    subst (λ k. AreAdded g.R.Rank.KEYS c.args.numbers.now k c.add_sum_rows.new.numbers) (part_is g t at.After-part_cell-cell more) c.add_sum_rows.ensures.added
 
 -- # The rows of a sum
 
@@ -263,31 +249,32 @@ add_sum_rows-add_entry_rows-requires g t c κs within =
     (get_or (group_list d key tree (child tree c.args.node c.args.child) (group_named tree c.args.node c.args.row c.args.child)) (place_of es x.right) (key_none d 16)) c.add_part_rows.new.numbers c.requires.fits c.add_part_rows.ensures.added in
     (omega (arith, c.decreases, cell.node, above, k.parent_is, k.within, c.requires.node), (within.0, (within.1.0, (within.1.1, (c.requires.formed, (c.requires.tie_free, (cell.right, subst (AreAddable d c.add_part_rows.new.numbers) (sym (right_is g t at.After-add_part_rows)) fits)))))))
 
-pub add_sum_rows-returns-clause-added : goal.add_sum_rows-returns-clause-added
-add_sum_rows-returns-clause-added g t c =
-    let at = goal.at.add_sum_rows-returns-clause-added g t c in
-    let d = g.R.Rank.KEYS in
-    let key = g.R.Rank.key in
+pub add_sum_rows-returns : goal.add_sum_rows-returns
+add_sum_rows-returns g t c =
     let tree = c.args.self.now.tree.now in
-    let es = c.args.self.now.entries.entries in
-    let x = c.args.cell.now in
-    both_added d c.args.numbers.now (get_or (part_list d key tree c.args.node c.args.row c.args.child) x.left (key_none d 16))
-    (get_or (group_list d key tree (child tree c.args.node c.args.child) (group_named tree c.args.node c.args.row c.args.child)) (place_of es x.right) (key_none d 16)) c.add_part_rows.new.numbers c.add_entry_rows.new.numbers c.add_part_rows.ensures.added
-    (subst (λ k. AreAdded d c.add_part_rows.new.numbers k c.add_entry_rows.new.numbers) (right_is g t at.After-add_part_rows) c.add_entry_rows.ensures.added)
-
-pub add_sum_rows-returns-clause-cost : goal.add_sum_rows-returns-clause-cost
-add_sum_rows-returns-clause-cost g t c =
-    let tree = c.args.self.now.tree.now in
-    let cell = c.requires.parts.1 in
-    let last : suc c.args.child ≡ c.args.child + 1 = omega arith in
-    omega (
-      arith,
-      c.add_part_rows.ensures.cost,
-      c.add_entry_rows.ensures.cost,
-      ap (λ v. subtree_size tree v) cell.node,
-      kids_size_more g.R.Rank.KEYS g.R.Rank.key tree c.requires.formed.tree c.args.node c.args.child,
-      ap (λ k. kids_size tree c.args.node k) last,
-    )
+    record {
+      added =
+          let at = goal.at.add_sum_rows-returns g t c in
+          let d = g.R.Rank.KEYS in
+          let key = g.R.Rank.key in
+          let tree = c.args.self.now.tree.now in
+          let es = c.args.self.now.entries.entries in
+          let x = c.args.cell.now in
+          both_added d c.args.numbers.now (get_or (part_list d key tree c.args.node c.args.row c.args.child) x.left (key_none d 16))
+          (get_or (group_list d key tree (child tree c.args.node c.args.child) (group_named tree c.args.node c.args.row c.args.child)) (place_of es x.right) (key_none d 16)) c.add_part_rows.new.numbers c.add_entry_rows.new.numbers c.add_part_rows.ensures.added
+          (subst (λ k. AreAdded d c.add_part_rows.new.numbers k c.add_entry_rows.new.numbers) (right_is g t at.After-add_part_rows) c.add_entry_rows.ensures.added);
+      cost =
+          let cell = c.requires.parts.1 in
+          let last : suc c.args.child ≡ c.args.child + 1 = omega arith in
+          omega (
+            arith,
+            c.add_part_rows.ensures.cost,
+            c.add_entry_rows.ensures.cost,
+            ap (λ v. subtree_size tree v) cell.node,
+            kids_size_more g.R.Rank.KEYS g.R.Rank.key tree c.requires.formed.tree c.args.node c.args.child,
+            ap (λ k. kids_size tree c.args.node k) last,
+          );
+    }
 
 pub add_part_rows-part_cell-cell-requires-clause-formed : goal.add_part_rows-part_cell-cell-requires-clause-formed
 add_part_rows-part_cell-cell-requires-clause-formed g t c =
@@ -338,19 +325,29 @@ pub add_entry_rows-overflow_sub-count : goal.add_entry_rows-overflow_sub-count
 add_entry_rows-overflow_sub-count g t c =
     omega (arith, c.if-count-eq0.false)
 
-pub add_entry_rows-get-found-requires : goal.add_entry_rows-get-found-requires
-add_entry_rows-get-found-requires g t c =
-    c.requires.entry
-
 pub add_entry_rows-add_own_row-requires-clause-formed : goal.add_entry_rows-add_own_row-requires-clause-formed
 add_entry_rows-add_own_row-requires-clause-formed g t c =
     c.requires.formed.tree
 
-pub add_part_rows-returns-then-count-eq0-clause-cost : goal.add_part_rows-returns-then-count-eq0-clause-cost
-add_part_rows-returns-then-count-eq0-clause-cost g t c =
-    omega arith
+pub add_part_rows-returns-then-count-eq0 : goal.add_part_rows-returns-then-count-eq0
+add_part_rows-returns-then-count-eq0 g t c =
+    record {
+      added =
+          let known = known_own g.R.Rank.KEYS g.R.Rank.key c.args.self.now.tree.now c.args.self.now.entries.entries c.args.self.now.nodes.items c.requires.formed c.args.node c.args.row c.args.count c.args.place (omega arith) c.requires.place in
+          subst (λ k. AreAdded g.R.Rank.KEYS c.args.numbers.now k c.add_own_row.new.numbers)
+          (own_at g.R.Rank.KEYS g.R.Rank.key c.args.self.now.tree.now c.requires.formed.tree c.args.self.now.nodes.items c.args.node c.args.row c.args.count c.args.place (rank c.args.self.now.tree.now g.R.Rank.KEYS g.R.Rank.key c.args.node c.args.row) c.requires.node (omega arith) known refl)
+          c.add_own_row.ensures.added;
+      cost = omega arith;
+    }
 
-pub add_part_rows-returns-else-count-eq0-clause-cost : goal.add_part_rows-returns-else-count-eq0-clause-cost
-add_part_rows-returns-else-count-eq0-clause-cost g t c =
-    let more : c.args.count ≡ c.args.count - 1 + 1 = omega (arith, c.if-count-eq0.false) in
-    omega (arith, c.part_cell-cell.ensures.cost, c.add_sum_rows.ensures.cost, ap (λ z. kids_size c.args.self.now.tree.now c.args.node z) more)
+pub add_part_rows-returns-else-count-eq0 : goal.add_part_rows-returns-else-count-eq0
+add_part_rows-returns-else-count-eq0 g t c =
+    record {
+      cost =
+          let more : c.args.count ≡ c.args.count - 1 + 1 = omega (arith, c.if-count-eq0.false) in
+          omega (arith, c.part_cell-cell.ensures.cost, c.add_sum_rows.ensures.cost, ap (λ z. kids_size c.args.self.now.tree.now c.args.node z) more);
+      added =
+          let at = goal.at.add_part_rows-returns-else-count-eq0 g t c in
+          let more : c.args.count - 1 + 1 ≡ c.args.count = omega (arith, c.if-count-eq0.false) in
+          subst (λ k. AreAdded g.R.Rank.KEYS c.args.numbers.now k c.add_sum_rows.new.numbers) (part_is g t at.After-part_cell-cell more) c.add_sum_rows.ensures.added;
+    }

@@ -93,85 +93,6 @@ module _ (g : Over) where
   linked_of : (c : After-set_next g) → IsGroupTop g.R.Rank.KEYS g.R.Rank.key c.args.self.now.tree.now c.args.self.now.entries.entries c.args.self.now.nodes.items c.args.last c.args.node c.args.group c.args.row → IsEntryLinked c.args.self.now.tree.now c.args.self.now.entries.entries c.set_next.new.self.entries c.args.last (record { node = c.args.node; group = c.args.group; solution = c.kept_solution.result })
   linked_of c o = entry_linked o c.kept_solution.result c.push_reserved-next.new.self.entries c.set_next.new.self.entries c.push_reserved-next.result c.requires.formed c.requires.last c.requires.node c.requires.group c.requires.none c.push_reserved-next.ensures.id c.push_reserved-next.ensures.entries c.set_next.ensures.entries
 
-pub returns-in_err-top-clause-formed : goal.returns-in_err-top-clause-formed
-returns-in_err-top-clause-formed g c =
-    let at = goal.at.returns-in_err-top-clause-formed g c in
-    let o = top_of g at.After-as_slice in
-    let p = passed_of g at.After-pass_last o in
-    let changed = c.pass_last.ensures.changed in
-    let read = read_of g at.After-index o in
-    let empty : (stream_of c.pass_last.new.nodes.items c.args.node c.args.group).queue ≡ [] = ap (λ n. (stream_at n c.args.group).queue) read ∙ no_top c.top.result (stream_at c.index.result.now c.args.group).queue c.in_err-top.was c.top.ensures.variant in
-    subst (λ (z : List (NodeStreamsView g.row.R.Denot)). IsStreams g.R.Rank.KEYS g.R.Rank.key c.args.self.now.tree.now c.args.self.now.entries.entries z) (sym changed) (passed_ends p (stream_of c.pass_last.new.nodes.items c.args.node c.args.group).room empty)
-
-pub returns-in_err-top-clause-answer : goal.returns-in_err-top-clause-answer
-returns-in_err-top-clause-answer g c =
-    let at = goal.at.returns-in_err-top-clause-answer g c in
-    let o = top_of g at.After-as_slice in
-    let p = passed_of g at.After-pass_last o in
-    let read = read_of g at.After-index o in
-    let empty : (stream_of c.pass_last.new.nodes.items c.args.node c.args.group).queue ≡ [] = ap (λ n. (stream_at n c.args.group).queue) read ∙ no_top c.top.result (stream_at c.index.result.now c.args.group).queue c.in_err-top.was c.top.ensures.variant in
-    let link = subst (λ o. IsLinkedAt (node_list c.args.self.now.entries.entries) (group_list_of c.args.self.now.entries.entries) c.args.last o) c.requires.none (c.requires.formed.linked c.args.last (omega (arith, c.requires.last, node_length c.args.self.now.entries.entries))) in
-    subst (λ o. IsAnswered g.R.Rank.KEYS g.R.Rank.key c.args.self.now.tree.now c.args.self.now.entries.entries c.args.last o) (sym c.from_residual.ensures)
-    (ap (λ z. length (group_list g.R.Rank.KEYS g.R.Rank.key c.args.self.now.tree.now z (group_of c.args.self.now.entries.entries c.args.last))) c.requires.node ∙ ap (λ z. length (group_list g.R.Rank.KEYS g.R.Rank.key c.args.self.now.tree.now c.args.node z)) c.requires.group ∙ sym (whole_stream p empty) ∙ stream_owned c.args.self.now.entries.entries c.args.node c.args.group
-    ∙ ap (λ z. owned (node_list c.args.self.now.entries.entries) (group_list_of c.args.self.now.entries.entries) z c.args.group) (sym c.requires.node) ∙ ap (λ z. owned (node_list c.args.self.now.entries.entries) (group_list_of c.args.self.now.entries.entries) (node_of c.args.self.now.entries.entries c.args.last) z) (sym c.requires.group) ∙ sym link)
-
-pub returns-in_err-top-clause-cost : goal.returns-in_err-top-clause-cost
-returns-in_err-top-clause-cost g c =
-    let at = goal.at.returns-in_err-top-clause-cost g c in
-    let o = top_of g at.After-as_slice in
-    let digits = digits_of g at.After-pass_last o in
-    omega (arith, digits)
-
-pub returns-clause-products : goal.returns-clause-products
-returns-clause-products g c =
-    let at = goal.at.returns-clause-products g c in
-    let o = top_of g at.After-as_slice in
-    let changed = c.pass_last.ensures.changed in
-    ap (λ (z : List (NodeStreamsView g.row.R.Denot)). (lists_of z c.args.node).products) changed ∙ queued_products g.R.Rank.KEYS g.R.Rank.key c.args.self.now.tree.now c.args.self.now.entries.entries c.args.self.now.entries.entries c.args.self.now.nodes.items c.requires.formed (held_itself c.args.self.now.entries.entries) c.args.node c.args.group o.node o.group (stream_of c.pass_last.new.nodes.items c.args.node c.args.group).queue (stream_of c.pass_last.new.nodes.items c.args.node c.args.group).room c.args.node
-
-pub returns-clause-store : goal.returns-clause-store
-returns-clause-store g c =
-    let at = goal.at.returns-clause-store g c in
-    let o = top_of g at.After-as_slice in
-    let e = linked_of g at.After-set_next o in
-    e.store
-
-pub returns-clause-growth : goal.returns-clause-growth
-returns-clause-growth g c v =
-    let at = goal.at.returns-clause-growth g c in
-    let o = top_of g at.After-as_slice in
-    let e = linked_of g at.After-set_next o in
-    e.growth v
-
-pub returns-clause-answer : goal.returns-clause-answer
-returns-clause-answer g c =
-    let at = goal.at.returns-clause-answer g c in
-    let o = top_of g at.After-as_slice in
-    let e = linked_of g at.After-set_next o in
-    e.answer ∙ ap Some (sym c.push_reserved-next.ensures.id)
-
-pub returns-clause-cost : goal.returns-clause-cost
-returns-clause-cost g c =
-    let at = goal.at.returns-clause-cost g c in
-    let o = top_of g at.After-as_slice in
-    let digits = digits_of g at.After-pass_last o in
-    omega (arith, digits, c.push_reserved-next.ensures.cost, c.set_next.ensures.cost)
-
-pub returns-clause-formed : goal.returns-clause-formed
-returns-clause-formed g c =
-    let at = goal.at.returns-clause-formed g c in
-    let o = top_of g at.After-as_slice in
-    let p = passed_of g at.After-pass_last o in
-    let changed = c.pass_last.ensures.changed in
-    let read = read_of g at.After-index o in
-    let some = some_of g at.In_ok-top read in
-    let first = first_is g at.In_ok-top read in
-    let e = linked_of g at.After-set_next o in
-    subst (λ (z : List (NodeStreamsView g.row.R.Denot)). IsStreams g.R.Rank.KEYS g.R.Rank.key c.args.self.now.tree.now c.set_next.new.self.entries z) (sym changed)
-    (passed_grows p (stream_of c.pass_last.new.nodes.items c.args.node c.args.group).room c.set_next.new.self.entries c.in_ok-top.top (entry_held c.args.self.now.entries.entries c.set_next.new.self.entries e.store) e.owners e.linked e.others
-    (e.longer ∙ ap (λ (z : Entry g.row.R.Denot Solved). stream c.args.self.now.entries.entries c.args.node c.args.group ++ (z ∷ [])) c.kept_solution.ensures) some first
-    (subst (λ n. IsLeast g.R.Rank.KEYS g.R.Rank.key c.in_ok-top.top (stream_at n c.args.group).queue) (sym read) c.in_ok-top.ensures.least))
-
 pub row_offer-offer-requires-clause-row : goal.row_offer-offer-requires-clause-row
 row_offer-offer-requires-clause-row g c =
     let at = goal.at.row_offer-offer-requires-clause-row g c in
@@ -193,13 +114,6 @@ top-requires g c =
     let streams = ap (λ (z : List (NodeStreamsView g.row.R.Denot)). length (lists_of z c.args.node).streams) c.pass_last.ensures.changed ∙ ap (λ (m : NodeStreamsView g.row.R.Denot). length m.streams) (lists_same n c.args.node queued o.in_nodes)
     ∙ set_length (lists_of n c.args.node).streams c.args.group (record (stream_of n c.args.node c.args.group) { queue = (stream_of c.pass_last.new.nodes.items c.args.node c.args.group).queue; room = (stream_of c.pass_last.new.nodes.items c.args.node c.args.group).room }) in
     omega (arith, o.group, c.requires.formed.all_streams c.args.node o.node, streams, ap (λ (m : NodeStreamsView g.row.R.Denot). length m.streams) read)
-
-pub returns-in_err-top-clause-products : goal.returns-in_err-top-clause-products
-returns-in_err-top-clause-products g c =
-    let at = goal.at.returns-in_err-top-clause-products g c in
-    let o = top_of g at.After-as_slice in
-    let changed = c.pass_last.ensures.changed in
-    ap (λ (z : List (NodeStreamsView g.row.R.Denot)). (lists_of z c.args.node).products) changed ∙ queued_products g.R.Rank.KEYS g.R.Rank.key c.args.self.now.tree.now c.args.self.now.entries.entries c.args.self.now.entries.entries c.args.self.now.nodes.items c.requires.formed (held_itself c.args.self.now.entries.entries) c.args.node c.args.group o.node o.group (stream_of c.pass_last.new.nodes.items c.args.node c.args.group).queue (stream_of c.pass_last.new.nodes.items c.args.node c.args.group).room c.args.node
 
 pub pass_last-requires-clause-group : goal.pass_last-requires-clause-group
 pass_last-requires-clause-group g c =
@@ -242,22 +156,30 @@ index-requires g c =
     let long = set_length c.args.self.now.nodes.items c.args.node (with_queue (lists_of c.args.self.now.nodes.items c.args.node) c.args.group (stream_of c.pass_last.new.nodes.items c.args.node c.args.group).queue (stream_of c.pass_last.new.nodes.items c.args.node c.args.group).room) in
     omega (arith, o.in_nodes, ap length c.pass_last.ensures.changed, long)
 
-pub returns-in_err-top-clause-tree : goal.returns-in_err-top-clause-tree
-returns-in_err-top-clause-tree g c = refl
-
-pub returns-in_err-top-clause-store : goal.returns-in_err-top-clause-store
-returns-in_err-top-clause-store g c = store_stays c.args.node c.args.self.now.entries.entries
-
-pub returns-in_err-top-clause-above : goal.returns-in_err-top-clause-above
-returns-in_err-top-clause-above g c v other =
-    let at = goal.at.returns-in_err-top-clause-above g c in
-    others_of g at.After-pass_last v other
-
-pub returns-in_err-top-clause-growth : goal.returns-in_err-top-clause-growth
-returns-in_err-top-clause-growth g c v = omega arith
-
-pub push_reserved-next-requires : goal.push_reserved-next-requires
-push_reserved-next-requires g c = c.requires.room
+pub returns-in_err-top : goal.returns-in_err-top
+returns-in_err-top g c =
+    let at = goal.at.returns-in_err-top g c in
+    let o = top_of g at.After-as_slice in
+    let p = passed_of g at.After-pass_last o in
+    let read = read_of g at.After-index o in
+    let empty : (stream_of c.pass_last.new.nodes.items c.args.node c.args.group).queue ≡ [] = ap (λ n. (stream_at n c.args.group).queue) read ∙ no_top c.top.result (stream_at c.index.result.now c.args.group).queue c.in_err-top.was c.top.ensures.variant in
+    let changed = c.pass_last.ensures.changed in
+    record {
+      answer =
+          let link = subst (λ o. IsLinkedAt (node_list c.args.self.now.entries.entries) (group_list_of c.args.self.now.entries.entries) c.args.last o) c.requires.none (c.requires.formed.linked c.args.last (omega (arith, c.requires.last, node_length c.args.self.now.entries.entries))) in
+          subst (λ o. IsAnswered g.R.Rank.KEYS g.R.Rank.key c.args.self.now.tree.now c.args.self.now.entries.entries c.args.last o) (sym c.from_residual.ensures)
+          (ap (λ z. length (group_list g.R.Rank.KEYS g.R.Rank.key c.args.self.now.tree.now z (group_of c.args.self.now.entries.entries c.args.last))) c.requires.node ∙ ap (λ z. length (group_list g.R.Rank.KEYS g.R.Rank.key c.args.self.now.tree.now c.args.node z)) c.requires.group ∙ sym (whole_stream p empty) ∙ stream_owned c.args.self.now.entries.entries c.args.node c.args.group
+          ∙ ap (λ z. owned (node_list c.args.self.now.entries.entries) (group_list_of c.args.self.now.entries.entries) z c.args.group) (sym c.requires.node) ∙ ap (λ z. owned (node_list c.args.self.now.entries.entries) (group_list_of c.args.self.now.entries.entries) (node_of c.args.self.now.entries.entries c.args.last) z) (sym c.requires.group) ∙ sym link);
+      formed = subst (λ (z : List (NodeStreamsView g.row.R.Denot)). IsStreams g.R.Rank.KEYS g.R.Rank.key c.args.self.now.tree.now c.args.self.now.entries.entries z) (sym changed) (passed_ends p (stream_of c.pass_last.new.nodes.items c.args.node c.args.group).room empty);
+      growth = λ v. omega arith;
+      store = store_stays c.args.node c.args.self.now.entries.entries;
+      products = ap (λ (z : List (NodeStreamsView g.row.R.Denot)). (lists_of z c.args.node).products) changed ∙ queued_products g.R.Rank.KEYS g.R.Rank.key c.args.self.now.tree.now c.args.self.now.entries.entries c.args.self.now.entries.entries c.args.self.now.nodes.items c.requires.formed (held_itself c.args.self.now.entries.entries) c.args.node c.args.group o.node o.group (stream_of c.pass_last.new.nodes.items c.args.node c.args.group).queue (stream_of c.pass_last.new.nodes.items c.args.node c.args.group).room c.args.node;
+      above = λ v other. others_of g at.After-pass_last v other;
+      tree = refl;
+      cost =
+          let digits = digits_of g at.After-pass_last o in
+          omega (arith, digits);
+    }
 
 pub set_next-requires-clause-id : goal.set_next-requires-clause-id
 set_next-requires-clause-id g c =
@@ -279,10 +201,31 @@ set_next-requires-clause-none g c d =
     ∙ ap (λ (x : Linked (Found g.row.R.Denot)). x.next) (at_more es e d c.args.last c.requires.last)
     ∙ sym (next_value es c.args.last d c.requires.last) ∙ c.requires.none
 
-pub returns-clause-tree : goal.returns-clause-tree
-returns-clause-tree g c = refl
-
-pub returns-clause-above : goal.returns-clause-above
-returns-clause-above g c v other =
-    let at = goal.at.returns-clause-above g c in
-    others_of g at.After-pass_last v other
+pub returns : goal.returns
+returns g c =
+    let at = goal.at.returns g c in
+    let o = top_of g at.After-as_slice in
+    let e = linked_of g at.After-set_next o in
+    let changed = c.pass_last.ensures.changed in
+    record {
+      cost =
+          let digits = digits_of g at.After-pass_last o in
+          omega (arith, digits, c.push_reserved-next.ensures.cost, c.set_next.ensures.cost);
+      store = e.store;
+      products = ap (λ (z : List (NodeStreamsView g.row.R.Denot)). (lists_of z c.args.node).products) changed ∙ queued_products g.R.Rank.KEYS g.R.Rank.key c.args.self.now.tree.now c.args.self.now.entries.entries c.args.self.now.entries.entries c.args.self.now.nodes.items c.requires.formed (held_itself c.args.self.now.entries.entries) c.args.node c.args.group o.node o.group (stream_of c.pass_last.new.nodes.items c.args.node c.args.group).queue (stream_of c.pass_last.new.nodes.items c.args.node c.args.group).room c.args.node;
+      formed =
+          let p = passed_of g at.After-pass_last o in
+          let changed = c.pass_last.ensures.changed in
+          let read = read_of g at.After-index o in
+          let some = some_of g at.In_ok-top read in
+          let first = first_is g at.In_ok-top read in
+          let e = linked_of g at.After-set_next o in
+          subst (λ (z : List (NodeStreamsView g.row.R.Denot)). IsStreams g.R.Rank.KEYS g.R.Rank.key c.args.self.now.tree.now c.set_next.new.self.entries z) (sym changed)
+          (passed_grows p (stream_of c.pass_last.new.nodes.items c.args.node c.args.group).room c.set_next.new.self.entries c.in_ok-top.top (entry_held c.args.self.now.entries.entries c.set_next.new.self.entries e.store) e.owners e.linked e.others
+          (e.longer ∙ ap (λ (z : Entry g.row.R.Denot Solved). stream c.args.self.now.entries.entries c.args.node c.args.group ++ (z ∷ [])) c.kept_solution.ensures) some first
+          (subst (λ n. IsLeast g.R.Rank.KEYS g.R.Rank.key c.in_ok-top.top (stream_at n c.args.group).queue) (sym read) c.in_ok-top.ensures.least));
+      tree = refl;
+      answer = e.answer ∙ ap Some (sym c.push_reserved-next.ensures.id);
+      growth = λ v. e.growth v;
+      above = λ v other. others_of g at.After-pass_last v other;
+    }

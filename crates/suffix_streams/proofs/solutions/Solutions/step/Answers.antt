@@ -93,15 +93,6 @@ offered-across-requires-clause-cell g c =
     subst (λ (z : List (NodeStreamsView g.row.R.Denot)). IfSome c.cell_beside-across.result (IsCell g.R.Rank.KEYS g.R.Rank.key c.args.self.now.tree.now c.args.self.now.entries.entries z c.args.node c.args.row c.args.child)) (sym c.as_slice.ensures.value)
     (beside_cell_known g.R.Rank.KEYS g.R.Rank.key c.args.self.now.tree.now c.args.self.now.entries.entries c.args.self.now.nodes.items c.requires.formed c.args.node c.args.row c.args.child c.requires.node c.requires.row c.requires.child c.args.top.now.tag c.requires.top (λ x. ap (λ e. e.tag) (c.requires.first x)) (head_of c.args.self.now.tree.now c.args.self.now.nodes.items c.args.node c.args.row c.args.child) refl c.cell_beside-across.result beside)
 
-pub index-requires : goal.index-requires
-index-requires g c =
-    in_same _ _ _ (in_same _ _ _ c.requires.node c.requires.formed.all_nodes) c.args.self.now.nodes.ok.0
-
-pub known-known-requires : goal.known-known-requires
-known-known-requires g c =
-    let inside : c.args.node < length c.args.self.now.nodes.items = in_same _ _ _ c.requires.node c.requires.formed.all_nodes in
-    omega (arith, c.requires.child, ap (λ n. length (get_or n.products c.args.row [])) (lists_at c.args.self.now.nodes.items c.args.node c.index.result.now c.index.ensures inside))
-
 pub offered-across-requires-clause-formed : goal.offered-across-requires-clause-formed
 offered-across-requires-clause-formed g c =
     c.requires.formed.tree
@@ -144,41 +135,27 @@ step_product-requires-clause-room g c =
     let inside : c.args.node < length c.args.self.now.nodes.items = in_same _ _ _ c.requires.node c.requires.formed.all_nodes in
     subst (λ n. 0 < (product_at n c.args.row c.args.child).room) (lists_at c.args.self.now.nodes.items c.args.node c.index_mut.result.now c.index_mut.ensures.value inside) c.requires.room
 
-pub returns-clause-formed : goal.returns-clause-formed
-returns-clause-formed g c =
-    let at = goal.at.returns-clause-formed g c in
-    subst (λ (z : List (NodeStreamsView g.row.R.Denot)). IsStreams g.R.Rank.KEYS g.R.Rank.key c.args.self.now.tree.now c.args.self.now.entries.entries z) (sym (changed_of g at.After-step_product))
-    (stepped_holds (passed g at.After-step_product) (product_at c.step_product.new.self c.args.row c.args.child) (passed_of g at.After-step_product) refl c.step_product.ensures.limit c.step_product.ensures.ended c.step_product.ensures.found c.step_product.ensures.ranks c.step_product.ensures.next)
-
-pub returns-clause-tree : goal.returns-clause-tree
-returns-clause-tree g c = refl
-
-pub returns-clause-entries : goal.returns-clause-entries
-returns-clause-entries g c = refl
-
-pub returns-clause-changed : goal.returns-clause-changed
-returns-clause-changed g c =
-    let at = goal.at.returns-clause-changed g c in
-    changed_of g at.After-step_product ∙ ap (λ z. slice_set c.args.self.now.nodes.items c.args.node (with_product (lists_of c.args.self.now.nodes.items c.args.node) c.args.row c.args.child z)) (sym (product_is g at.After-step_product))
-
-pub returns-clause-reached : goal.returns-clause-reached
-returns-clause-reached g c =
-    let at = goal.at.returns-clause-reached g c in
-    let next : suc c.args.child ≡ c.args.child + 1 = omega arith in
-    let known = product_is g at.After-step_product in
-    subst (λ k. IsReached g.R.Rank.KEYS g.R.Rank.key c.args.self.now.tree.now (slice_set c.args.self.now.nodes.items c.args.node c.step_product.new.self) c.args.node c.args.row k (part_known c.args.self.now.nodes.items c.args.node c.args.row k)) next
-    (elim (stepped_reaches (passed g at.After-step_product) (product_at c.step_product.new.self c.args.row c.args.child) (passed_of g at.After-step_product) refl c.step_product.ensures.limit c.step_product.ensures.ended c.step_product.ensures.found c.step_product.ensures.ranks c.step_product.ensures.next) [
-      | inl more ↦ inl (omega (arith, more, ap (λ q. length q.found) known))
-      | inr all ↦ inr (omega (arith, all))
-    ])
-
-pub returns-clause-queue : goal.returns-clause-queue
-returns-clause-queue g c =
-    let at = goal.at.returns-clause-queue g c in
-    omega (arith, ap (λ q. length q.frontier) (product_is g at.After-step_product), (passed_of g at.After-step_product).longer)
-
-pub returns-clause-cost : goal.returns-clause-cost
-returns-clause-cost g c =
-    let old = ap (λ n. product_at n c.args.row c.args.child) (sym (lists_at c.args.self.now.nodes.items c.args.node c.index_mut.result.now c.index_mut.ensures.value (in_same _ _ _ c.requires.node c.requires.formed.all_nodes))) in
-    let fewer : bit_length (length (product_of c.args.self.now.nodes.items c.args.node c.args.row c.args.child).frontier) ≤ bit_length (length (product_of c.args.self.now.nodes.items c.args.node c.args.row c.args.child).frontier + 1) = bit_length_rises (length (product_of c.args.self.now.nodes.items c.args.node c.args.row c.args.child).frontier) (length (product_of c.args.self.now.nodes.items c.args.node c.args.row c.args.child).frontier + 1) (omega arith) in
-    omega (arith, fewer, c.offer_below-down.ensures.cost, c.offered-across.ensures.cost, c.step_product.ensures.cost, ap (λ q. bit_length (length q.frontier)) old, ap (λ q. bit_length (length q.frontier + 1)) old)
+pub returns : goal.returns
+returns g c =
+    let at = goal.at.returns g c in
+    record {
+      cost =
+          let old = ap (λ n. product_at n c.args.row c.args.child) (sym (lists_at c.args.self.now.nodes.items c.args.node c.index_mut.result.now c.index_mut.ensures.value (in_same _ _ _ c.requires.node c.requires.formed.all_nodes))) in
+          let fewer : bit_length (length (product_of c.args.self.now.nodes.items c.args.node c.args.row c.args.child).frontier) ≤ bit_length (length (product_of c.args.self.now.nodes.items c.args.node c.args.row c.args.child).frontier + 1) = bit_length_rises (length (product_of c.args.self.now.nodes.items c.args.node c.args.row c.args.child).frontier) (length (product_of c.args.self.now.nodes.items c.args.node c.args.row c.args.child).frontier + 1) (omega arith) in
+          omega (arith, fewer, c.offer_below-down.ensures.cost, c.offered-across.ensures.cost, c.step_product.ensures.cost, ap (λ q. bit_length (length q.frontier)) old, ap (λ q. bit_length (length q.frontier + 1)) old);
+      reached =
+          let next : suc c.args.child ≡ c.args.child + 1 = omega arith in
+          let known = product_is g at.After-step_product in
+          subst (λ k. IsReached g.R.Rank.KEYS g.R.Rank.key c.args.self.now.tree.now (slice_set c.args.self.now.nodes.items c.args.node c.step_product.new.self) c.args.node c.args.row k (part_known c.args.self.now.nodes.items c.args.node c.args.row k)) next
+          (elim (stepped_reaches (passed g at.After-step_product) (product_at c.step_product.new.self c.args.row c.args.child) (passed_of g at.After-step_product) refl c.step_product.ensures.limit c.step_product.ensures.ended c.step_product.ensures.found c.step_product.ensures.ranks c.step_product.ensures.next) [
+            | inl more ↦ inl (omega (arith, more, ap (λ q. length q.found) known))
+            | inr all ↦ inr (omega (arith, all))
+          ]);
+      formed =
+          subst (λ (z : List (NodeStreamsView g.row.R.Denot)). IsStreams g.R.Rank.KEYS g.R.Rank.key c.args.self.now.tree.now c.args.self.now.entries.entries z) (sym (changed_of g at.After-step_product))
+          (stepped_holds (passed g at.After-step_product) (product_at c.step_product.new.self c.args.row c.args.child) (passed_of g at.After-step_product) refl c.step_product.ensures.limit c.step_product.ensures.ended c.step_product.ensures.found c.step_product.ensures.ranks c.step_product.ensures.next);
+      changed = changed_of g at.After-step_product ∙ ap (λ z. slice_set c.args.self.now.nodes.items c.args.node (with_product (lists_of c.args.self.now.nodes.items c.args.node) c.args.row c.args.child z)) (sym (product_is g at.After-step_product));
+      entries = refl;
+      tree = refl;
+      queue = omega (arith, ap (λ q. length q.frontier) (product_is g at.After-step_product), (passed_of g at.After-step_product).longer);
+    }
