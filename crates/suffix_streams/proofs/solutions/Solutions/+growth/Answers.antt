@@ -7,7 +7,7 @@ use Rattle.tdp_core.proofs.Children.{kids_below_most}
 use Rattle.suffix_streams.specs.declared.stream.Found.{Found}
 use Rattle.suffix_streams.specs.ProductView.{ProductView}
 use Rattle.suffix_streams.specs.StreamView.{StreamView}
-use Rattle.suffix_streams.specs.NodeStreamsView.{NodeStreamsView, HasHead, product_at, stream_at, known_of}
+use Rattle.suffix_streams.specs.NodeStreamsView.{HasHead, product_at, known_of}
 use Rattle.suffix_streams.specs.Firsts.{can_enter}
 use Rattle.suffix_streams.specs.Rankings.{child}
 use Rattle.suffix_streams.specs.TreeStreams.{group_of, next_of, node_of, stream_of, part_known, row_known, lists_of, IsStreams}
@@ -24,7 +24,7 @@ use Rattle.suffix_streams.proofs.SearchRoom.{unstepped_on}
 use Rattle.suffix_streams.proofs.SearchSteps.{searched, left_or_none, all_or_none, left_reached, left_few, left_within, count_few}
 use Rattle.suffix_streams.proofs.SearchCalls.{on_ok, on_err, not_some, next_is, opened_grown}
 use Rattle.suffix_streams.proofs.solutions.Solutions.+growth.Given.{Over}
-use Rattle.suffix_streams.proofs.solutions.Solutions.+growth.Goals.{after-After-extend, after-After-get-found, after-After-open_row, after-After-child_count-count, after-In-Some-top, search-After-after, search-After-extend, search-After-make_room, extend-then-place-known-via-then-place-known, extend-then-place-known-via-else-place-known+then-count-eq0}
+use Rattle.suffix_streams.proofs.solutions.Solutions.+growth.Goals.{after-After-extend, after-After-get-found, after-After-open_row, after-After-place_after-count, after-In-Some-top, search-After-after, search-After-extend, search-After-make_room, extend-then-place-known-via-then-place-known, extend-then-place-known-via-else-place-known+then-count-eq0}
 use Rattle.suffix_streams.proofs.solutions.Solutions.+growth.Goals as goal
 
 -- # Numbers
@@ -131,18 +131,18 @@ module _ (g : Over) (t : ℕ) where
   entry_owned c = owned g.R.Rank.KEYS g.R.Rank.key c.args.self.now.tree.now c.args.self.now.entries.entries c.args.self.now.nodes.items c.args.entry c.get-found.result.now c.requires.formed c.requires.entry c.get-found.ensures.value
 
   top_of : (c : after-In-Some-top g t) → IsOwned g.R.Rank.KEYS g.R.Rank.key c.args.self.now.tree.now c.args.self.now.entries.entries c.args.self.now.nodes.items c.args.entry c.get-found.result.now → IsTopRead c.args.self.now.tree.now c.args.self.now.nodes.items c.get-found.result.now c.in-Some-top.top
-  top_of c o = top_read o c.index.result.now c.in-Some-top.top c.index.ensures (c.top.ensures.variant.0 (ap is_some c.in-Some-top.is)) (c.in-Some-top.ensures.top c.in-Some-top.top)
+  top_of c o = top_read o c.in-Some-top.top (c.top.ensures.variant.0 (ap is_some c.in-Some-top.is)) (c.in-Some-top.ensures.top c.in-Some-top.top)
 
   row_of : (c : after-After-open_row g t) → IsOwned g.R.Rank.KEYS g.R.Rank.key c.args.self.now.tree.now c.args.self.now.entries.entries c.args.self.now.nodes.items c.args.entry c.get-found.result.now → IsTopRead c.args.self.now.tree.now c.args.self.now.nodes.items c.get-found.result.now c.in-Some-top.top → IsRowOpen g.R.Rank.KEYS g.R.Rank.key c.args.self.now.tree.now c.args.self.now.entries.entries c.args.self.now.nodes.items c.open_row.new.self.nodes.items c.get-found.result.now c.in-Some-top.top c.in-Some-top.top.tag.row c.args.steps.now c.open_row.new.steps
   row_of c o p =
       row_open o p c.open_row.new.self.tree.now c.open_row.new.self.entries.entries c.open_row.new.self.nodes.items c.in-Some-top.top.tag.row c.args.steps.now c.open_row.new.steps p.row c.open_row.ensures.tree (ap (λ z. z.entries) c.open_row.ensures.entries) c.open_row.ensures.formed c.open_row.ensures.above c.open_row.ensures.streams c.open_row.ensures.queues (opened_steps _ _ _ _ _ c.next_of.ensures.cost c.get-found.ensures.cost c.open_row.ensures.cost)
 
-  counted_of : (c : after-After-child_count-count g t) → IsOwned g.R.Rank.KEYS g.R.Rank.key c.args.self.now.tree.now c.args.self.now.entries.entries c.args.self.now.nodes.items c.args.entry c.get-found.result.now → IsRowOpen g.R.Rank.KEYS g.R.Rank.key c.args.self.now.tree.now c.args.self.now.entries.entries c.args.self.now.nodes.items c.open_row.new.self.nodes.items c.get-found.result.now c.in-Some-top.top c.in-Some-top.top.tag.row c.args.steps.now c.open_row.new.steps → IsRowCounted c.args.self.now.tree.now c.open_row.new.self.nodes.items c.get-found.result.now c.in-Some-top.top c.in-Some-top.top.tag.row c.child_count-count.result
-  counted_of c o a = row_counted o a c.index-2.result.now c.child_count-count.result c.index-2.ensures c.child_count-count.ensures c.in_ok-open_row.ensures.count
+  counted_of : (c : after-After-place_after-count g t) → IsOwned g.R.Rank.KEYS g.R.Rank.key c.args.self.now.tree.now c.args.self.now.entries.entries c.args.self.now.nodes.items c.args.entry c.get-found.result.now → IsRowOpen g.R.Rank.KEYS g.R.Rank.key c.args.self.now.tree.now c.args.self.now.entries.entries c.args.self.now.nodes.items c.open_row.new.self.nodes.items c.get-found.result.now c.in-Some-top.top c.in-Some-top.top.tag.row c.args.steps.now c.open_row.new.steps → IsRowCounted c.args.self.now.tree.now c.open_row.new.self.nodes.items c.get-found.result.now c.in-Some-top.top c.in-Some-top.top.tag.row c.place_after-count.result.0
+  counted_of c o a = row_counted o a c.place_after-count.result.0 c.place_after-count.ensures.count c.in_ok-open_row.ensures.count
 
-  search_of : (c : after-After-extend g t) → IsRowSearched g.R.Rank.KEYS g.R.Rank.key c.args.self.now.tree.now c.args.self.now.entries.entries c.extend.new.self.entries.entries c.open_row.new.self.nodes.items c.extend.new.self.nodes.items c.get-found.result.now.node c.in-Some-top.top.tag.row c.child_count-count.result c.open_row.new.steps c.extend.new.steps
+  search_of : (c : after-After-extend g t) → IsRowSearched g.R.Rank.KEYS g.R.Rank.key c.args.self.now.tree.now c.args.self.now.entries.entries c.extend.new.self.entries.entries c.open_row.new.self.nodes.items c.extend.new.self.nodes.items c.get-found.result.now.node c.in-Some-top.top.tag.row c.place_after-count.result.0 c.open_row.new.steps c.extend.new.steps
   search_of c =
-      row_searched g.R.Rank.KEYS g.R.Rank.key c.args.self.now.tree.now c.open_row.new.self.tree.now c.extend.new.self.tree.now c.args.self.now.entries.entries c.open_row.new.self.entries.entries c.extend.new.self.entries.entries c.open_row.new.self.nodes.items c.extend.new.self.nodes.items c.get-found.result.now.node c.in-Some-top.top.tag.row c.child_count-count.result c.open_row.new.steps c.extend.new.steps c.open_row.ensures.tree (ap (λ z. z.entries) c.open_row.ensures.entries) c.extend.ensures.tree c.extend.ensures.formed c.extend.ensures.extended c.extend.ensures.queues c.extend.ensures.cost
+      row_searched g.R.Rank.KEYS g.R.Rank.key c.args.self.now.tree.now c.open_row.new.self.tree.now c.extend.new.self.tree.now c.args.self.now.entries.entries c.open_row.new.self.entries.entries c.extend.new.self.entries.entries c.open_row.new.self.nodes.items c.extend.new.self.nodes.items c.get-found.result.now.node c.in-Some-top.top.tag.row c.place_after-count.result.0 c.open_row.new.steps c.extend.new.steps c.open_row.ensures.tree (ap (λ z. z.entries) c.open_row.ensures.entries) c.extend.ensures.tree c.extend.ensures.formed c.extend.ensures.extended c.extend.ensures.queues c.extend.ensures.cost
 
   -- # What they share about a search in a row
 
@@ -161,35 +161,17 @@ module _ (g : Over) (t : ℕ) where
       let kids : c.args.count ≤ child_count c.args.self.now.tree.now c.args.node = count_few g.R.Rank.KEYS g.R.Rank.key c.args.self.now.tree.now c.args.self.now.entries.entries c.args.self.now.nodes.items c.requires.formed c.args.node c.args.row c.args.count c.requires.node c.requires.row c.requires.count in
       left_searched a b (searched g.R.Rank.KEYS g.R.Rank.key c.args.self.now.tree.now c.after.new.self.tree.now c.args.node c.args.row (c.args.count - 1) c.after.new.self.entries.entries c.after.new.self.nodes.items c.extend.new.self.tree.now c.extend.new.self.entries.entries c.extend.new.self.nodes.items c.left_search-earlier.result.0 c.after.new.steps c.extend.new.steps c.after.ensures.tree c.extend.ensures.tree (omega (arith, kids)) (all_or_none c.left_search-earlier.result.0 (c.args.count - 1) c.left_search-earlier.result.1 (c.in-Some.top.tag.left + 1) (left_is c)) c.extend.ensures.formed c.extend.ensures.extended c.extend.ensures.queues c.extend.ensures.cost)
 
-pub after-overflow_cast-found : goal.after-overflow_cast-found
-after-overflow_cast-found g t c =
-    let at = goal.at.after-overflow_cast-found g t c in
+pub after-top-requires-clause-node : goal.after-top-requires-clause-node
+after-top-requires-clause-node g t c =
+    let at = goal.at.after-top-requires-clause-node g t c in
     let o = entry_owned g t at.After-get-found in
-    node_fits _ _ o.node o.formed.tree.shaped.few_nodes
+    o.in_nodes
 
-pub after-overflow_cast-found-2 : goal.after-overflow_cast-found-2
-after-overflow_cast-found-2 g t c =
-    let at = goal.at.after-overflow_cast-found-2 g t c in
+pub after-top-requires-clause-group : goal.after-top-requires-clause-group
+after-top-requires-clause-group g t c =
+    let at = goal.at.after-top-requires-clause-group g t c in
     let o = entry_owned g t at.After-get-found in
-    node_fits _ _ o.node o.formed.tree.shaped.few_nodes
-
-pub after-overflow_cast-found-3 : goal.after-overflow_cast-found-3
-after-overflow_cast-found-3 g t c =
-    let at = goal.at.after-overflow_cast-found-3 g t c in
-    let o = entry_owned g t at.After-get-found in
-    node_fits _ _ o.node o.formed.tree.shaped.few_nodes
-
-pub after-index-requires : goal.after-index-requires
-after-index-requires g t c =
-    let at = goal.at.after-index-requires g t c in
-    let o = entry_owned g t at.After-get-found in
-    in_same _ _ _ o.in_nodes c.args.self.now.nodes.ok.0
-
-pub after-top-requires : goal.after-top-requires
-after-top-requires g t c =
-    let at = goal.at.after-top-requires g t c in
-    let o = entry_owned g t at.After-get-found in
-    subst (λ (z : NodeStreamsView g.row.R.Denot). c.get-found.result.now.group < length z.streams) (lists_at c.args.self.now.nodes.items c.get-found.result.now.node c.index.result.now c.index.ensures o.in_nodes) (in_same _ _ _ o.group (o.formed.all_streams c.get-found.result.now.node o.node))
+    in_same _ _ _ o.group (o.formed.all_streams c.get-found.result.now.node o.node)
 
 pub after-open_row-requires-clause-node : goal.after-open_row-requires-clause-node
 after-open_row-requires-clause-node g t c =
@@ -217,39 +199,29 @@ after-open_row-requires-clause-place g t c =
     let p = top_of g t at.In-Some-top o in
     subst (λ r. c.in-Some-top.top.tag.place < row_known c.args.self.now.nodes.items c.get-found.result.now.node r) (sym p.row) p.known
 
-pub after-index-requires-2 : goal.after-index-requires-2
-after-index-requires-2 g t c =
-    let at = goal.at.after-index-requires-2 g t c in
+pub after-place_after-count-requires-clause-node : goal.after-place_after-count-requires-clause-node
+after-place_after-count-requires-clause-node g t c =
+    let at = goal.at.after-place_after-count-requires-clause-node g t c in
     let o = entry_owned g t at.After-get-found in
     let p = top_of g t at.In-Some-top o in
     let a = row_of g t at.After-open_row o p in
-    in_same _ _ _ a.in_nodes c.open_row.new.self.nodes.ok.0
+    a.in_nodes
 
-pub after-index-requires-3 : goal.after-index-requires-3
-after-index-requires-3 g t c =
-    let at = goal.at.after-index-requires-3 g t c in
+pub after-place_after-count-requires-clause-opened : goal.after-place_after-count-requires-clause-opened
+after-place_after-count-requires-clause-opened g t c =
+    let at = goal.at.after-place_after-count-requires-clause-opened g t c in
     let o = entry_owned g t at.After-get-found in
     let p = top_of g t at.In-Some-top o in
     let a = row_of g t at.After-open_row o p in
-    in_same _ _ _ a.in_nodes c.open_row.new.self.nodes.ok.0
+    c.in_ok-open_row.ensures.count ∙ sym (a.formed.all_children c.get-found.result.now.node o.node)
 
-pub after-known-requires : goal.after-known-requires
-after-known-requires g t c =
-    let at = goal.at.after-known-requires g t c in
+pub after-place_after-count-requires-clause-known : goal.after-place_after-count-requires-clause-known
+after-place_after-count-requires-clause-known g t c =
+    let at = goal.at.after-place_after-count-requires-clause-known g t c in
     let o = entry_owned g t at.After-get-found in
     let p = top_of g t at.In-Some-top o in
     let a = row_of g t at.After-open_row o p in
-    let k = counted_of g t at.After-child_count-count o a in
-    record { count = subst (λ (z : NodeStreamsView g.row.R.Denot). c.child_count-count.result ≤ length (get_or z.products c.in-Some-top.top.tag.row [])) (lists_at c.open_row.new.self.nodes.items c.get-found.result.now.node c.index-3.result.now c.index-3.ensures a.in_nodes) k.within }
-
-pub after-next_place-place-requires : goal.after-next_place-place-requires
-after-next_place-place-requires g t c =
-    let at = goal.at.after-next_place-place-requires g t c in
-    let o = entry_owned g t at.After-get-found in
-    let p = top_of g t at.In-Some-top o in
-    let a = row_of g t at.After-open_row o p in
-    let k = counted_of g t at.After-child_count-count o a in
-    in_same _ _ _ k.known (c.known.ensures ∙ ap (λ z. known_of z c.in-Some-top.top.tag.row c.child_count-count.result) (sym (lists_at c.open_row.new.self.nodes.items c.get-found.result.now.node c.index-3.result.now c.index-3.ensures a.in_nodes)))
+    a.known
 
 pub after-extend-requires : goal.after-extend-requires
 after-extend-requires g t c κs within =
@@ -257,8 +229,8 @@ after-extend-requires g t c κs within =
     let o = entry_owned g t at.After-get-found in
     let p = top_of g t at.In-Some-top o in
     let a = row_of g t at.After-open_row o p in
-    let k = counted_of g t at.After-child_count-count o a in
-    (row_smaller _ _ _ _ _ _ c.decreases o.node_is (ap length c.open_row.ensures.tree) o.node (kids_few _ _ _ _ k.all (kids_below_most (parent c.args.self.now.tree.now) c.get-found.result.now.node (length c.args.self.now.tree.now)) o.formed.tree.shaped.few_nodes), (within.0, (within.1.0, (within.1.1, (c.open_row.ensures.formed, (subst IsTieFreeTree (sym c.open_row.ensures.tree) c.requires.tie_free, (subst (λ z. c.get-found.result.now.node < length z) (sym c.open_row.ensures.tree) o.node, (subst (λ z. c.in-Some-top.top.tag.row < rows z c.get-found.result.now.node) (sym c.open_row.ensures.tree) a.row, (k.within, next_within _ _ _ k.known c.next_place-place.ensures)))))))))
+    let k = counted_of g t at.After-place_after-count o a in
+    (row_smaller _ _ _ _ _ _ c.decreases o.node_is (ap length c.open_row.ensures.tree) o.node (kids_few _ _ _ _ k.all (kids_below_most (parent c.args.self.now.tree.now) c.get-found.result.now.node (length c.args.self.now.tree.now)) o.formed.tree.shaped.few_nodes), (within.0, (within.1.0, (within.1.1, (c.open_row.ensures.formed, (subst IsTieFreeTree (sym c.open_row.ensures.tree) c.requires.tie_free, (subst (λ z. c.get-found.result.now.node < length z) (sym c.open_row.ensures.tree) o.node, (subst (λ z. c.in-Some-top.top.tag.row < rows z c.get-found.result.now.node) (sym c.open_row.ensures.tree) a.row, (k.within, next_within _ _ _ k.known c.place_after-count.ensures.place)))))))))
 
 pub after-advance-requires-clause-node : goal.after-advance-requires-clause-node
 after-advance-requires-clause-node g t c =
@@ -288,7 +260,7 @@ after-advance-requires-clause-top g t c =
     let o = entry_owned g t at.After-get-found in
     let p = top_of g t at.In-Some-top o in
     let a = row_of g t at.After-open_row o p in
-    let k = counted_of g t at.After-child_count-count o a in
+    let k = counted_of g t at.After-place_after-count o a in
     let s = search_of g t at.After-extend in
     subst (λ z. 0 < length z) (sym (searched_queue o a k s)) p.some
 
@@ -298,10 +270,10 @@ after-advance-requires-clause-queue_room g t c one =
     let o = entry_owned g t at.After-get-found in
     let p = top_of g t at.In-Some-top o in
     let a = row_of g t at.After-open_row o p in
-    let k = counted_of g t at.After-child_count-count o a in
+    let k = counted_of g t at.After-place_after-count o a in
     let s = search_of g t at.After-extend in
     subst (λ (z : List (NodeView g.row.R.Denot)). can_enter (length (members z c.get-found.result.now.node c.get-found.result.now.group)) ≤ (stream_of c.extend.new.self.nodes.items c.get-found.result.now.node c.get-found.result.now.group).room) (sym (c.extend.ensures.tree ∙ c.open_row.ensures.tree))
-    (subst (λ (z : StreamView g.row.R.Denot). can_enter (length (members c.args.self.now.tree.now c.get-found.result.now.node c.get-found.result.now.group)) ≤ z.room) (sym (searched_stream o a k s)) (c.in_ok-open_row.ensures.room (none_before _ _ one c.next_place-place.ensures)))
+    (subst (λ (z : StreamView g.row.R.Denot). can_enter (length (members c.args.self.now.tree.now c.get-found.result.now.node c.get-found.result.now.group)) ≤ z.room) (sym (searched_stream o a k s)) (c.in_ok-open_row.ensures.room (none_before _ _ one c.place_after-count.ensures.place)))
 
 pub after-advance-requires-clause-row : goal.after-advance-requires-clause-row
 after-advance-requires-clause-row g t c =
@@ -324,7 +296,7 @@ after-advance-requires-clause-member g t c =
     let o = entry_owned g t at.After-get-found in
     let p = top_of g t at.In-Some-top o in
     let a = row_of g t at.After-open_row o p in
-    let k = counted_of g t at.After-child_count-count o a in
+    let k = counted_of g t at.After-place_after-count o a in
     let s = search_of g t at.After-extend in
     λ x. ap (λ z. (get_or z 0 x).tag.member) (searched_queue o a k s)
     ∙ ap (λ e. e.tag.member) (any_default (stream_of c.args.self.now.nodes.items c.get-found.result.now.node c.get-found.result.now.group).queue 0 x c.in-Some-top.top p.some ∙ sym p.first)
@@ -335,10 +307,10 @@ after-advance-requires-clause-after g t c =
     let o = entry_owned g t at.After-get-found in
     let p = top_of g t at.In-Some-top o in
     let a = row_of g t at.After-open_row o p in
-    let k = counted_of g t at.After-child_count-count o a in
+    let k = counted_of g t at.After-place_after-count o a in
     let s = search_of g t at.After-extend in
     λ x. ap (λ z. (get_or z 0 x).tag.place + 1) (searched_queue o a k s)
-    ∙ ap (λ e. e.tag.place + 1) (any_default (stream_of c.args.self.now.nodes.items c.get-found.result.now.node c.get-found.result.now.group).queue 0 x c.in-Some-top.top p.some ∙ sym p.first) ∙ sym c.next_place-place.ensures
+    ∙ ap (λ e. e.tag.place + 1) (any_default (stream_of c.args.self.now.nodes.items c.get-found.result.now.node c.get-found.result.now.group).queue 0 x c.in-Some-top.top p.some ∙ sym p.first) ∙ sym c.place_after-count.ensures.place
 
 pub after-advance-requires-clause-place : goal.after-advance-requires-clause-place
 after-advance-requires-clause-place g t c =
@@ -346,9 +318,9 @@ after-advance-requires-clause-place g t c =
     let o = entry_owned g t at.After-get-found in
     let p = top_of g t at.In-Some-top o in
     let a = row_of g t at.After-open_row o p in
-    let k = counted_of g t at.After-child_count-count o a in
-    subst (λ z. IsReached g.R.Rank.KEYS g.R.Rank.key c.extend.new.self.tree.now c.extend.new.self.nodes.items c.get-found.result.now.node c.in-Some-top.top.tag.row z c.next_place-place.result) (k.all ∙ ap (λ z. child_count z c.get-found.result.now.node) (sym (c.extend.ensures.tree ∙ c.open_row.ensures.tree)))
-    (subst (λ z. IsReached g.R.Rank.KEYS g.R.Rank.key z c.extend.new.self.nodes.items c.get-found.result.now.node c.in-Some-top.top.tag.row c.child_count-count.result c.next_place-place.result) (sym c.extend.ensures.tree) c.in_ok-extend.ensures.reached)
+    let k = counted_of g t at.After-place_after-count o a in
+    subst (λ z. IsReached g.R.Rank.KEYS g.R.Rank.key c.extend.new.self.tree.now c.extend.new.self.nodes.items c.get-found.result.now.node c.in-Some-top.top.tag.row z c.place_after-count.result.1) (k.all ∙ ap (λ z. child_count z c.get-found.result.now.node) (sym (c.extend.ensures.tree ∙ c.open_row.ensures.tree)))
+    (subst (λ z. IsReached g.R.Rank.KEYS g.R.Rank.key z c.extend.new.self.nodes.items c.get-found.result.now.node c.in-Some-top.top.tag.row c.place_after-count.result.0 c.place_after-count.result.1) (sym c.extend.ensures.tree) c.in_ok-extend.ensures.reached)
 
 pub search-after-requires : goal.search-after-requires
 search-after-requires g t c κs within =
@@ -457,12 +429,26 @@ search-step-requires-clause-frontier_room g t c =
     let l = left_of g t at.After-extend a b in
     subst (λ (z : ProductView g.row.R.Denot). 0 < c.args.count - 1 → 0 < z.frontier_room) (sym l.product) c.in_ok-make_room.ensures.frontier_room
 
-pub search-left_search-earlier-requires : goal.search-left_search-earlier-requires
-search-left_search-earlier-requires g t c =
-    let at = goal.at.search-left_search-earlier-requires g t c in
+pub search-left_search-earlier-requires-clause-node : goal.search-left_search-earlier-requires-clause-node
+search-left_search-earlier-requires-clause-node g t c =
+    let at = goal.at.search-left_search-earlier-requires-clause-node g t c in
     let a = room_of g t at.After-make_room in
     let b = child_of g t at.After-after a in
-    in_same _ _ _ b.left (c.known-known.ensures ∙ ap (λ z. known_of z c.args.row (c.args.count - 1)) (sym (lists_at c.after.new.self.nodes.items c.args.node c.index-2.result.now c.index-2.ensures (in_same _ _ _ c.requires.node b.formed.all_nodes))))
+    in_same _ _ _ c.requires.node b.formed.all_nodes
+
+pub search-left_search-earlier-requires-clause-child : goal.search-left_search-earlier-requires-clause-child
+search-left_search-earlier-requires-clause-child g t c =
+    let at = goal.at.search-left_search-earlier-requires-clause-child g t c in
+    let a = room_of g t at.After-make_room in
+    let b = child_of g t at.After-after a in
+    at_below _ _ _ b.in_row refl
+
+pub search-left_search-earlier-requires-clause-left : goal.search-left_search-earlier-requires-clause-left
+search-left_search-earlier-requires-clause-left g t c =
+    let at = goal.at.search-left_search-earlier-requires-clause-left g t c in
+    let a = room_of g t at.After-make_room in
+    let b = child_of g t at.After-after a in
+    b.left
 
 pub search-has_beside-beside-requires-clause-node : goal.search-has_beside-beside-requires-clause-node
 search-has_beside-beside-requires-clause-node g t c =
@@ -485,13 +471,6 @@ search-has_beside-beside-requires-clause-below g t c =
     let b = child_of g t at.After-after a in
     subst (λ n. slice_index (lists_of n c.args.node).children (c.args.count - 1) < length n) (sym c.as_slice.ensures.value)
     (child_in _ _ _ _ (b.formed.children c.args.node (c.args.count - 1) c.requires.node a.in_kids) a.child_within b.formed.all_nodes)
-
-pub search-known-known-requires : goal.search-known-known-requires
-search-known-known-requires g t c =
-    let at = goal.at.search-known-known-requires g t c in
-    let a = room_of g t at.After-make_room in
-    let b = child_of g t at.After-after a in
-    record { count = at_below _ _ _ (subst (λ (z : NodeStreamsView g.row.R.Denot). c.args.count - 1 < length (get_or z.products c.args.row [])) (lists_at c.after.new.self.nodes.items c.args.node c.index-2.result.now c.index-2.ensures (in_same _ _ _ c.requires.node b.formed.all_nodes)) b.in_row) refl }
 
 pub search-make_room-requires-clause-node : goal.search-make_room-requires-clause-node
 search-make_room-requires-clause-node g t c =
@@ -555,7 +534,7 @@ after-returns g t c =
     let o = entry_owned g t at.After-get-found in
     let p = top_of g t at.In-Some-top o in
     let a = row_of g t at.After-open_row o p in
-    let k = counted_of g t at.After-child_count-count o a in
+    let k = counted_of g t at.After-place_after-count o a in
     let s = search_of g t at.After-extend in
     record {
       formed = c.advance.ensures.formed;
@@ -633,7 +612,7 @@ after-returns-in_err-extend g t c =
     let o = entry_owned g t at.After-get-found in
     let p = top_of g t at.In-Some-top o in
     let a = row_of g t at.After-open_row o p in
-    let k = counted_of g t at.After-child_count-count o a in
+    let k = counted_of g t at.After-place_after-count o a in
     let s = search_of g t at.After-extend in
     record {
       formed = c.extend.ensures.formed;
@@ -717,7 +696,7 @@ after-returns-in_default-top g t c =
           let o = entry_owned g t at.After-get-found in
           let none = next_is c.args.self.now.entries.entries c.args.entry None c.requires.entry (λ x. c.next_of.ensures.next x ∙ c.in_default.is) in
           let empty : (stream_of c.args.self.now.nodes.items c.get-found.result.now.node c.get-found.result.now.group).queue ≡ [] =
-          ap (λ n. (stream_at n c.get-found.result.now.group).queue) (lists_at c.args.self.now.nodes.items c.get-found.result.now.node c.index.result.now c.index.ensures o.in_nodes) ∙ no_top c.top.result (stream_at c.index.result.now c.get-found.result.now.group).queue c.in_default-top.is c.top.ensures.variant in
+          no_top c.top.result (stream_of c.args.self.now.nodes.items c.get-found.result.now.node c.get-found.result.now.group).queue c.in_default-top.is c.top.ensures.variant in
           last_of_all g.R.Rank.KEYS g.R.Rank.key c.args.self.now.tree.now c.args.self.now.entries.entries c.args.self.now.nodes.items c.requires.formed c.args.entry c.requires.entry none
           (subst (λ v. (stream_of c.args.self.now.nodes.items v (group_of c.args.self.now.entries.entries c.args.entry)).queue ≡ []) (sym o.node_is) (subst (λ k. (stream_of c.args.self.now.nodes.items c.get-found.result.now.node k).queue ≡ []) (sym o.group_is) empty));
       known = λ some. not_some (next_of c.args.self.now.entries.entries c.args.entry) none some;

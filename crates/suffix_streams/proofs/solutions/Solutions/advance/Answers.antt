@@ -1,16 +1,14 @@
 use Rattle.std.proofs.Common.{◌≡◌, ◌≢◌, ℕ, ◌+◌, ◌*◌, ◌<◌, ◌≤◌, None, Some, IfSome, IfNone, is_some, List, [], ◌∷◌, ◌++◌, length, get_or, refl, sym, ap, ◌∙◌, subst, arith}
-use Rattle.take2_heap.specs.Order.{IsLeast}
 use Rattle.tdp_core.specs.TreeView.{number, members, child_count}
 use Rattle.tdp_model.specs.KeyTuple.{key_none}
 use Rattle.stream_store.specs.declared.entry.Linked.{Linked}
 use Rattle.take2_heap.specs.declared.entry.Entry.{Entry}
 use Rattle.suffix_streams.specs.declared.stream.Found.{Found}
 use Rattle.suffix_streams.specs.declared.stream.Solved.{Solved}
-use Rattle.suffix_streams.specs.NodeStreamsView.{NodeStreamsView, stream_at, with_queue}
+use Rattle.suffix_streams.specs.NodeStreamsView.{NodeStreamsView, with_queue}
 use Rattle.suffix_streams.specs.TreeStreams.{IsSumOf, row_known, products_of, IsStreams, node_list, group_list_of, node_of, group_of, stream, lists_of, stream_of}
 use Rattle.suffix_streams.specs.Growing.{IsAnswered}
 use Rattle.suffix_streams.proofs.Changes.{lists_other, lists_same}
-use Rattle.suffix_streams.proofs.Heads.{lists_at}
 use Rattle.suffix_streams.proofs.Kept.{held_itself}
 use Rattle.suffix_streams.proofs.StepCells.{first_of, no_top}
 use Rattle.suffix_streams.proofs.Merging.{queued_products}
@@ -24,7 +22,7 @@ use Rattle.stream_model.specs.Links.{owned, IsLinkedAt}
 use Rattle.suffix_streams.specs.Rankings.{part_list, group_list}
 use Rattle.suffix_streams.proofs.QueuePass.{IsGroupTop, IsQueuePassed, IsEntryLinked, whole_stream, group_top, queue_passed, passed_ends, passed_grows, entry_linked}
 use Rattle.suffix_streams.proofs.solutions.Solutions.advance.Given.{Over}
-use Rattle.suffix_streams.proofs.solutions.Solutions.advance.Goals.{After-as_slice, After-index, After-pass_last, After-push_reserved-next, After-set_next, In_ok-top}
+use Rattle.suffix_streams.proofs.solutions.Solutions.advance.Goals.{After-as_slice, After-pass_last, After-push_reserved-next, After-set_next, In_ok-top}
 use Rattle.suffix_streams.proofs.solutions.Solutions.advance.Goals as goal
 
 -- # What the proofs share
@@ -65,18 +63,6 @@ module _ (g : Over) where
         bit_length_rises (length (stream_of c.pass_last.new.nodes.items c.args.node c.args.group).queue) (n + 1) (omega (arith, new)),
       )
 
-  -- the lists of the node that are read then
-  read_of : (c : After-index g) → IsGroupTop g.R.Rank.KEYS g.R.Rank.key c.args.self.now.tree.now c.args.self.now.entries.entries c.args.self.now.nodes.items c.args.last c.args.node c.args.group c.args.row → lists_of c.pass_last.new.nodes.items c.args.node ≡ c.index.result.now
-  read_of c o =
-      let long = set_length c.args.self.now.nodes.items c.args.node (with_queue (lists_of c.args.self.now.nodes.items c.args.node) c.args.group (stream_of c.pass_last.new.nodes.items c.args.node c.args.group).queue (stream_of c.pass_last.new.nodes.items c.args.node c.args.group).room) in
-      lists_at c.pass_last.new.nodes.items c.args.node c.index.result.now c.index.ensures (omega (arith, o.in_nodes, ap length c.pass_last.ensures.changed, long))
-
-  some_of : (c : In_ok-top g) → lists_of c.pass_last.new.nodes.items c.args.node ≡ c.index.result.now → 0 < length (stream_of c.pass_last.new.nodes.items c.args.node c.args.group).queue
-  some_of c read = subst (λ n. 0 < length (stream_at n c.args.group).queue) (sym read) (c.top.ensures.variant.0 (ap is_some c.in_ok-top.was))
-
-  first_is : (c : In_ok-top g) → lists_of c.pass_last.new.nodes.items c.args.node ≡ c.index.result.now → c.in_ok-top.top ≡ get_or (stream_of c.pass_last.new.nodes.items c.args.node c.args.group).queue 0 c.in_ok-top.top
-  first_is c read = c.in_ok-top.ensures.top c.in_ok-top.top ∙ ap (λ n. get_or (stream_at n c.args.group).queue 0 c.in_ok-top.top) (sym read)
-
   -- the nodes but this one are as they were
   others_of : (c : After-pass_last g) (v : ℕ) → v ≢ c.args.node → lists_of c.pass_last.new.nodes.items v ≡ lists_of c.args.self.now.nodes.items v
   others_of c v other =
@@ -104,16 +90,15 @@ row_offer-offer-requires-clause-place g c =
     let place : x.0.tag.place + 1 ≡ c.args.place = ap (λ e. e.tag.place + 1) x.1 ∙ c.requires.after x.0 in
     omega (arith, place)
 
-pub top-requires : goal.top-requires
-top-requires g c =
-    let at = goal.at.top-requires g c in
+pub top-requires-clause-group : goal.top-requires-clause-group
+top-requires-clause-group g c =
+    let at = goal.at.top-requires-clause-group g c in
     let o = top_of g at.After-as_slice in
-    let read = read_of g c o in
     let n = c.args.self.now.nodes.items in
     let queued = with_queue (lists_of n c.args.node) c.args.group (stream_of c.pass_last.new.nodes.items c.args.node c.args.group).queue (stream_of c.pass_last.new.nodes.items c.args.node c.args.group).room in
     let streams = ap (λ (z : List (NodeStreamsView g.row.R.Denot)). length (lists_of z c.args.node).streams) c.pass_last.ensures.changed ∙ ap (λ (m : NodeStreamsView g.row.R.Denot). length m.streams) (lists_same n c.args.node queued o.in_nodes)
     ∙ set_length (lists_of n c.args.node).streams c.args.group (record (stream_of n c.args.node c.args.group) { queue = (stream_of c.pass_last.new.nodes.items c.args.node c.args.group).queue; room = (stream_of c.pass_last.new.nodes.items c.args.node c.args.group).room }) in
-    omega (arith, o.group, c.requires.formed.all_streams c.args.node o.node, streams, ap (λ (m : NodeStreamsView g.row.R.Denot). length m.streams) read)
+    omega (arith, o.group, c.requires.formed.all_streams c.args.node o.node, streams)
 
 pub pass_last-requires-clause-group : goal.pass_last-requires-clause-group
 pass_last-requires-clause-group g c =
@@ -149,9 +134,9 @@ pass_last-requires-clause-top g c = c.requires.top
 pub pass_last-requires-clause-room : goal.pass_last-requires-clause-room
 pass_last-requires-clause-room g c = c.requires.queue_room
 
-pub index-requires : goal.index-requires
-index-requires g c =
-    let at = goal.at.index-requires g c in
+pub top-requires-clause-node : goal.top-requires-clause-node
+top-requires-clause-node g c =
+    let at = goal.at.top-requires-clause-node g c in
     let o = top_of g at.After-as_slice in
     let long = set_length c.args.self.now.nodes.items c.args.node (with_queue (lists_of c.args.self.now.nodes.items c.args.node) c.args.group (stream_of c.pass_last.new.nodes.items c.args.node c.args.group).queue (stream_of c.pass_last.new.nodes.items c.args.node c.args.group).room) in
     omega (arith, o.in_nodes, ap length c.pass_last.ensures.changed, long)
@@ -161,8 +146,7 @@ returns-in_err-top g c =
     let at = goal.at.returns-in_err-top g c in
     let o = top_of g at.After-as_slice in
     let p = passed_of g at.After-pass_last o in
-    let read = read_of g at.After-index o in
-    let empty : (stream_of c.pass_last.new.nodes.items c.args.node c.args.group).queue ≡ [] = ap (λ n. (stream_at n c.args.group).queue) read ∙ no_top c.top.result (stream_at c.index.result.now c.args.group).queue c.in_err-top.was c.top.ensures.variant in
+    let empty : (stream_of c.pass_last.new.nodes.items c.args.node c.args.group).queue ≡ [] = no_top c.top.result (stream_of c.pass_last.new.nodes.items c.args.node c.args.group).queue c.in_err-top.was c.top.ensures.variant in
     let changed = c.pass_last.ensures.changed in
     record {
       answer =
@@ -215,15 +199,9 @@ returns g c =
       products = ap (λ (z : List (NodeStreamsView g.row.R.Denot)). (lists_of z c.args.node).products) changed ∙ queued_products g.R.Rank.KEYS g.R.Rank.key c.args.self.now.tree.now c.args.self.now.entries.entries c.args.self.now.entries.entries c.args.self.now.nodes.items c.requires.formed (held_itself c.args.self.now.entries.entries) c.args.node c.args.group o.node o.group (stream_of c.pass_last.new.nodes.items c.args.node c.args.group).queue (stream_of c.pass_last.new.nodes.items c.args.node c.args.group).room c.args.node;
       formed =
           let p = passed_of g at.After-pass_last o in
-          let changed = c.pass_last.ensures.changed in
-          let read = read_of g at.After-index o in
-          let some = some_of g at.In_ok-top read in
-          let first = first_is g at.In_ok-top read in
-          let e = linked_of g at.After-set_next o in
           subst (λ (z : List (NodeStreamsView g.row.R.Denot)). IsStreams g.R.Rank.KEYS g.R.Rank.key c.args.self.now.tree.now c.set_next.new.self.entries z) (sym changed)
           (passed_grows p (stream_of c.pass_last.new.nodes.items c.args.node c.args.group).room c.set_next.new.self.entries c.in_ok-top.top (entry_held c.args.self.now.entries.entries c.set_next.new.self.entries e.store) e.owners e.linked e.others
-          (e.longer ∙ ap (λ (z : Entry g.row.R.Denot Solved). stream c.args.self.now.entries.entries c.args.node c.args.group ++ (z ∷ [])) c.kept_solution.ensures) some first
-          (subst (λ n. IsLeast g.R.Rank.KEYS g.R.Rank.key c.in_ok-top.top (stream_at n c.args.group).queue) (sym read) c.in_ok-top.ensures.least));
+          (e.longer ∙ ap (λ (z : Entry g.row.R.Denot Solved). stream c.args.self.now.entries.entries c.args.node c.args.group ++ (z ∷ [])) c.kept_solution.ensures) (c.top.ensures.variant.0 (ap is_some c.in_ok-top.was)) (c.in_ok-top.ensures.top c.in_ok-top.top) c.in_ok-top.ensures.least);
       tree = refl;
       answer = e.answer ∙ ap Some (sym c.push_reserved-next.ensures.id);
       growth = λ v. e.growth v;
