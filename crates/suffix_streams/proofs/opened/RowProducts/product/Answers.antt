@@ -3,9 +3,6 @@ use Rattle.suffix_streams.proofs.Stores.{any_default}
 use Rattle.suffix_streams.proofs.OpenedRows.{number_some, place_fits, place_in, product_read}
 use Rattle.suffix_streams.proofs.opened.RowProducts.product.Goals as goal
 
-in_same : (v n m : ℕ) → v < n → m ≡ n → v < m
-in_same v n m l e = omega arith
-
 one_within : (n : ℕ) → 0 < n → 1 ≤ n
 one_within n h = omega arith
 

@@ -29,9 +29,6 @@ use Rattle.suffix_streams.proofs.solutions.Solutions.+growth.Goals as goal
 
 -- # Numbers
 
-node_fits : (v n : ℕ) → v < n → n ≤ 16 → Fits w64 v
-node_fits v n l few = omega arith
-
 in_same : (v n m : ℕ) → v < n → m ≡ n → v < m
 in_same v n m l e = omega arith
 
