@@ -1,4 +1,4 @@
-use Rattle.std.proofs.Common.{◌≡◌, ℕ, ◌<◌, ◌≤◌, ◌+◌, ◌-◌, ◌*◌, ◌%◌, refl, ap, ◌∙◌, arith}
+use Rattle.std.proofs.Common.{ℕ, ◌<◌, ◌≤◌, ◌+◌, ◌-◌, ◌*◌, ◌%◌, refl, ap, ◌∙◌, arith}
 use Rattle.suffix_streams.proofs.Stores.{any_default}
 use Rattle.suffix_streams.proofs.OpenedRows.{number_some, place_fits, place_in, product_read, changed_chunked, changed_rows, view_changed}
 use Rattle.suffix_streams.proofs.opened.RowProducts.product_mut.Goals as goal

@@ -46,5 +46,5 @@ returns-in_err-clone-2 g c =
       tree = none_given _ c.from_residual-in_err-clone-2.result c.from_residual-in_err-clone-2.ensures.0;
       prefixes = none_given _ c.from_residual-in_err-clone-2.result c.from_residual-in_err-clone-2.ensures.0;
       calls = none_given _ c.from_residual-in_err-clone-2.result c.from_residual-in_err-clone-2.ensures.0;
-      cost = c.begun_nodes.ensures.cost;
+      cost = no_steps _ _;
     }
