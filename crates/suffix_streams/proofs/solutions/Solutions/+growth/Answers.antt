@@ -75,6 +75,9 @@ below_next v u e = omega arith
 child_in : (v u n m : ℕ) → v ≡ u → u < n → m ≡ n → v < m
 child_in v u n m e l same = omega arith
 
+all_found : (found whole known : ℕ) → found ≡ whole → found ≡ known → whole ≤ known
+all_found found whole known e is = omega arith
+
 queue_itself : (n more : ℕ) → n ≤ max 1 n + more
 queue_itself n more = omega arith
 
@@ -650,7 +653,7 @@ search-returns-in_default g t c =
           let last : suc (c.args.count - 1) ≡ c.args.count = last_is c.args.count c.requires.some in
           let empty = ap (λ n. (product_at n c.args.row (c.args.count - 1)).frontier) (lists_at c.args.self.now.nodes.items c.args.node c.index.result.now c.index.ensures (in_same _ _ _ c.requires.node c.requires.formed.all_nodes)) ∙ no_top c.product_top.result (product_at c.index.result.now c.args.row (c.args.count - 1)).frontier c.in_default.is c.product_top.ensures.variant in
           let done = sums_done g.R.Rank.KEYS g.R.Rank.key c.args.self.now.tree.now c.args.self.now.entries.entries c.args.self.now.nodes.items c.requires.formed c.args.node c.args.row (c.args.count - 1) c.requires.node c.requires.row (last_below _ _ c.requires.some c.requires.count) empty in
-          on_ok c.reserve.result (subst (λ z. IsReached g.R.Rank.KEYS g.R.Rank.key c.args.self.now.tree.now c.args.self.now.nodes.items c.args.node c.args.row z (part_known c.args.self.now.nodes.items c.args.node c.args.row c.args.count)) last (inr (omega (arith, done, ap (λ z. part_known c.args.self.now.nodes.items c.args.node c.args.row z) last))));
+          on_ok c.reserve.result (subst (λ z. IsReached g.R.Rank.KEYS g.R.Rank.key c.args.self.now.tree.now c.args.self.now.nodes.items c.args.node c.args.row z (part_known c.args.self.now.nodes.items c.args.node c.args.row c.args.count)) last (inr (all_found _ _ _ done (ap (λ z. part_known c.args.self.now.nodes.items c.args.node c.args.row z) last))));
       room = c.reserve.ensures.ok;
       refused = on_err c.reserve.result (λ s k. (refl, refl, refl));
       queues = λ v r k. queue_itself _ _;
