@@ -1,5 +1,5 @@
 //! The next solution of a stream, and the steps at the nodes below it.
-ghost use Rattle.std.specs.Prelude.{◌≡◌, ◌≢◌, ℕ, ◌+◌, ◌*◌, ◌<◌, ◌≤◌, ◌↔◌, Option, None, cond, nat_eq, length, slice_set, slice_index, slice_index_or, IfOk, MatchOption, IfSome, OnOk, OnErr, IsOk, IsSome, IsTrue, IsFalse};
+ghost use Rattle.std.specs.Prelude.{◌≡◌, ◌≢◌, ℕ, ◌+◌, ◌*◌, ◌<◌, ◌≤◌, ◌↔◌, Option, cond, nat_eq, length, slice_set, slice_index, slice_index_or, IfOk, MatchOption, IfSome, OnOk, OnErr, IsOk, IsSome, IsTrue, IsFalse};
 ghost use Rattle.take2_heap.specs.declared.entry.Entry.{Entry};
 ghost use Rattle.take2_heap.specs.Order.{IsLeast};
 ghost use Rattle.tdp_core.specs.TreeView.{parent, rows, number as row_number, child_count, group_count, group_named, members};
@@ -9,9 +9,10 @@ ghost use Rattle.rank_key.specs.Bits.{bit_length};
 ghost use Rattle.suffix_streams.specs.Rankings.{child as child_node};
 ghost use Rattle.stream_cells.specs.declared.cell.Cell.{Cell};
 ghost use Rattle.stream_cells.specs.declared.source.Source.{Source};
-ghost use Rattle.suffix_streams.specs.TreeStreams.{IsStreams, node_of, group_of, next_of, node_size, lists_of, stream_of, product_of, products_of, part_known, row_known};
+ghost use Rattle.suffix_streams.specs.TreeStreams.{IsStreams, node_of, next_of, node_size, lists_of, stream_of, product_of, products_of, part_known, row_known};
 ghost use Rattle.suffix_streams.specs.NodeStreamsView.{HasHead, with_queue};
 ghost use Rattle.suffix_streams.specs.Firsts.{can_enter};
+ghost use Rattle.suffix_streams.specs.LastEntries.{IsLast, IsQueueTop};
 ghost use Rattle.suffix_streams.specs.Refusals.{AreUnstepped};
 ghost use Rattle.suffix_streams.specs.Growing.{IsStoreGrown, IsGrown, IsExtended, IsReached, IsAnswered, HasOtherProduct, AreQueuesGrown, IsWithinSteps, below_kids, kids_size};
 
@@ -387,17 +388,8 @@ impl<'t, R: Rank, A: Allocator + Clone> Solutions<'t, R, A> {
         requires formed { IsStreams R.KEYS R.key self.old.tree.now self.old.entries.entries
             self.old.nodes.items }
         requires tie_free { IsTieFreeTree self.old.tree.now }
-        requires last { last < length self.old.entries.entries }
-        requires node { node_of self.old.entries.entries last ≡ node }
-        requires group { group_of self.old.entries.entries last ≡ group }
-        requires none { next_of self.old.entries.entries last ≡ None }
-        requires top { 0 < length (stream_of self.old.nodes.items node group).queue }
-        requires member { (d : Entry R Source)
-            → (slice_index_or (stream_of self.old.nodes.items node group).queue 0 d).tag.member
-            ≡ member }
-        requires after { (d : Entry R Source)
-            → (slice_index_or (stream_of self.old.nodes.items node group).queue 0 d).tag.place + 1
-            ≡ place }
+        requires last { IsLast self.old.entries.entries last node group }
+        requires top { IsQueueTop (stream_of self.old.nodes.items node group).queue member place }
         requires row { row ≡ slice_index (members self.old.tree.now node group) member }
         requires number { number ≡ row_number self.old.tree.now node row }
         requires count { length (products_of self.old.nodes.items node row)

@@ -1,5 +1,7 @@
 use Rattle.std.proofs.Common.{◌≡◌, ◌≢◌, ◌↔◌, ◌⊎◌, IsTrue, ℕ, suc, ◌+◌, ◌-◌, ◌*◌, ◌<◌, ◌≤◌, max, Some, None, is_some, OnOk, List, [], length, get_or, slice_index, refl, sym, ap, ◌∙◌, subst, inl, inr, arith}
 use Rattle.stream_store.specs.declared.entry.Linked.{Linked}
+use Rattle.take2_heap.specs.declared.entry.Entry.{Entry}
+use Rattle.stream_cells.specs.declared.source.Source.{Source}
 use Rattle.rank_key.specs.Bits.{bit_length}
 use Rattle.tdp_core.specs.TreeView.{NodeView, parent, rows, number, members, child_count, group_named}
 use Rattle.tdp_core.specs.WellFormed.{IsTieFreeTree}
@@ -232,28 +234,6 @@ after-extend-requires g t c κs within =
     let k = counted_of g t at.After-place_after-count o a in
     (row_smaller _ _ _ _ _ _ c.decreases o.node_is (ap length c.open_row.ensures.tree) o.node (kids_few _ _ _ _ k.all (kids_below_most (parent c.args.self.now.tree.now) c.get-found.result.now.node (length c.args.self.now.tree.now)) o.formed.tree.shaped.few_nodes), (within.0, (within.1.0, (within.1.1, (c.open_row.ensures.formed, (subst IsTieFreeTree (sym c.open_row.ensures.tree) c.requires.tie_free, (subst (λ z. c.get-found.result.now.node < length z) (sym c.open_row.ensures.tree) o.node, (subst (λ z. c.in-Some-top.top.tag.row < rows z c.get-found.result.now.node) (sym c.open_row.ensures.tree) a.row, (k.within, next_within _ _ _ k.known c.place_after-count.ensures.place)))))))))
 
-pub after-advance-requires-clause-node : goal.after-advance-requires-clause-node
-after-advance-requires-clause-node g t c =
-    let at = goal.at.after-advance-requires-clause-node g t c in
-    let o = entry_owned g t at.After-get-found in
-    let s = search_of g t at.After-extend in
-    s.extended.store.nodes c.args.entry c.requires.entry ∙ o.node_is
-
-pub after-advance-requires-clause-group : goal.after-advance-requires-clause-group
-after-advance-requires-clause-group g t c =
-    let at = goal.at.after-advance-requires-clause-group g t c in
-    let o = entry_owned g t at.After-get-found in
-    let s = search_of g t at.After-extend in
-    s.extended.store.groups c.args.entry c.requires.entry ∙ o.group_is
-
-pub after-advance-requires-clause-none : goal.after-advance-requires-clause-none
-after-advance-requires-clause-none g t c =
-    let at = goal.at.after-advance-requires-clause-none g t c in
-    let o = entry_owned g t at.After-get-found in
-    let s = search_of g t at.After-extend in
-    let none = next_is c.args.self.now.entries.entries c.args.entry None c.requires.entry (λ x. c.next_of.ensures.next x ∙ c.in_default.is) in
-    s.extended.store.above c.args.entry c.requires.entry (below_next _ _ o.node_is) ∙ none
-
 pub after-advance-requires-clause-top : goal.after-advance-requires-clause-top
 after-advance-requires-clause-top g t c =
     let at = goal.at.after-advance-requires-clause-top g t c in
@@ -262,7 +242,13 @@ after-advance-requires-clause-top g t c =
     let a = row_of g t at.After-open_row o p in
     let k = counted_of g t at.After-place_after-count o a in
     let s = search_of g t at.After-extend in
-    subst (λ z. 0 < length z) (sym (searched_queue o a k s)) p.some
+    let same = searched_queue o a k s in
+    let first : (x : Entry g.row.R.Denot Source) → get_or (stream_of c.extend.new.self.nodes.items c.get-found.result.now.node c.get-found.result.now.group).queue 0 x ≡ c.in-Some-top.top = λ x. ap (λ z. get_or z 0 x) same ∙ any_default (stream_of c.args.self.now.nodes.items c.get-found.result.now.node c.get-found.result.now.group).queue 0 x c.in-Some-top.top p.some ∙ sym p.first in
+    record {
+      some = subst (λ z. 0 < length z) (sym same) p.some;
+      member = λ x. ap (λ e. e.tag.member) (first x);
+      after = λ x. ap (λ e. e.tag.place + 1) (first x) ∙ sym c.place_after-count.ensures.place;
+    }
 
 pub after-advance-requires-clause-queue_room : goal.after-advance-requires-clause-queue_room
 after-advance-requires-clause-queue_room g t c one =
@@ -289,28 +275,6 @@ after-advance-requires-clause-number g t c =
     let p = top_of g t at.In-Some-top o in
     p.numbered ∙ ap (number c.args.self.now.tree.now c.get-found.result.now.node) (sym p.row)
     ∙ ap (λ (z : List (NodeView g.row.R.Denot)). number z c.get-found.result.now.node c.in-Some-top.top.tag.row) (sym (c.extend.ensures.tree ∙ c.open_row.ensures.tree))
-
-pub after-advance-requires-clause-member : goal.after-advance-requires-clause-member
-after-advance-requires-clause-member g t c =
-    let at = goal.at.after-advance-requires-clause-member g t c in
-    let o = entry_owned g t at.After-get-found in
-    let p = top_of g t at.In-Some-top o in
-    let a = row_of g t at.After-open_row o p in
-    let k = counted_of g t at.After-place_after-count o a in
-    let s = search_of g t at.After-extend in
-    λ x. ap (λ z. (get_or z 0 x).tag.member) (searched_queue o a k s)
-    ∙ ap (λ e. e.tag.member) (any_default (stream_of c.args.self.now.nodes.items c.get-found.result.now.node c.get-found.result.now.group).queue 0 x c.in-Some-top.top p.some ∙ sym p.first)
-
-pub after-advance-requires-clause-after : goal.after-advance-requires-clause-after
-after-advance-requires-clause-after g t c =
-    let at = goal.at.after-advance-requires-clause-after g t c in
-    let o = entry_owned g t at.After-get-found in
-    let p = top_of g t at.In-Some-top o in
-    let a = row_of g t at.After-open_row o p in
-    let k = counted_of g t at.After-place_after-count o a in
-    let s = search_of g t at.After-extend in
-    λ x. ap (λ z. (get_or z 0 x).tag.place + 1) (searched_queue o a k s)
-    ∙ ap (λ e. e.tag.place + 1) (any_default (stream_of c.args.self.now.nodes.items c.get-found.result.now.node c.get-found.result.now.group).queue 0 x c.in-Some-top.top p.some ∙ sym p.first) ∙ sym c.place_after-count.ensures.place
 
 pub after-advance-requires-clause-place : goal.after-advance-requires-clause-place
 after-advance-requires-clause-place g t c =
@@ -518,7 +482,16 @@ after-advance-requires-clause-tie_free g t c =
 
 pub after-advance-requires-clause-last : goal.after-advance-requires-clause-last
 after-advance-requires-clause-last g t c =
-    in_longer _ _ _ (in_same _ _ _ c.requires.entry (ap (λ z. length z.entries) c.open_row.ensures.entries)) c.extend.ensures.extended.store.longer
+    let at = goal.at.after-advance-requires-clause-last g t c in
+    let o = entry_owned g t at.After-get-found in
+    let s = search_of g t at.After-extend in
+    let none = next_is c.args.self.now.entries.entries c.args.entry None c.requires.entry (λ x. c.next_of.ensures.next x ∙ c.in_default.is) in
+    record {
+      within = in_longer _ _ _ c.requires.entry s.extended.store.longer;
+      node = s.extended.store.nodes c.args.entry c.requires.entry ∙ o.node_is;
+      group = s.extended.store.groups c.args.entry c.requires.entry ∙ o.group_is;
+      none = s.extended.store.above c.args.entry c.requires.entry (below_next _ _ o.node_is) ∙ none;
+    }
 
 pub after-advance-requires-clause-count : goal.after-advance-requires-clause-count
 after-advance-requires-clause-count g t c =

@@ -30,7 +30,7 @@ use Rattle.suffix_streams.proofs.solutions.Solutions.advance.Goals as goal
 module _ (g : Over) where
   top_of : (c : After-as_slice g) → IsGroupTop g.R.Rank.KEYS g.R.Rank.key c.args.self.now.tree.now c.args.self.now.entries.entries c.args.self.now.nodes.items c.args.last c.args.node c.args.group c.args.row
   top_of c =
-      group_top g.R.Rank.KEYS g.R.Rank.key c.args.self.now.tree.now c.args.self.now.entries.entries c.args.self.now.nodes.items c.args.last c.args.node c.args.group c.args.row c.args.member c.requires.formed c.requires.last c.requires.node c.requires.group c.requires.top c.requires.member c.requires.row
+      group_top g.R.Rank.KEYS g.R.Rank.key c.args.self.now.tree.now c.args.self.now.entries.entries c.args.self.now.nodes.items c.args.last c.args.node c.args.group c.args.row c.args.member c.requires.formed c.requires.last.within c.requires.last.node c.requires.last.group c.requires.top.some c.requires.top.member c.requires.row
 
   -- the offer, in terms of the nodes
   offer_of : (c : After-pass_last g) → IfNone c.row_offer-offer.result (row_known c.args.self.now.nodes.items c.args.node c.args.row ≤ c.args.place) × IfSome c.row_offer-offer.result (λ e. (e.tag.member ≡ c.args.member) × (e.tag.place ≡ c.args.place)) × IfSome c.row_offer-offer.result (λ e. c.args.place < row_known c.args.self.now.nodes.items c.args.node c.args.row) × IfSome c.row_offer-offer.result (λ e. (e.tag.row ≡ c.args.row) × (e.tag.number ≡ number c.args.self.now.tree.now c.args.node c.args.row) × ((i : ℕ) → child_count c.args.self.now.tree.now c.args.node ≡ i + 1 → IsSumOf g.R.Rank.KEYS g.R.Rank.key c.args.self.now.tree.now c.args.self.now.entries.entries c.args.self.now.nodes.items c.args.node c.args.row i c.args.place e.tag.cell))
@@ -43,7 +43,7 @@ module _ (g : Over) where
   passed_of : (c : After-pass_last g) → IsGroupTop g.R.Rank.KEYS g.R.Rank.key c.args.self.now.tree.now c.args.self.now.entries.entries c.args.self.now.nodes.items c.args.last c.args.node c.args.group c.args.row → IsQueuePassed g.R.Rank.KEYS g.R.Rank.key c.args.self.now.tree.now c.args.self.now.entries.entries c.args.self.now.nodes.items c.args.node c.args.group (stream_of c.pass_last.new.nodes.items c.args.node c.args.group).queue
   passed_of c o =
       let f = offer_of c in
-      queue_passed o c.requires.tie_free c.args.member c.args.place c.row_offer-offer.result (stream_of c.pass_last.new.nodes.items c.args.node c.args.group).queue c.requires.formed c.pass_last.ensures.moved c.requires.top c.requires.member c.requires.after c.requires.row c.requires.count c.requires.place f.0 f.1 f.2 f.3 f.4 c.pass_last.ensures.least
+      queue_passed o c.requires.tie_free c.args.member c.args.place c.row_offer-offer.result (stream_of c.pass_last.new.nodes.items c.args.node c.args.group).queue c.requires.formed c.pass_last.ensures.moved c.requires.top.some c.requires.top.member c.requires.top.after c.requires.row c.requires.count c.requires.place f.0 f.1 f.2 f.3 f.4 c.pass_last.ensures.least
 
   old_queue : (c : After-pass_last g) → IsGroupTop g.R.Rank.KEYS g.R.Rank.key c.args.self.now.tree.now c.args.self.now.entries.entries c.args.self.now.nodes.items c.args.last c.args.node c.args.group c.args.row → length (stream_of c.args.self.now.nodes.items c.args.node c.args.group).queue ≤ length (members c.args.self.now.tree.now c.args.node c.args.group)
   old_queue c o = (c.requires.formed.streams c.args.node c.args.group o.node o.group).few
@@ -77,7 +77,7 @@ module _ (g : Over) where
       omega (arith, ap length c.push_reserved-next.ensures.entries, count_more c.args.self.now.entries.entries e)
 
   linked_of : (c : After-set_next g) → IsGroupTop g.R.Rank.KEYS g.R.Rank.key c.args.self.now.tree.now c.args.self.now.entries.entries c.args.self.now.nodes.items c.args.last c.args.node c.args.group c.args.row → IsEntryLinked c.args.self.now.tree.now c.args.self.now.entries.entries c.set_next.new.self.entries c.args.last (record { node = c.args.node; group = c.args.group; solution = c.kept_solution.result })
-  linked_of c o = entry_linked o c.kept_solution.result c.push_reserved-next.new.self.entries c.set_next.new.self.entries c.push_reserved-next.result c.requires.formed c.requires.last c.requires.node c.requires.group c.requires.none c.push_reserved-next.ensures.id c.push_reserved-next.ensures.entries c.set_next.ensures.entries
+  linked_of c o = entry_linked o c.kept_solution.result c.push_reserved-next.new.self.entries c.set_next.new.self.entries c.push_reserved-next.result c.requires.formed c.requires.last.within c.requires.last.node c.requires.last.group c.requires.last.none c.push_reserved-next.ensures.id c.push_reserved-next.ensures.entries c.set_next.ensures.entries
 
 pub row_offer-offer-requires-clause-row : goal.row_offer-offer-requires-clause-row
 row_offer-offer-requires-clause-row g c =
@@ -86,8 +86,8 @@ row_offer-offer-requires-clause-row g c =
 
 pub row_offer-offer-requires-clause-place : goal.row_offer-offer-requires-clause-place
 row_offer-offer-requires-clause-place g c =
-    let x = first_of (stream_of c.args.self.now.nodes.items c.args.node c.args.group).queue c.requires.top in
-    let place : x.0.tag.place + 1 ≡ c.args.place = ap (λ e. e.tag.place + 1) x.1 ∙ c.requires.after x.0 in
+    let x = first_of (stream_of c.args.self.now.nodes.items c.args.node c.args.group).queue c.requires.top.some in
+    let place : x.0.tag.place + 1 ≡ c.args.place = ap (λ e. e.tag.place + 1) x.1 ∙ c.requires.top.after x.0 in
     omega (arith, place)
 
 pub top-requires-clause-group : goal.top-requires-clause-group
@@ -129,7 +129,7 @@ pass_last-requires-clause-node g c =
     (top_of g at.After-as_slice).node
 
 pub pass_last-requires-clause-top : goal.pass_last-requires-clause-top
-pass_last-requires-clause-top g c = c.requires.top
+pass_last-requires-clause-top g c = c.requires.top.some
 
 pub pass_last-requires-clause-room : goal.pass_last-requires-clause-room
 pass_last-requires-clause-room g c = c.requires.queue_room
@@ -150,10 +150,10 @@ returns-in_err-top g c =
     let changed = c.pass_last.ensures.changed in
     record {
       answer =
-          let link = subst (λ o. IsLinkedAt (node_list c.args.self.now.entries.entries) (group_list_of c.args.self.now.entries.entries) c.args.last o) c.requires.none (c.requires.formed.linked c.args.last (omega (arith, c.requires.last, node_length c.args.self.now.entries.entries))) in
+          let link = subst (λ o. IsLinkedAt (node_list c.args.self.now.entries.entries) (group_list_of c.args.self.now.entries.entries) c.args.last o) c.requires.last.none (c.requires.formed.linked c.args.last (omega (arith, c.requires.last.within, node_length c.args.self.now.entries.entries))) in
           subst (λ o. IsAnswered g.R.Rank.KEYS g.R.Rank.key c.args.self.now.tree.now c.args.self.now.entries.entries c.args.last o) (sym c.from_residual.ensures)
-          (ap (λ z. length (group_list g.R.Rank.KEYS g.R.Rank.key c.args.self.now.tree.now z (group_of c.args.self.now.entries.entries c.args.last))) c.requires.node ∙ ap (λ z. length (group_list g.R.Rank.KEYS g.R.Rank.key c.args.self.now.tree.now c.args.node z)) c.requires.group ∙ sym (whole_stream p empty) ∙ stream_owned c.args.self.now.entries.entries c.args.node c.args.group
-          ∙ ap (λ z. owned (node_list c.args.self.now.entries.entries) (group_list_of c.args.self.now.entries.entries) z c.args.group) (sym c.requires.node) ∙ ap (λ z. owned (node_list c.args.self.now.entries.entries) (group_list_of c.args.self.now.entries.entries) (node_of c.args.self.now.entries.entries c.args.last) z) (sym c.requires.group) ∙ sym link);
+          (ap (λ z. length (group_list g.R.Rank.KEYS g.R.Rank.key c.args.self.now.tree.now z (group_of c.args.self.now.entries.entries c.args.last))) c.requires.last.node ∙ ap (λ z. length (group_list g.R.Rank.KEYS g.R.Rank.key c.args.self.now.tree.now c.args.node z)) c.requires.last.group ∙ sym (whole_stream p empty) ∙ stream_owned c.args.self.now.entries.entries c.args.node c.args.group
+          ∙ ap (λ z. owned (node_list c.args.self.now.entries.entries) (group_list_of c.args.self.now.entries.entries) z c.args.group) (sym c.requires.last.node) ∙ ap (λ z. owned (node_list c.args.self.now.entries.entries) (group_list_of c.args.self.now.entries.entries) (node_of c.args.self.now.entries.entries c.args.last) z) (sym c.requires.last.group) ∙ sym link);
       formed = subst (λ (z : List (NodeStreamsView g.row.R.Denot)). IsStreams g.R.Rank.KEYS g.R.Rank.key c.args.self.now.tree.now c.args.self.now.entries.entries z) (sym changed) (passed_ends p (stream_of c.pass_last.new.nodes.items c.args.node c.args.group).room empty);
       growth = λ v. omega arith;
       store = store_stays c.args.node c.args.self.now.entries.entries;
@@ -169,7 +169,7 @@ pub set_next-requires-clause-id : goal.set_next-requires-clause-id
 set_next-requires-clause-id g c =
     let at = goal.at.set_next-requires-clause-id g c in
     let pushed = pushed_of g at.After-push_reserved-next in
-    omega (arith, c.requires.last, pushed)
+    omega (arith, c.requires.last.within, pushed)
 
 pub set_next-requires-clause-to : goal.set_next-requires-clause-to
 set_next-requires-clause-to g c =
@@ -182,8 +182,8 @@ set_next-requires-clause-none g c d =
     let es = c.args.self.now.entries.entries in
     let e : Linked (Found g.row.R.Denot) = record { value = record { node = c.args.node; group = c.args.group; solution = c.kept_solution.result }; next = None } in
     ap (λ (z : List (Linked (Found g.row.R.Denot))). (get_or z c.args.last d).next) c.push_reserved-next.ensures.entries
-    ∙ ap (λ (x : Linked (Found g.row.R.Denot)). x.next) (at_more es e d c.args.last c.requires.last)
-    ∙ sym (next_value es c.args.last d c.requires.last) ∙ c.requires.none
+    ∙ ap (λ (x : Linked (Found g.row.R.Denot)). x.next) (at_more es e d c.args.last c.requires.last.within)
+    ∙ sym (next_value es c.args.last d c.requires.last.within) ∙ c.requires.last.none
 
 pub returns : goal.returns
 returns g c =
