@@ -15,3 +15,4 @@ pub mod Beginnings
 pub mod Refusals
 pub mod RowNumbers
 pub mod LastEntries
+pub mod ProductTops

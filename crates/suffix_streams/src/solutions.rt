@@ -7,12 +7,12 @@ ghost use Rattle.tdp_core.specs.WellFormed.{IsTieFreeTree};
 ghost use Rattle.tdp_model.specs.Below.{is_below};
 ghost use Rattle.rank_key.specs.Bits.{bit_length};
 ghost use Rattle.suffix_streams.specs.Rankings.{child as child_node};
-ghost use Rattle.stream_cells.specs.declared.cell.Cell.{Cell};
 ghost use Rattle.stream_cells.specs.declared.source.Source.{Source};
 ghost use Rattle.suffix_streams.specs.TreeStreams.{IsStreams, node_of, next_of, node_size, lists_of, stream_of, product_of, products_of, part_known, row_known};
 ghost use Rattle.suffix_streams.specs.NodeStreamsView.{HasHead, with_queue};
 ghost use Rattle.suffix_streams.specs.Firsts.{can_enter};
 ghost use Rattle.suffix_streams.specs.LastEntries.{IsLast, IsQueueTop};
+ghost use Rattle.suffix_streams.specs.ProductTops.{IsProductTop};
 ghost use Rattle.suffix_streams.specs.Refusals.{AreUnstepped};
 ghost use Rattle.suffix_streams.specs.Growing.{IsStoreGrown, IsGrown, IsExtended, IsReached, IsAnswered, HasOtherProduct, AreQueuesGrown, IsWithinSteps, below_kids, kids_size};
 
@@ -327,10 +327,7 @@ impl<'t, R: Rank, A: Allocator + Clone> Solutions<'t, R, A> {
         requires node { node < length self.old.tree.now }
         requires row { row < rows self.old.tree.now node }
         requires child { child < length (products_of self.old.nodes.items node row) }
-        requires top { 0 < length (product_of self.old.nodes.items node row child).frontier }
-        requires first { (d : Entry R Cell)
-            → slice_index_or (product_of self.old.nodes.items node row child).frontier 0 d
-            ≡ top.now }
+        requires top { IsProductTop (product_of self.old.nodes.items node row child) child top.now }
         requires beside { 0 < child → (IsTrue beside ↔ (top.now.tag.right
             ≡ (stream_of self.old.nodes.items (child_node self.old.tree.now node child)
             (group_named self.old.tree.now node row child)).head)) }
@@ -339,9 +336,6 @@ impl<'t, R: Rank, A: Allocator + Clone> Solutions<'t, R, A> {
         requires across { 0 < child → IsTrue beside
             → IsReached R.KEYS R.key self.old.tree.now self.old.nodes.items node row child
             (top.now.tag.left + 1) }
-        requires room { 0 < (product_of self.old.nodes.items node row child).room }
-        requires frontier_room { 0 < child
-            → 0 < (product_of self.old.nodes.items node row child).frontier_room }
         ensures formed { IsStreams R.KEYS R.key self.new.tree.now self.new.entries.entries
             self.new.nodes.items }
         ensures tree { self.new.tree.now ≡ self.old.tree.now }

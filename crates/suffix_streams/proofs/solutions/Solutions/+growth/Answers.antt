@@ -8,6 +8,7 @@ use Rattle.tdp_core.specs.WellFormed.{IsTieFreeTree}
 use Rattle.tdp_core.proofs.Children.{kids_below_most}
 use Rattle.suffix_streams.specs.declared.stream.Found.{Found}
 use Rattle.suffix_streams.specs.ProductView.{ProductView}
+use Rattle.suffix_streams.specs.ProductTops.{IsProductTop}
 use Rattle.suffix_streams.specs.StreamView.{StreamView}
 use Rattle.suffix_streams.specs.NodeStreamsView.{HasHead, product_at, known_of}
 use Rattle.suffix_streams.specs.Firsts.{can_enter}
@@ -345,15 +346,7 @@ search-step-requires-clause-top g t c =
     let a = room_of g t at.After-make_room in
     let b = child_of g t at.After-after a in
     let l = left_of g t at.After-extend a b in
-    subst (λ (z : ProductView g.row.R.Denot). 0 < length z.frontier) (sym l.product) a.some
-
-pub search-step-requires-clause-first : goal.search-step-requires-clause-first
-search-step-requires-clause-first g t c =
-    let at = goal.at.search-step-requires-clause-first g t c in
-    let a = room_of g t at.After-make_room in
-    let b = child_of g t at.After-after a in
-    let l = left_of g t at.After-extend a b in
-    λ x. ap (λ (z : ProductView g.row.R.Denot). get_or z.frontier 0 x) l.product ∙ a.first x
+    subst (λ (z : ProductView g.row.R.Denot). IsProductTop z (c.args.count - 1) c.in-Some.top) (sym l.product) (record { some = a.some; first = a.first; room = c.in_ok-make_room.ensures.room; frontier_room = c.in_ok-make_room.ensures.frontier_room })
 
 pub search-step-requires-clause-beside : goal.search-step-requires-clause-beside
 search-step-requires-clause-beside g t c later =
@@ -376,22 +369,6 @@ search-step-requires-clause-below g t c =
 pub search-step-requires-clause-across : goal.search-step-requires-clause-across
 search-step-requires-clause-across g t c =
     λ later e. left_reached g.R.Rank.KEYS g.R.Rank.key c.extend.new.self.tree.now c.after.new.self.tree.now c.extend.new.self.nodes.items c.args.node c.args.row (c.args.count - 1) c.left_search-earlier.result.0 c.left_search-earlier.result.1 (c.in-Some.top.tag.left + 1) (sym c.extend.ensures.tree) (c.left_search-earlier.ensures.beside e).0 (c.left_search-earlier.ensures.beside e).1 c.in_ok-extend.ensures.reached
-
-pub search-step-requires-clause-room : goal.search-step-requires-clause-room
-search-step-requires-clause-room g t c =
-    let at = goal.at.search-step-requires-clause-room g t c in
-    let a = room_of g t at.After-make_room in
-    let b = child_of g t at.After-after a in
-    let l = left_of g t at.After-extend a b in
-    subst (λ (z : ProductView g.row.R.Denot). 0 < z.room) (sym l.product) c.in_ok-make_room.ensures.room
-
-pub search-step-requires-clause-frontier_room : goal.search-step-requires-clause-frontier_room
-search-step-requires-clause-frontier_room g t c =
-    let at = goal.at.search-step-requires-clause-frontier_room g t c in
-    let a = room_of g t at.After-make_room in
-    let b = child_of g t at.After-after a in
-    let l = left_of g t at.After-extend a b in
-    subst (λ (z : ProductView g.row.R.Denot). 0 < c.args.count - 1 → 0 < z.frontier_room) (sym l.product) c.in_ok-make_room.ensures.frontier_room
 
 pub search-left_search-earlier-requires-clause-node : goal.search-left_search-earlier-requires-clause-node
 search-left_search-earlier-requires-clause-node g t c =

@@ -56,7 +56,7 @@ module _ (g : Over) where
   passed_of : (c : After-step_product g) → IsProductPassed g.R.Rank.KEYS g.R.Rank.key c.args.self.now.tree.now c.args.self.now.entries.entries c.args.self.now.nodes.items c.args.node c.args.row c.args.child (passed c)
   passed_of c =
       product_passed g.R.Rank.KEYS g.R.Rank.key c.args.self.now.tree.now c.args.self.now.entries.entries c.args.self.now.nodes.items c.args.node c.args.row c.args.child (passed c) c.index.result.now c.index_mut.result.now c.known-known.result c.args.top.now.tag c.args.below (head_of c.args.self.now.tree.now c.args.self.now.nodes.items c.args.node c.args.row c.args.child) (cell_down c.args.top.now.tag c.args.below) c.cell_beside-across.result c.offer_below-down.result c.offered-across.result
-      c.requires.formed c.requires.node c.requires.row c.requires.child c.requires.top (λ x. ap (λ e. e.tag) (c.requires.first x)) refl c.requires.below (ready_of c) c.index.ensures c.index_mut.ensures.value c.known-known.ensures refl (at_head c.args.child c.known-known.result (head_of c.args.self.now.tree.now c.args.self.now.nodes.items c.args.node c.args.row c.args.child) c.args.top.now.tag c.args.beside c.requires.beside (λ none. c.known-known.ensures ∙ ap (λ k. known_of c.index.result.now c.args.row k) none) c.cell_beside-across.result c.cell_beside-across.ensures) (exchanged_offer g.R.Rank.KEYS g.R.Rank.key c.args.self.now.tree.now c.args.self.now.entries.entries c.args.self.now.nodes.items c.requires.formed c.args.node c.args.row c.args.child c.requires.node c.requires.row c.requires.child c.args.top.now c.requires.top c.requires.first c.args.below c.offer_below-down.result c.requires.below c.offer_below-down.ensures.offer) c.offered-across.ensures.offer refl refl c.step_product.ensures.moved c.step_product.ensures.least
+      c.requires.formed c.requires.node c.requires.row c.requires.child c.requires.top.some (λ x. ap (λ e. e.tag) (c.requires.top.first x)) refl c.requires.below (ready_of c) c.index.ensures c.index_mut.ensures.value c.known-known.ensures refl (at_head c.args.child c.known-known.result (head_of c.args.self.now.tree.now c.args.self.now.nodes.items c.args.node c.args.row c.args.child) c.args.top.now.tag c.args.beside c.requires.beside (λ none. c.known-known.ensures ∙ ap (λ k. known_of c.index.result.now c.args.row k) none) c.cell_beside-across.result c.cell_beside-across.ensures) (exchanged_offer g.R.Rank.KEYS g.R.Rank.key c.args.self.now.tree.now c.args.self.now.entries.entries c.args.self.now.nodes.items c.requires.formed c.args.node c.args.row c.args.child c.requires.node c.requires.row c.requires.child c.args.top.now c.requires.top.some c.requires.top.first c.args.below c.offer_below-down.result c.requires.below c.offer_below-down.ensures.offer) c.offered-across.ensures.offer refl refl c.step_product.ensures.moved c.step_product.ensures.least
 
   -- the nodes then
   changed_of : (c : After-step_product g) → slice_set c.args.self.now.nodes.items c.args.node c.step_product.new.self ≡ slice_set c.args.self.now.nodes.items c.args.node (with_product (lists_of c.args.self.now.nodes.items c.args.node) c.args.row c.args.child (product_at c.step_product.new.self c.args.row c.args.child))
@@ -66,19 +66,19 @@ module _ (g : Over) where
   product_is c = ap (λ (m : NodeStreamsView g.row.R.Denot). product_at m c.args.row c.args.child) (lists_same c.args.self.now.nodes.items c.args.node c.step_product.new.self (in_same _ _ _ c.requires.node c.requires.formed.all_nodes))
 
 pub offer_below-down-requires-clause-right : goal.offer_below-down-requires-clause-right
-offer_below-down-requires-clause-right g c = top_right g.R.Rank.KEYS g.R.Rank.key c.args.self.now.tree.now c.args.self.now.entries.entries c.args.self.now.nodes.items c.requires.formed c.args.node c.args.row c.args.child c.requires.node c.requires.row c.requires.child c.args.top.now c.requires.top c.requires.first
+offer_below-down-requires-clause-right g c = top_right g.R.Rank.KEYS g.R.Rank.key c.args.self.now.tree.now c.args.self.now.entries.entries c.args.self.now.nodes.items c.requires.formed c.args.node c.args.row c.args.child c.requires.node c.requires.row c.requires.child c.args.top.now c.requires.top.some c.requires.top.first
 
 pub offer_below-down-requires-clause-below : goal.offer_below-down-requires-clause-below
-offer_below-down-requires-clause-below g c = below_right g.R.Rank.KEYS g.R.Rank.key c.args.self.now.tree.now c.args.self.now.entries.entries c.args.self.now.nodes.items c.requires.formed c.args.node c.args.row c.args.child c.requires.node c.requires.row c.requires.child c.args.top.now c.requires.top c.requires.first c.args.below c.requires.below
+offer_below-down-requires-clause-below g c = below_right g.R.Rank.KEYS g.R.Rank.key c.args.self.now.tree.now c.args.self.now.entries.entries c.args.self.now.nodes.items c.requires.formed c.args.node c.args.row c.args.child c.requires.node c.requires.row c.requires.child c.args.top.now c.requires.top.some c.requires.top.first c.args.below c.requires.below
 
 pub offer_below-down-requires-clause-exchange : goal.offer_below-down-requires-clause-exchange
-offer_below-down-requires-clause-exchange g c = can_exchange g.R.Rank.KEYS g.R.Rank.key c.args.self.now.tree.now c.args.self.now.entries.entries c.args.self.now.nodes.items c.requires.formed c.args.node c.args.row c.args.child c.requires.node c.requires.row c.requires.child c.args.top.now c.requires.top c.requires.first c.args.below c.requires.below
+offer_below-down-requires-clause-exchange g c = can_exchange g.R.Rank.KEYS g.R.Rank.key c.args.self.now.tree.now c.args.self.now.entries.entries c.args.self.now.nodes.items c.requires.formed c.args.node c.args.row c.args.child c.requires.node c.requires.row c.requires.child c.args.top.now c.requires.top.some c.requires.top.first c.args.below c.requires.below
 
 pub cell_beside-across-requires : goal.cell_beside-across-requires
 cell_beside-across-requires g c =
     let at = goal.at.cell_beside-across-requires g c in
     let known = known_is g at.After-known-known in
-    omega (arith, known, (cell_known g.R.Rank.KEYS g.R.Rank.key c.args.self.now.tree.now c.args.self.now.entries.entries c.args.self.now.nodes.items c.requires.formed c.args.node c.args.row c.args.child c.requires.node c.requires.row c.requires.child c.args.top.now.tag c.requires.top (λ x. ap (λ e. e.tag) (c.requires.first x))).left)
+    omega (arith, known, (cell_known g.R.Rank.KEYS g.R.Rank.key c.args.self.now.tree.now c.args.self.now.entries.entries c.args.self.now.nodes.items c.requires.formed c.args.node c.args.row c.args.child c.requires.node c.requires.row c.requires.child c.args.top.now.tag c.requires.top.some (λ x. ap (λ e. e.tag) (c.requires.top.first x))).left)
 
 pub offered-across-requires-clause-parts : goal.offered-across-requires-clause-parts
 offered-across-requires-clause-parts g c = subst (λ (z : List (NodeStreamsView g.row.R.Denot)). HasParts g.R.Rank.KEYS g.R.Rank.key c.args.self.now.tree.now c.args.self.now.entries.entries z c.args.node c.args.row c.args.child) (sym c.as_slice.ensures.value) (parts_of g.R.Rank.KEYS g.R.Rank.key c.args.self.now.tree.now c.args.self.now.entries.entries c.args.self.now.nodes.items c.requires.formed c.args.node c.args.row c.args.child c.requires.node c.requires.row c.requires.child)
@@ -91,7 +91,7 @@ offered-across-requires-clause-cell g c =
     let beside = subst (λ k. MatchOption c.cell_beside-across.result (c.args.top.now.tag.right ≡ head → k ≤ c.args.top.now.tag.left + 1) (λ x. (c.args.top.now.tag.right ≡ head) × (c.args.top.now.tag.left + 1 < k) × (x ≡ record { left = c.args.top.now.tag.left + 1; right = head }))) known
     (at_head c.args.child c.known-known.result head c.args.top.now.tag c.args.beside c.requires.beside (λ none. c.known-known.ensures ∙ ap (λ k. known_of c.index.result.now c.args.row k) none) c.cell_beside-across.result c.cell_beside-across.ensures) in
     subst (λ (z : List (NodeStreamsView g.row.R.Denot)). IfSome c.cell_beside-across.result (IsCell g.R.Rank.KEYS g.R.Rank.key c.args.self.now.tree.now c.args.self.now.entries.entries z c.args.node c.args.row c.args.child)) (sym c.as_slice.ensures.value)
-    (beside_cell_known g.R.Rank.KEYS g.R.Rank.key c.args.self.now.tree.now c.args.self.now.entries.entries c.args.self.now.nodes.items c.requires.formed c.args.node c.args.row c.args.child c.requires.node c.requires.row c.requires.child c.args.top.now.tag c.requires.top (λ x. ap (λ e. e.tag) (c.requires.first x)) (head_of c.args.self.now.tree.now c.args.self.now.nodes.items c.args.node c.args.row c.args.child) refl c.cell_beside-across.result beside)
+    (beside_cell_known g.R.Rank.KEYS g.R.Rank.key c.args.self.now.tree.now c.args.self.now.entries.entries c.args.self.now.nodes.items c.requires.formed c.args.node c.args.row c.args.child c.requires.node c.requires.row c.requires.child c.args.top.now.tag c.requires.top.some (λ x. ap (λ e. e.tag) (c.requires.top.first x)) (head_of c.args.self.now.tree.now c.args.self.now.nodes.items c.args.node c.args.row c.args.child) refl c.cell_beside-across.result beside)
 
 pub offered-across-requires-clause-formed : goal.offered-across-requires-clause-formed
 offered-across-requires-clause-formed g c =
@@ -113,7 +113,7 @@ pub step_product-requires-clause-frontier_room : goal.step_product-requires-clau
 step_product-requires-clause-frontier_room g c _ across =
     let lists = lists_at c.args.self.now.nodes.items c.args.node c.index_mut.result.now c.index_mut.ensures.value (in_same _ _ _ c.requires.node c.requires.formed.all_nodes) in
     elim (cases_lt 0 c.args.child) [
-      | inl l ↦ subst (λ n. 0 < (product_at n c.args.row c.args.child).frontier_room) lists (c.requires.frontier_room l)
+      | inl l ↦ subst (λ n. 0 < (product_at n c.args.row c.args.child).frontier_room) lists (c.requires.top.frontier_room l)
       | inr l ↦
           let first : c.args.child ≡ 0 = omega (arith, l) in
           let one : c.known-known.result ≡ 1 = c.known-known.ensures ∙ ap (λ k. known_of c.index.result.now c.args.row k) first in
@@ -128,12 +128,12 @@ step_product-requires-clause-child g c =
 pub step_product-requires-clause-top : goal.step_product-requires-clause-top
 step_product-requires-clause-top g c =
     let inside : c.args.node < length c.args.self.now.nodes.items = in_same _ _ _ c.requires.node c.requires.formed.all_nodes in
-    subst (λ n. 0 < length (product_at n c.args.row c.args.child).frontier) (lists_at c.args.self.now.nodes.items c.args.node c.index_mut.result.now c.index_mut.ensures.value inside) c.requires.top
+    subst (λ n. 0 < length (product_at n c.args.row c.args.child).frontier) (lists_at c.args.self.now.nodes.items c.args.node c.index_mut.result.now c.index_mut.ensures.value inside) c.requires.top.some
 
 pub step_product-requires-clause-room : goal.step_product-requires-clause-room
 step_product-requires-clause-room g c =
     let inside : c.args.node < length c.args.self.now.nodes.items = in_same _ _ _ c.requires.node c.requires.formed.all_nodes in
-    subst (λ n. 0 < (product_at n c.args.row c.args.child).room) (lists_at c.args.self.now.nodes.items c.args.node c.index_mut.result.now c.index_mut.ensures.value inside) c.requires.room
+    subst (λ n. 0 < (product_at n c.args.row c.args.child).room) (lists_at c.args.self.now.nodes.items c.args.node c.index_mut.result.now c.index_mut.ensures.value inside) c.requires.top.room
 
 pub returns : goal.returns
 returns g c =
