@@ -11,10 +11,9 @@ use Rattle.tdp_model.specs.KeyTuple.{KeyOf}
 use Rattle.suffix_streams.specs.declared.stream.Found.{Found}
 use Rattle.stream_cells.specs.declared.source.Source.{Source}
 use Rattle.suffix_streams.specs.StreamView.{StreamView}
-use Rattle.suffix_streams.specs.NodeStreamsView.{NodeStreamsView, stream_at, with_queue}
+use Rattle.suffix_streams.specs.NodeStreamsView.{NodeStreamsView, with_queue}
 use Rattle.suffix_streams.specs.TreeStreams.{lists_of, products_of, stream_of, part_known, row_known, node_of, group_of, node_size, IsStreams}
 use Rattle.suffix_streams.specs.Growing.{IsStoreGrown, IsGrown, IsExtended, AreQueuesGrown, IsWithinSteps, below_kids, kids_size}
-use Rattle.suffix_streams.proofs.Heads.{lists_at}
 use Rattle.suffix_streams.proofs.Searching.{top_known, grown_of, queues_of, grown_more, queues_more}
 use Rattle.suffix_streams.proofs.SearchCalls.{owner_is, owner_in, opened_within, call_within}
 
@@ -45,15 +44,11 @@ pub record IsTopRead {R : Type 0} (t : List (NodeView R)) (n : List (NodeStreams
   pub row : top.tag.row ≡ get_or (members t f.node f.group) top.tag.member 0
   pub numbered : top.tag.number ≡ number t f.node (get_or (members t f.node f.group) top.tag.member 0)
 
--- x are the lists of the node that were read
-pub top_read : {R : Type 0} {d : ℕ} {key : R → KeyOf d 16} {t : List (NodeView R)} {es : List (Linked (Found R))} {n : List (NodeStreamsView R)} {entry : ℕ} {f : Found R} (o : IsOwned d key t es n entry f) (x : NodeStreamsView R) (top : Entry R Source)
-    → x ≡ get_or n f.node x → 0 < length (stream_at x f.group).queue → top ≡ get_or (stream_at x f.group).queue 0 top → IsTopRead t n f top
-top_read {R} {d} {key} {t} {es} {n} {entry} {f} o x top read there is =
-    let lists : lists_of n f.node ≡ x = lists_at n f.node x read o.in_nodes in
-    let some0 : 0 < length (stream_of n f.node f.group).queue = subst (λ z. 0 < length (stream_at z f.group).queue) (sym lists) there in
-    let first0 : top ≡ get_or (stream_of n f.node f.group).queue 0 top = is ∙ ap (λ z. get_or (stream_at z f.group).queue 0 top) (sym lists) in
-    let known0 = top_known d key t es n o.formed f.node f.group top o.node o.group some0 first0 in
-    record { some = some0; first = first0; member = known0.1; known = known0.0; row = known0.2; numbered = known0.3 }
+pub top_read : {R : Type 0} {d : ℕ} {key : R → KeyOf d 16} {t : List (NodeView R)} {es : List (Linked (Found R))} {n : List (NodeStreamsView R)} {entry : ℕ} {f : Found R} (o : IsOwned d key t es n entry f) (top : Entry R Source)
+    → 0 < length (stream_of n f.node f.group).queue → top ≡ get_or (stream_of n f.node f.group).queue 0 top → IsTopRead t n f top
+top_read {R} {d} {key} {t} {es} {n} {entry} {f} o top some first =
+    let known = top_known d key t es n o.formed f.node f.group top o.node o.group some first in
+    record { some = some; first = first; member = known.1; known = known.0; row = known.2; numbered = known.3 }
 
 pub row_within : {R : Type 0} {d : ℕ} {key : R → KeyOf d 16} {t : List (NodeView R)} {es : List (Linked (Found R))} {n : List (NodeStreamsView R)} {entry : ℕ} {f : Found R} {top : Entry R Source} (o : IsOwned d key t es n entry f) (p : IsTopRead t n f top)
     (row : ℕ) → row ≡ get_or (members t f.node f.group) top.tag.member 0 → row < rows t f.node
@@ -99,12 +94,10 @@ pub record IsRowCounted {R : Type 0} (t : List (NodeView R)) (m : List (NodeStre
   pub within : count ≤ length (products_of m f.node row)
   pub known : top.tag.place < part_known m f.node row count
 
--- x are the lists of the node that were read
 pub row_counted : {R : Type 0} {d : ℕ} {key : R → KeyOf d 16} {t : List (NodeView R)} {es : List (Linked (Found R))} {n m : List (NodeStreamsView R)} {entry : ℕ} {f : Found R} {top : Entry R Source} {row s0 s1 : ℕ} (o : IsOwned d key t es n entry f) (a : IsRowOpen d key t es n m f top row s0 s1)
-    (x : NodeStreamsView R) (count : ℕ) → x ≡ get_or m f.node x → count ≡ length x.children → length (products_of m f.node row) ≡ child_count t f.node → IsRowCounted t m f top row count
-row_counted {R} {d} {key} {t} {es} {n} {m} {entry} {f} {top} {row} o a x count read is whole =
-    let lists : lists_of m f.node ≡ x = lists_at m f.node x read a.in_nodes in
-    let all0 : count ≡ child_count t f.node = is ∙ ap (λ (z : NodeStreamsView R). length z.children) (sym lists) ∙ a.formed.all_children f.node o.node in
+    (count : ℕ) → count ≡ length (lists_of m f.node).children → length (products_of m f.node row) ≡ child_count t f.node → IsRowCounted t m f top row count
+row_counted {R} {d} {key} {t} {es} {n} {m} {entry} {f} {top} {row} o a count is whole =
+    let all0 : count ≡ child_count t f.node = is ∙ a.formed.all_children f.node o.node in
     let counted : count ≡ length (products_of m f.node row) = all0 ∙ sym whole in
     record {
       all = all0;

@@ -145,9 +145,12 @@ count_few d key t es nodes h v r c l row few = elim (cases_lt 0 (length (product
   | inr none ↦ omega (arith, few)
 ]
 
--- the place that is searched for is at most the first one that is not known
-pub left_within : {R : Type 0} (o : List (NodeStreamsView R)) (v r c k p left : ℕ) → left < part_known o v r c → k ≡ c → p ≡ left + 1 → p ≤ part_known o v r k
-left_within o v r c k p left l e f = omega (arith, l, f, ap (λ z. part_known o v r z) e)
+-- a search is made with fewer children
+pub left_few : (k c p place : ℕ) → ((k ≡ c) × (p ≡ place)) ⊎ ((k ≡ 0) × (p ≡ 0)) → k ≤ c
+left_few k c p place (inl e) = omega (arith, e.0)
+left_few k c p place (inr e) = omega (arith, e.0)
 
-pub none_within_known : {R : Type 0} (o : List (NodeStreamsView R)) (v r k p : ℕ) → p ≡ 0 → p ≤ part_known o v r k
-none_within_known o v r k p e = omega (arith, e)
+-- the place that is searched for is at most the first one that is not known
+pub left_within : {R : Type 0} (o : List (NodeStreamsView R)) (v r c k p left : ℕ) → left < part_known o v r c → ((k ≡ c) × (p ≡ left + 1)) ⊎ ((k ≡ 0) × (p ≡ 0)) → p ≤ part_known o v r k
+left_within o v r c k p left l (inl e) = omega (arith, l, e.1, ap (λ z. part_known o v r z) e.0)
+left_within o v r c k p left l (inr e) = omega (arith, e.1)

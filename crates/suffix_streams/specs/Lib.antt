@@ -14,3 +14,5 @@ pub mod Firsts
 pub mod Beginnings
 pub mod Refusals
 pub mod RowNumbers
+pub mod LastEntries
+pub mod ProductTops

@@ -1,16 +1,18 @@
 //! The next solution of a stream, and the steps at the nodes below it.
-ghost use Rattle.std.specs.Prelude.{◌≡◌, ◌≢◌, ℕ, ◌+◌, ◌*◌, ◌<◌, ◌≤◌, ◌↔◌, Option, None, cond, nat_eq, length, slice_set, slice_index, slice_index_or, IfOk, MatchOption, OnOk, OnErr, IsOk, IsSome, IsTrue, IsFalse};
+ghost use Rattle.std.specs.Prelude.{◌≡◌, ◌≢◌, ℕ, ◌+◌, ◌*◌, ◌<◌, ◌≤◌, ◌↔◌, Option, cond, nat_eq, length, slice_set, slice_index, slice_index_or, IfOk, MatchOption, IfSome, OnOk, OnErr, IsOk, IsSome, IsTrue, IsFalse};
 ghost use Rattle.take2_heap.specs.declared.entry.Entry.{Entry};
+ghost use Rattle.take2_heap.specs.Order.{IsLeast};
 ghost use Rattle.tdp_core.specs.TreeView.{parent, rows, number as row_number, child_count, group_count, group_named, members};
 ghost use Rattle.tdp_core.specs.WellFormed.{IsTieFreeTree};
 ghost use Rattle.tdp_model.specs.Below.{is_below};
 ghost use Rattle.rank_key.specs.Bits.{bit_length};
 ghost use Rattle.suffix_streams.specs.Rankings.{child as child_node};
-ghost use Rattle.stream_cells.specs.declared.cell.Cell.{Cell};
 ghost use Rattle.stream_cells.specs.declared.source.Source.{Source};
-ghost use Rattle.suffix_streams.specs.TreeStreams.{IsStreams, node_of, group_of, next_of, node_size, lists_of, stream_of, product_of, products_of, part_known, row_known};
+ghost use Rattle.suffix_streams.specs.TreeStreams.{IsStreams, node_of, next_of, node_size, lists_of, stream_of, product_of, products_of, part_known, row_known};
 ghost use Rattle.suffix_streams.specs.NodeStreamsView.{HasHead, with_queue};
 ghost use Rattle.suffix_streams.specs.Firsts.{can_enter};
+ghost use Rattle.suffix_streams.specs.LastEntries.{IsLast, IsQueueTop};
+ghost use Rattle.suffix_streams.specs.ProductTops.{IsProductTop};
 ghost use Rattle.suffix_streams.specs.Refusals.{AreUnstepped};
 ghost use Rattle.suffix_streams.specs.Growing.{IsStoreGrown, IsGrown, IsExtended, IsReached, IsAnswered, HasOtherProduct, AreQueuesGrown, IsWithinSteps, below_kids, kids_size};
 
@@ -23,7 +25,7 @@ use rank_key::Rank;
 use std::alloc::Allocator;
 use std::sync::ledger::Ledger;
 use step_counter::{NoMemory, Steps};
-use stream_cells::{Cell, across_cell};
+use stream_cells::{Cell, Source, across_cell};
 use stream_store::{EntryId, Store};
 use take2_heap::Entry;
 use tdp_core::Tree;
@@ -76,17 +78,13 @@ impl<'t, R: Rank, A: Allocator + Clone> Solutions<'t, R, A> {
             return Ok(Some(next));
         }
         let found = *self.entries.get(entry, steps);
-        let Some(top) = self.nodes[found.node as usize].top(found.group) else {
+        let Some(top) = self.top(found.node, found.group) else {
             return Ok(None);
         };
         let source = top.tag;
         let row = source.row;
         self.open_row(found.node, found.group, row, source.place, steps)?;
-        let count = self.nodes[found.node as usize].child_count();
-        let place = next_place(
-            source.place,
-            self.nodes[found.node as usize].known(row, count),
-        );
+        let (count, place) = self.place_after(found.node, row, source.place);
         self.extend(found.node, row, count, place, steps)?;
         Ok(self.advance(
             entry,
@@ -188,8 +186,7 @@ impl<'t, R: Rank, A: Allocator + Clone> Solutions<'t, R, A> {
         make_room(&self.alloc, &mut self.nodes, node, row, child)?;
         let below = self.after(cell.right, steps)?;
         let beside = has_beside(self.nodes.as_slice(), node, child, cell.right);
-        let known = self.nodes[node as usize].known(row, child);
-        let (earlier, next) = left_search(&cell, beside, child, known);
+        let (earlier, next) = self.left_search(node, row, child, &cell, beside);
         self.extend(node, row, earlier, next, steps)?;
         self.step(node, row, child, &top, below, beside, steps);
         Ok(())
@@ -197,6 +194,60 @@ impl<'t, R: Rank, A: Allocator + Clone> Solutions<'t, R, A> {
 }
 
 impl<'t, R: Rank, A: Allocator + Clone> Solutions<'t, R, A> {
+    /// The last solution that the stream of a group found, or `None` if no further one follows.
+    fn top(&self, node: u32, group: u32) -> Option<Entry<R, Source>>
+        requires node { node < length self.now.nodes.items }
+        requires group { group < length (lists_of self.now.nodes.items node).streams }
+        ensures variant { IsSome result
+            ↔ (0 < length (stream_of self.now.nodes.items node group).queue) }
+        ensures top { IfSome result (λ e. (d : Entry R Source)
+            → e ≡ slice_index_or (stream_of self.now.nodes.items node group).queue 0 d) }
+        ensures least { IfSome result
+            (λ e. IsLeast R.KEYS R.key e (stream_of self.now.nodes.items node group).queue) }
+    {
+        self.nodes[node as usize].top(group)
+    }
+
+    /// The number of children of a node, and the place after this one in the ranking of an opened
+    /// row with all of them.
+    fn place_after(&self, node: u32, row: u32, place: u32) -> (usize, u32)
+        requires node { node < length self.now.nodes.items }
+        requires opened { length (products_of self.now.nodes.items node row)
+            ≡ length (lists_of self.now.nodes.items node).children }
+        requires known { place < row_known self.now.nodes.items node row }
+        ensures count { result.0 ≡ length (lists_of self.now.nodes.items node).children }
+        ensures place { result.1 ≡ place + 1 }
+    {
+        let lists = &self.nodes[node as usize];
+        let count = lists.child_count();
+        (count, next_place(place, lists.known(row, count)))
+    }
+
+    /// The search in the product before number `child` that a step from `cell` needs, as a number
+    /// of children and a place. It is for the next left part if the step can go `beside` the cell,
+    /// else for none.
+    fn left_search(
+        &self,
+        node: u32,
+        row: u32,
+        child: usize,
+        cell: &Cell,
+        beside: bool,
+    ) -> (usize, u32)
+        requires node { node < length self.now.nodes.items }
+        requires child { child ≤ length (products_of self.now.nodes.items node row) }
+        requires left { cell.now.left < part_known self.now.nodes.items node row child }
+        ensures beside { IsTrue beside → (result.0 ≡ child) × (result.1 ≡ cell.now.left + 1) }
+        ensures apart { IsFalse beside → (result.0 ≡ 0) × (result.1 ≡ 0) }
+    {
+        if beside {
+            let known = self.nodes[node as usize].known(row, child);
+            (child, next_place(cell.left, known))
+        } else {
+            (0, 0)
+        }
+    }
+
     /// Before a known solution of a row is passed, of which this is the place. If it is the first
     /// one, what follows needs room in the queue of the group, and the products of the row, one for
     /// each child. Both are made then, unless they are there already. `NoMemory` if memory is
@@ -276,10 +327,7 @@ impl<'t, R: Rank, A: Allocator + Clone> Solutions<'t, R, A> {
         requires node { node < length self.old.tree.now }
         requires row { row < rows self.old.tree.now node }
         requires child { child < length (products_of self.old.nodes.items node row) }
-        requires top { 0 < length (product_of self.old.nodes.items node row child).frontier }
-        requires first { (d : Entry R Cell)
-            → slice_index_or (product_of self.old.nodes.items node row child).frontier 0 d
-            ≡ top.now }
+        requires top { IsProductTop (product_of self.old.nodes.items node row child) child top.now }
         requires beside { 0 < child → (IsTrue beside ↔ (top.now.tag.right
             ≡ (stream_of self.old.nodes.items (child_node self.old.tree.now node child)
             (group_named self.old.tree.now node row child)).head)) }
@@ -288,9 +336,6 @@ impl<'t, R: Rank, A: Allocator + Clone> Solutions<'t, R, A> {
         requires across { 0 < child → IsTrue beside
             → IsReached R.KEYS R.key self.old.tree.now self.old.nodes.items node row child
             (top.now.tag.left + 1) }
-        requires room { 0 < (product_of self.old.nodes.items node row child).room }
-        requires frontier_room { 0 < child
-            → 0 < (product_of self.old.nodes.items node row child).frontier_room }
         ensures formed { IsStreams R.KEYS R.key self.new.tree.now self.new.entries.entries
             self.new.nodes.items }
         ensures tree { self.new.tree.now ≡ self.old.tree.now }
@@ -337,17 +382,8 @@ impl<'t, R: Rank, A: Allocator + Clone> Solutions<'t, R, A> {
         requires formed { IsStreams R.KEYS R.key self.old.tree.now self.old.entries.entries
             self.old.nodes.items }
         requires tie_free { IsTieFreeTree self.old.tree.now }
-        requires last { last < length self.old.entries.entries }
-        requires node { node_of self.old.entries.entries last ≡ node }
-        requires group { group_of self.old.entries.entries last ≡ group }
-        requires none { next_of self.old.entries.entries last ≡ None }
-        requires top { 0 < length (stream_of self.old.nodes.items node group).queue }
-        requires member { (d : Entry R Source)
-            → (slice_index_or (stream_of self.old.nodes.items node group).queue 0 d).tag.member
-            ≡ member }
-        requires after { (d : Entry R Source)
-            → (slice_index_or (stream_of self.old.nodes.items node group).queue 0 d).tag.place + 1
-            ≡ place }
+        requires last { IsLast self.old.entries.entries last node group }
+        requires top { IsQueueTop (stream_of self.old.nodes.items node group).queue member place }
         requires row { row ≡ slice_index (members self.old.tree.now node group) member }
         requires number { number ≡ row_number self.old.tree.now node row }
         requires count { length (products_of self.old.nodes.items node row)
@@ -396,7 +432,7 @@ impl<'t, R: Rank, A: Allocator + Clone> Solutions<'t, R, A> {
             offer,
             steps,
         );
-        let top = self.nodes[node as usize].top(group)?;
+        let top = self.top(node, group)?;
         let next = self.entries.push_reserved(
             Found {
                 node,
@@ -476,21 +512,6 @@ fn has_beside<R: Rank, A: Allocator>(
     }
     let child_node = nodes[node as usize].child(child);
     nodes[child_node as usize].is_head(right)
-}
-
-/// The search in the product before this one that a step from `cell` needs, as a number of children
-/// and a place. It is for the next left part if the step can go `beside` the cell, else for none.
-/// `known` is the number of known left parts.
-fn left_search(cell: &Cell, beside: bool, child: usize, known: u32) -> (usize, u32)
-    requires { cell.now.left < known }
-    ensures beside { IsTrue beside → (result.0 ≡ child) × (result.1 ≡ cell.now.left + 1) }
-    ensures apart { IsFalse beside → (result.0 ≡ 0) × (result.1 ≡ 0) }
-{
-    if beside {
-        (child, next_place(cell.left, known))
-    } else {
-        (0, 0)
-    }
 }
 
 /// The cell beside this one, if the step can go there and the next left part is one of the `known`

@@ -61,8 +61,8 @@ impl<'t, R: Rank, A: Allocator + Clone> Streams<'t, R, A> {
         ensures cost { steps.new ≤ steps.old + 16 * length tree.now * (1 + row_count tree.now) }
     {
         let mut entries = Store::new(alloc.clone()?);
-        let nodes = begun_nodes(&alloc, tree, &mut entries, steps)?;
         let made = Vec::new(alloc.clone()?);
+        let nodes = begun_nodes(&alloc, tree, &mut entries, steps)?;
         let solutions = Solutions {
             tree,
             alloc,

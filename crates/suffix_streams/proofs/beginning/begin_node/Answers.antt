@@ -37,42 +37,6 @@ loop-group-preserved g c =
       cost = omega (arith, c.loop-group.invariant.cost, c.first_stream.ensures.cost);
     }
 
-pub returns-in_err-stream-clause-cost : goal.returns-in_err-stream-clause-cost
-returns-in_err-stream-clause-cost g c =
-    let t = c.args.tree.now in
-    let n = c.loop-group.group in
-    let within : n < group_count t c.args.node = omega (arith, c.loop-group-test.true, c.groups-group-end.ensures) in
-    omega (
-      arith,
-      c.loop-group.invariant.cost,
-      c.first_stream.ensures.cost,
-      within,
-      group_count_within g.R.Rank.KEYS g.R.Rank.key t c.requires.formed c.args.node c.requires.node,
-    )
-
-pub returns-in_err-add_stream-clause-cost : goal.returns-in_err-add_stream-clause-cost
-returns-in_err-add_stream-clause-cost g c =
-    let t = c.args.tree.now in
-    let n = c.loop-group.group in
-    let within : n < group_count t c.args.node = omega (arith, c.loop-group-test.true, c.groups-group-end.ensures) in
-    omega (
-      arith,
-      c.loop-group.invariant.cost,
-      c.first_stream.ensures.cost,
-      within,
-      group_count_within g.R.Rank.KEYS g.R.Rank.key t c.requires.formed c.args.node c.requires.node,
-    )
-
-pub returns-clause-cost : goal.returns-clause-cost
-returns-clause-cost g c =
-    omega (
-      arith,
-      c.loop-group.invariant.cost,
-      c.loop-group.auto.group-end,
-      c.groups-group-end.ensures,
-      group_count_within g.R.Rank.KEYS g.R.Rank.key c.args.tree.now c.requires.formed c.args.node c.requires.node,
-    )
-
 pub first_stream-requires-clause-headed : goal.first_stream-requires-clause-headed
 first_stream-requires-clause-headed g c =
     let d = g.R.Rank.KEYS in
@@ -91,9 +55,6 @@ first_stream-requires-clause-node g c = c.requires.node
 
 pub first_stream-requires-clause-group : goal.first_stream-requires-clause-group
 first_stream-requires-clause-group g c = omega (arith, c.loop-group-test.true, c.groups-group-end.ensures)
-
-pub index_mut-requires : goal.index_mut-requires
-index_mut-requires g c = omega (arith, c.requires.node, c.loop-group.invariant.begun.streams.all_nodes)
 
 pub loop-group-init : goal.loop-group-init
 loop-group-init g c =
@@ -114,13 +75,52 @@ add_stream-requires-clause-next g c =
 pub add_stream-requires-clause-fits : goal.add_stream-requires-clause-fits
 add_stream-requires-clause-fits g c = c.next_id-head.ensures.fits
 
-pub returns-clause-begun : goal.returns-clause-begun
-returns-clause-begun g c =
-    let all : c.loop-group.group ≡ group_count c.args.tree.now c.args.node = omega (arith, c.loop-group-test.false, c.loop-group.auto.group-end, c.groups-group-end.ensures) in
-    in_from g.R.Rank.KEYS g.R.Rank.key c.args.tree.now c.loop-group.entries.entries c.loop-group.nodes.items c.args.node c.loop-group.group all c.loop-group.invariant.begun
+pub returns : goal.returns
+returns g c =
+    record {
+      cost =
+          omega (
+            arith,
+            c.loop-group.invariant.cost,
+            c.loop-group.auto.group-end,
+            c.groups-group-end.ensures,
+            group_count_within g.R.Rank.KEYS g.R.Rank.key c.args.tree.now c.requires.formed c.args.node c.requires.node,
+          );
+      begun =
+          let all : c.loop-group.group ≡ group_count c.args.tree.now c.args.node = omega (arith, c.loop-group-test.false, c.loop-group.auto.group-end, c.groups-group-end.ensures) in
+          in_from g.R.Rank.KEYS g.R.Rank.key c.args.tree.now c.loop-group.entries.entries c.loop-group.nodes.items c.args.node c.loop-group.group all c.loop-group.invariant.begun;
+    }
 
-pub returns-in_err-stream-clause-begun : goal.returns-in_err-stream-clause-begun
-returns-in_err-stream-clause-begun g c = none_given _ c.from_residual.result c.from_residual.ensures.0
+pub returns-in_err-stream : goal.returns-in_err-stream
+returns-in_err-stream g c =
+    record {
+      cost =
+          let t = c.args.tree.now in
+          let n = c.loop-group.group in
+          let within : n < group_count t c.args.node = omega (arith, c.loop-group-test.true, c.groups-group-end.ensures) in
+          omega (
+            arith,
+            c.loop-group.invariant.cost,
+            c.first_stream.ensures.cost,
+            within,
+            group_count_within g.R.Rank.KEYS g.R.Rank.key t c.requires.formed c.args.node c.requires.node,
+          );
+      begun = none_given _ c.from_residual.result c.from_residual.ensures.0;
+    }
 
-pub returns-in_err-add_stream-clause-begun : goal.returns-in_err-add_stream-clause-begun
-returns-in_err-add_stream-clause-begun g c = none_given _ c.from_residual-in_err-add_stream.result c.from_residual-in_err-add_stream.ensures.0
+pub returns-in_err-add_stream : goal.returns-in_err-add_stream
+returns-in_err-add_stream g c =
+    record {
+      begun = none_given _ c.from_residual-in_err-add_stream.result c.from_residual-in_err-add_stream.ensures.0;
+      cost =
+          let t = c.args.tree.now in
+          let n = c.loop-group.group in
+          let within : n < group_count t c.args.node = omega (arith, c.loop-group-test.true, c.groups-group-end.ensures) in
+          omega (
+            arith,
+            c.loop-group.invariant.cost,
+            c.first_stream.ensures.cost,
+            within,
+            group_count_within g.R.Rank.KEYS g.R.Rank.key t c.requires.formed c.args.node c.requires.node,
+          );
+    }

@@ -37,31 +37,6 @@ loop-node-preserved g c =
       within = omega (arith, c.loop-node.invariant.within);
     }
 
-pub returns-in_err-begin_node-clause-cost : goal.returns-in_err-begin_node-clause-cost
-returns-in_err-begin_node-clause-cost g c =
-    let t = c.args.tree.now in
-    omega (
-      arith,
-      c.begin_node.ensures.cost,
-      c.loop-node.invariant.cost,
-      rows_more g.R.Rank.KEYS g.R.Rank.key t (c.loop-node.node - 1) c.loop-node.node (omega (arith, c.loop-node-test.true, c.loop-node.invariant.within)) (omega (arith, c.loop-node-test.true)),
-      start_steps g.R.Rank.KEYS g.R.Rank.key t c.nodes-node.ensures.formed (c.loop-node.node - 1) (omega (arith, c.loop-node.invariant.within)),
-    )
-
-pub returns-clause-begun : goal.returns-clause-begun
-returns-clause-begun g c =
-    let none : c.loop-node.node ≡ 0 = omega (arith, c.loop-node-test.false) in
-    subst (IsBegunFrom g.R.Rank.KEYS g.R.Rank.key c.args.tree.now c.loop-node.entries.entries c.loop-node.nodes.items) none c.loop-node.invariant.begun
-
-pub returns-clause-cost : goal.returns-clause-cost
-returns-clause-cost g c = omega (arith, c.loop-node.invariant.cost, start_steps g.R.Rank.KEYS g.R.Rank.key c.args.tree.now c.nodes-node.ensures.formed c.loop-node.node (omega (arith, c.loop-node.invariant.within)))
-
-pub returns-in_err-nodes-clause-begun : goal.returns-in_err-nodes-clause-begun
-returns-in_err-nodes-clause-begun g c = none_given _ c.from_residual.result c.from_residual.ensures.0
-
-pub returns-in_err-begin_node-clause-begun : goal.returns-in_err-begin_node-clause-begun
-returns-in_err-begin_node-clause-begun g c = none_given _ c.from_residual-in_err-begin_node.result c.from_residual-in_err-begin_node.ensures.0
-
 pub begin_node-requires-clause-node : goal.begin_node-requires-clause-node
 begin_node-requires-clause-node g c = below_start c.loop-node.node (length c.args.tree.now) c.loop-node-test.true c.loop-node.invariant.within
 
@@ -71,14 +46,36 @@ begin_node-requires-clause-formed g c = c.nodes-node.ensures.formed
 pub begin_node-requires-clause-begun : goal.begin_node-requires-clause-begun
 begin_node-requires-clause-begun g c = subst (IsBegunFrom g.R.Rank.KEYS g.R.Rank.key c.args.tree.now c.loop-node.entries.entries c.loop-node.nodes.items) (one_back c.loop-node.node c.loop-node-test.true) c.loop-node.invariant.begun
 
-pub returns-in_err-nodes-clause-formed : goal.returns-in_err-nodes-clause-formed
-returns-in_err-nodes-clause-formed g c = none_done _ c.from_residual.result c.from_residual.ensures.0
+pub returns-in_err-nodes : goal.returns-in_err-nodes
+returns-in_err-nodes g c =
+    record {
+      cost = more_within c.args.steps.now (16 * length c.args.tree.now * (1 + row_count c.args.tree.now));
+      formed = none_done _ c.from_residual.result c.from_residual.ensures.0;
+      begun = none_given _ c.from_residual.result c.from_residual.ensures.0;
+    }
 
-pub returns-in_err-nodes-clause-cost : goal.returns-in_err-nodes-clause-cost
-returns-in_err-nodes-clause-cost g c = more_within c.args.steps.now (16 * length c.args.tree.now * (1 + row_count c.args.tree.now))
+pub returns-in_err-begin_node : goal.returns-in_err-begin_node
+returns-in_err-begin_node g c =
+    record {
+      formed = none_done _ c.from_residual-in_err-begin_node.result c.from_residual-in_err-begin_node.ensures.0;
+      begun = none_given _ c.from_residual-in_err-begin_node.result c.from_residual-in_err-begin_node.ensures.0;
+      cost =
+          let t = c.args.tree.now in
+          omega (
+            arith,
+            c.begin_node.ensures.cost,
+            c.loop-node.invariant.cost,
+            rows_more g.R.Rank.KEYS g.R.Rank.key t (c.loop-node.node - 1) c.loop-node.node (omega (arith, c.loop-node-test.true, c.loop-node.invariant.within)) (omega (arith, c.loop-node-test.true)),
+            start_steps g.R.Rank.KEYS g.R.Rank.key t c.nodes-node.ensures.formed (c.loop-node.node - 1) (omega (arith, c.loop-node.invariant.within)),
+          );
+    }
 
-pub returns-in_err-begin_node-clause-formed : goal.returns-in_err-begin_node-clause-formed
-returns-in_err-begin_node-clause-formed g c = none_done _ c.from_residual-in_err-begin_node.result c.from_residual-in_err-begin_node.ensures.0
-
-pub returns-clause-formed : goal.returns-clause-formed
-returns-clause-formed g c = c.nodes-node.ensures.formed
+pub returns : goal.returns
+returns g c =
+    record {
+      formed = c.nodes-node.ensures.formed;
+      begun =
+          let none : c.loop-node.node ≡ 0 = omega (arith, c.loop-node-test.false) in
+          subst (IsBegunFrom g.R.Rank.KEYS g.R.Rank.key c.args.tree.now c.loop-node.entries.entries c.loop-node.nodes.items) none c.loop-node.invariant.begun;
+      cost = omega (arith, c.loop-node.invariant.cost, start_steps g.R.Rank.KEYS g.R.Rank.key c.args.tree.now c.nodes-node.ensures.formed c.loop-node.node (omega (arith, c.loop-node.invariant.within)));
+    }

@@ -13,27 +13,6 @@ use Rattle.suffix_streams.proofs.beginning.first_stream.Goals as goal
 queue_of : (g : Over) (c : After-of g) → c.of.result.entries ≡ c.first_solution-solution.result ∷ []
 queue_of g c = c.of.ensures.entries
 
-pub returns-clause-entry : goal.returns-clause-entry
-returns-clause-entry g c =
-    let d = g.R.Rank.KEYS in
-    let key = g.R.Rank.key in
-    let t = c.args.tree.now in
-    let e : Linked (Found g.row.R.Denot) = record { value = record { node = c.args.node; group = c.args.group; solution = c.kept_solution.result }; next = None } in (
-      e,
-      c.push_reserved.ensures.entries ∙ ap (λ es. es ++ (e ∷ [])) c.reserve.ensures.entries,
-      refl,
-      refl,
-      refl,
-      ap (λ (z : Entry g.row.R.Denot Solved). key z.rank) c.kept_solution.ensures
-          ∙ c.first_solution-solution.ensures.first.1
-          ∙ first_best d key t c.requires.formed c.args.node c.args.group c.requires.node c.requires.group
-          ∙ first_member d key t c.requires.formed c.args.node c.args.group c.requires.node c.requires.group,
-      λ x. c.kept_solution.ensures ∙ ap (λ (z : List (Entry g.row.R.Denot Source)). kept_of (get_or z 0 x)) (sym (queue_of g c)),
-    )
-
-pub returns-clause-only : goal.returns-clause-only
-returns-clause-only g c = (c.first_solution-solution.result, queue_of g c, c.first_solution-solution.ensures.first)
-
 pub first_solution-solution-requires-clause-formed : goal.first_solution-solution-requires-clause-formed
 first_solution-solution-requires-clause-formed g c = c.requires.formed
 
@@ -49,5 +28,25 @@ first_solution-solution-requires-clause-member g c = c.requires.formed.inhabited
 pub first_solution-solution-requires-clause-headed : goal.first_solution-solution-requires-clause-headed
 first_solution-solution-requires-clause-headed g c = c.requires.headed
 
-pub returns-clause-cost : goal.returns-clause-cost
-returns-clause-cost g c = omega (arith, c.first_solution-solution.ensures.cost, c.push_reserved.ensures.cost)
+pub returns : goal.returns
+returns g c =
+    record {
+      entry =
+          let d = g.R.Rank.KEYS in
+          let key = g.R.Rank.key in
+          let t = c.args.tree.now in
+          let e : Linked (Found g.row.R.Denot) = record { value = record { node = c.args.node; group = c.args.group; solution = c.kept_solution.result }; next = None } in (
+            e,
+            c.push_reserved.ensures.entries ∙ ap (λ es. es ++ (e ∷ [])) c.reserve.ensures.entries,
+            refl,
+            refl,
+            refl,
+            ap (λ (z : Entry g.row.R.Denot Solved). key z.rank) c.kept_solution.ensures
+                ∙ c.first_solution-solution.ensures.first.1
+                ∙ first_best d key t c.requires.formed c.args.node c.args.group c.requires.node c.requires.group
+                ∙ first_member d key t c.requires.formed c.args.node c.args.group c.requires.node c.requires.group,
+            λ x. c.kept_solution.ensures ∙ ap (λ (z : List (Entry g.row.R.Denot Source)). kept_of (get_or z 0 x)) (sym (queue_of g c)),
+          );
+      cost = omega (arith, c.first_solution-solution.ensures.cost, c.push_reserved.ensures.cost);
+      only = (c.first_solution-solution.result, queue_of g c, c.first_solution-solution.ensures.first);
+    }

@@ -23,15 +23,6 @@ first_cell-cell-requires-clause-row g c =
     subst (λ r. r < rows c.args.tree.now c.args.node) (sym c.source_row-row.ensures.member)
     (member_is_row g.R.Rank.KEYS g.R.Rank.key c.args.tree.now c.requires.formed c.args.node c.args.group c.args.member c.requires.node c.requires.member)
 
-pub returns-clause-first : goal.returns-clause-first
-returns-clause-first g c = (
-  refl,
-  c.best-rank.ensures.best ∙ ap (best c.args.tree.now g.R.Rank.KEYS g.R.Rank.key c.args.node) c.source_row-row.ensures.member,
-  subst (λ r. HasFirstParts c.args.tree.now c.args.entries.now.entries c.args.node r c.first_cell-cell.result) c.source_row-row.ensures.member c.first_cell-cell.ensures.parts,
-  c.source_row-row.ensures.member,
-  c.row_at-number.ensures.number ∙ ap (number c.args.tree.now c.args.node) c.source_row-row.ensures.member,
-)
-
 pub source_row-row-requires-clause-node : goal.source_row-row-requires-clause-node
 source_row-row-requires-clause-node g c = c.requires.node
 
@@ -56,5 +47,15 @@ first_cell-cell-requires-clause-formed g c = c.requires.formed
 pub first_cell-cell-requires-clause-headed : goal.first_cell-cell-requires-clause-headed
 first_cell-cell-requires-clause-headed g c = subst (IsHeaded g.R.Rank.KEYS g.R.Rank.key c.args.tree.now c.args.entries.now.entries c.args.nodes.now c.args.node) (sym c.source_row-row.ensures.member) c.requires.headed
 
-pub returns-clause-cost : goal.returns-clause-cost
-returns-clause-cost g c = four_steps _ _ _ _ _ c.source_row-row.ensures.counted c.row_at-number.ensures.counted c.best-rank.ensures.counted c.first_cell-cell.ensures.cost
+pub returns : goal.returns
+returns g c =
+    record {
+      first = (
+        refl,
+        c.best-rank.ensures.best ∙ ap (best c.args.tree.now g.R.Rank.KEYS g.R.Rank.key c.args.node) c.source_row-row.ensures.member,
+        subst (λ r. HasFirstParts c.args.tree.now c.args.entries.now.entries c.args.node r c.first_cell-cell.result) c.source_row-row.ensures.member c.first_cell-cell.ensures.parts,
+        c.source_row-row.ensures.member,
+        c.row_at-number.ensures.number ∙ ap (number c.args.tree.now c.args.node) c.source_row-row.ensures.member,
+      );
+      cost = four_steps _ _ _ _ _ c.source_row-row.ensures.counted c.row_at-number.ensures.counted c.best-rank.ensures.counted c.first_cell-cell.ensures.cost;
+    }

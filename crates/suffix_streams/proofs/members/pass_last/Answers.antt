@@ -29,43 +29,9 @@ queue_alone {R} n v k old new inside read changed =
     ap (λ (z : NodeStreamsView R). slice_set n v z) (changed ∙ ap (λ (z : NodeStreamsView R). with_queue z k (stream_at new k).queue (stream_at new k).room) before)
     ∙ ap (λ (z : NodeStreamsView R). slice_set n v (with_queue (lists_of n v) k (stream_at z k).queue (stream_at z k).room)) after
 
-pub returns-then-place-eq1-clause-moved : goal.returns-then-place-eq1-clause-moved
-returns-then-place-eq1-clause-moved g c =
-    let n = c.args.nodes.now.items in
-    let v = c.args.node in
-    let k = c.args.group in
-    let new = c.pass.new.self in
-    let left = c.firsts_below-left.result.0 in
-    let right = c.firsts_below-left.result.1 in
-    let one : 1 ≡ c.args.place = omega (arith, c.if-place-eq1.true) in
-    let inside : v < length n = in_same _ _ _ c.requires.node c.requires.formed.all_nodes in
-    let below : (j : ℕ) (o : Option (Entry g.row.R.Denot Source)) → IsFirstBelow g.R.Rank.KEYS g.R.Rank.key c.args.tree.now c.args.entries.now.entries v k 1 j o → IsFirstBelow g.R.Rank.KEYS g.R.Rank.key c.args.tree.now c.args.entries.now.entries v k c.args.place j o =
-    λ j o b. subst (λ p. IsFirstBelow g.R.Rank.KEYS g.R.Rank.key c.args.tree.now c.args.entries.now.entries v k p j o) one b in (
-      left,
-      right,
-      below (2 * c.args.member + 1) left c.firsts_below-left.ensures.left,
-      below (2 * c.args.member + 2) right c.firsts_below-left.ensures.right,
-      λ e.
-          subst (λ (z : NodeStreamsView g.row.R.Denot). IsPermutation (offers right None (offers c.args.next left (stream_of n v k).queue)) (get_or (stream_of n v k).queue 0 e ∷ (stream_at z k).queue)) (sym (lists_same n v new inside))
-          (subst (λ (z : NodeStreamsView g.row.R.Denot). IsPermutation (offers right None (offers c.args.next left (stream_at z k).queue)) (get_or (stream_at z k).queue 0 e ∷ (stream_at new k).queue)) (sym (lists_at n v c.index_mut.result.now c.index_mut.ensures.value inside)) (c.pass.ensures.moved e)),
-    )
-
-pub returns-then-place-eq1-clause-least : goal.returns-then-place-eq1-clause-least
-returns-then-place-eq1-clause-least g c e =
-    subst (λ (z : NodeStreamsView g.row.R.Denot). IsLeast g.R.Rank.KEYS g.R.Rank.key (get_or (stream_at z c.args.group).queue 0 e) (stream_at z c.args.group).queue)
-    (sym (lists_at c.args.nodes.now.items c.args.node c.index_mut.result.now c.index_mut.ensures.value (in_same _ _ _ c.requires.node c.requires.formed.all_nodes))) (c.pass.ensures.least e)
-
-pub returns-else-place-eq1-clause-least : goal.returns-else-place-eq1-clause-least
-returns-else-place-eq1-clause-least g c e =
-    subst (λ (z : NodeStreamsView g.row.R.Denot). IsLeast g.R.Rank.KEYS g.R.Rank.key (get_or (stream_at z c.args.group).queue 0 e) (stream_at z c.args.group).queue)
-    (sym (lists_at c.args.nodes.now.items c.args.node c.index_mut-else-place-eq1.result.now c.index_mut-else-place-eq1.ensures.value (in_same _ _ _ c.requires.node c.requires.formed.all_nodes))) (c.pass-else-place-eq1.ensures.least e)
-
 pub firsts_below-left-requires-clause-formed : goal.firsts_below-left-requires-clause-formed
 firsts_below-left-requires-clause-formed g c =
     subst (λ (z : List (NodeStreamsView g.row.R.Denot)). IsStreams g.R.Rank.KEYS g.R.Rank.key c.args.tree.now c.args.entries.now.entries z) (sym c.as_slice.ensures.value) c.requires.formed
-
-pub index_mut-requires : goal.index_mut-requires
-index_mut-requires g c = in_same _ _ _ (in_same _ _ _ c.requires.node c.requires.formed.all_nodes) c.args.nodes.now.ok.0
 
 pub pass-requires-clause-group : goal.pass-requires-clause-group
 pass-requires-clause-group g c =
@@ -78,27 +44,46 @@ pass-requires-clause-top g c =
     let inside : c.args.node < length c.args.nodes.now.items = in_same _ _ _ c.requires.node c.requires.formed.all_nodes in
     subst (λ (z : NodeStreamsView g.row.R.Denot). 0 < length (stream_at z c.args.group).queue) (lists_at c.args.nodes.now.items c.args.node c.index_mut.result.now c.index_mut.ensures.value inside) c.requires.top
 
-pub returns-then-place-eq1-clause-changed : goal.returns-then-place-eq1-clause-changed
-returns-then-place-eq1-clause-changed g c =
-    queue_alone c.args.nodes.now.items c.args.node c.args.group c.index_mut.result.now c.pass.new.self (in_same _ _ _ c.requires.node c.requires.formed.all_nodes) c.index_mut.ensures.value c.pass.ensures.changed
-
-pub returns-then-place-eq1-clause-cost : goal.returns-then-place-eq1-clause-cost
-returns-then-place-eq1-clause-cost g c =
+pub returns-then-place-eq1 : goal.returns-then-place-eq1
+returns-then-place-eq1 g c =
     let n = c.args.nodes.now.items in
-    let inside : c.args.node < length n = in_same _ _ _ c.requires.node c.requires.formed.all_nodes in
-    let before = lists_at n c.args.node c.index_mut.result.now c.index_mut.ensures.value inside in
-    let after = lists_same n c.args.node c.pass.new.self inside in
-    omega (
-      arith,
-      c.pass.ensures.cost,
-      c.firsts_below-left.ensures.cost,
-      ap (λ (z : NodeStreamsView g.row.R.Denot). bit_length (length (stream_at z c.args.group).queue)) before,
-      ap (λ (z : NodeStreamsView g.row.R.Denot). bit_length (length (stream_at z c.args.group).queue + 1)) before,
-      ap (λ (z : NodeStreamsView g.row.R.Denot). bit_length (length (stream_at z c.args.group).queue)) after,
-    )
-
-pub index_mut-requires-else-place-eq1 : goal.index_mut-requires-else-place-eq1
-index_mut-requires-else-place-eq1 g c = in_same _ _ _ (in_same _ _ _ c.requires.node c.requires.formed.all_nodes) c.args.nodes.now.ok.0
+    record {
+      moved =
+          let v = c.args.node in
+          let k = c.args.group in
+          let new = c.pass.new.self in
+          let left = c.firsts_below-left.result.0 in
+          let right = c.firsts_below-left.result.1 in
+          let one : 1 ≡ c.args.place = omega (arith, c.if-place-eq1.true) in
+          let inside : v < length n = in_same _ _ _ c.requires.node c.requires.formed.all_nodes in
+          let below : (j : ℕ) (o : Option (Entry g.row.R.Denot Source)) → IsFirstBelow g.R.Rank.KEYS g.R.Rank.key c.args.tree.now c.args.entries.now.entries v k 1 j o → IsFirstBelow g.R.Rank.KEYS g.R.Rank.key c.args.tree.now c.args.entries.now.entries v k c.args.place j o =
+          λ j o b. subst (λ p. IsFirstBelow g.R.Rank.KEYS g.R.Rank.key c.args.tree.now c.args.entries.now.entries v k p j o) one b in (
+            left,
+            right,
+            below (2 * c.args.member + 1) left c.firsts_below-left.ensures.left,
+            below (2 * c.args.member + 2) right c.firsts_below-left.ensures.right,
+            λ e.
+                subst (λ (z : NodeStreamsView g.row.R.Denot). IsPermutation (offers right None (offers c.args.next left (stream_of n v k).queue)) (get_or (stream_of n v k).queue 0 e ∷ (stream_at z k).queue)) (sym (lists_same n v new inside))
+                (subst (λ (z : NodeStreamsView g.row.R.Denot). IsPermutation (offers right None (offers c.args.next left (stream_at z k).queue)) (get_or (stream_at z k).queue 0 e ∷ (stream_at new k).queue)) (sym (lists_at n v c.index_mut.result.now c.index_mut.ensures.value inside)) (c.pass.ensures.moved e)),
+          );
+      cost =
+          let inside : c.args.node < length n = in_same _ _ _ c.requires.node c.requires.formed.all_nodes in
+          let before = lists_at n c.args.node c.index_mut.result.now c.index_mut.ensures.value inside in
+          let after = lists_same n c.args.node c.pass.new.self inside in
+          omega (
+            arith,
+            c.pass.ensures.cost,
+            c.firsts_below-left.ensures.cost,
+            ap (λ (z : NodeStreamsView g.row.R.Denot). bit_length (length (stream_at z c.args.group).queue)) before,
+            ap (λ (z : NodeStreamsView g.row.R.Denot). bit_length (length (stream_at z c.args.group).queue + 1)) before,
+            ap (λ (z : NodeStreamsView g.row.R.Denot). bit_length (length (stream_at z c.args.group).queue)) after,
+          );
+      changed = queue_alone c.args.nodes.now.items c.args.node c.args.group c.index_mut.result.now c.pass.new.self (in_same _ _ _ c.requires.node c.requires.formed.all_nodes) c.index_mut.ensures.value c.pass.ensures.changed;
+      least =
+          λ e.
+          subst (λ (z : NodeStreamsView g.row.R.Denot). IsLeast g.R.Rank.KEYS g.R.Rank.key (get_or (stream_at z c.args.group).queue 0 e) (stream_at z c.args.group).queue)
+          (sym (lists_at c.args.nodes.now.items c.args.node c.index_mut.result.now c.index_mut.ensures.value (in_same _ _ _ c.requires.node c.requires.formed.all_nodes))) (c.pass.ensures.least e);
+    }
 
 pub pass-requires-else-place-eq1-clause-group : goal.pass-requires-else-place-eq1-clause-group
 pass-requires-else-place-eq1-clause-group g c =
@@ -111,40 +96,41 @@ pass-requires-else-place-eq1-clause-top g c =
     let inside : c.args.node < length c.args.nodes.now.items = in_same _ _ _ c.requires.node c.requires.formed.all_nodes in
     subst (λ (z : NodeStreamsView g.row.R.Denot). 0 < length (stream_at z c.args.group).queue) (lists_at c.args.nodes.now.items c.args.node c.index_mut-else-place-eq1.result.now c.index_mut-else-place-eq1.ensures.value inside) c.requires.top
 
-pub returns-else-place-eq1-clause-changed : goal.returns-else-place-eq1-clause-changed
-returns-else-place-eq1-clause-changed g c =
-    queue_alone c.args.nodes.now.items c.args.node c.args.group c.index_mut-else-place-eq1.result.now c.pass-else-place-eq1.new.self (in_same _ _ _ c.requires.node c.requires.formed.all_nodes) c.index_mut-else-place-eq1.ensures.value c.pass-else-place-eq1.ensures.changed
-
-pub returns-else-place-eq1-clause-cost : goal.returns-else-place-eq1-clause-cost
-returns-else-place-eq1-clause-cost g c =
+pub returns-else-place-eq1 : goal.returns-else-place-eq1
+returns-else-place-eq1 g c =
     let n = c.args.nodes.now.items in
-    let inside : c.args.node < length n = in_same _ _ _ c.requires.node c.requires.formed.all_nodes in
-    let before = lists_at n c.args.node c.index_mut-else-place-eq1.result.now c.index_mut-else-place-eq1.ensures.value inside in
-    let after = lists_same n c.args.node c.pass-else-place-eq1.new.self inside in
-    omega (
-      arith,
-      c.pass-else-place-eq1.ensures.cost,
-      ap (λ (z : NodeStreamsView g.row.R.Denot). bit_length (length (stream_at z c.args.group).queue)) before,
-      ap (λ (z : NodeStreamsView g.row.R.Denot). bit_length (length (stream_at z c.args.group).queue + 1)) before,
-      ap (λ (z : NodeStreamsView g.row.R.Denot). bit_length (length (stream_at z c.args.group).queue)) after,
-    )
-
-pub returns-else-place-eq1-clause-moved : goal.returns-else-place-eq1-clause-moved
-returns-else-place-eq1-clause-moved g c =
-    let n = c.args.nodes.now.items in
-    let v = c.args.node in
-    let k = c.args.group in
-    let new = c.pass-else-place-eq1.new.self in
-    let old = c.index_mut-else-place-eq1 in
-    let inside : v < length n = in_same _ _ _ c.requires.node c.requires.formed.all_nodes in (
-      None,
-      None,
-      inl c.if-place-eq1.false,
-      inl c.if-place-eq1.false,
-      λ e.
-          subst (λ (z : NodeStreamsView g.row.R.Denot). IsPermutation (offers None None (offers c.args.next None (stream_of n v k).queue)) (get_or (stream_of n v k).queue 0 e ∷ (stream_at z k).queue)) (sym (lists_same n v new inside))
-          (subst (λ (z : NodeStreamsView g.row.R.Denot). IsPermutation (offers None None (offers c.args.next None (stream_at z k).queue)) (get_or (stream_at z k).queue 0 e ∷ (stream_at new k).queue)) (sym (lists_at n v old.result.now old.ensures.value inside)) (c.pass-else-place-eq1.ensures.moved e)),
-    )
+    record {
+      cost =
+          let inside : c.args.node < length n = in_same _ _ _ c.requires.node c.requires.formed.all_nodes in
+          let before = lists_at n c.args.node c.index_mut-else-place-eq1.result.now c.index_mut-else-place-eq1.ensures.value inside in
+          let after = lists_same n c.args.node c.pass-else-place-eq1.new.self inside in
+          omega (
+            arith,
+            c.pass-else-place-eq1.ensures.cost,
+            ap (λ (z : NodeStreamsView g.row.R.Denot). bit_length (length (stream_at z c.args.group).queue)) before,
+            ap (λ (z : NodeStreamsView g.row.R.Denot). bit_length (length (stream_at z c.args.group).queue + 1)) before,
+            ap (λ (z : NodeStreamsView g.row.R.Denot). bit_length (length (stream_at z c.args.group).queue)) after,
+          );
+      moved =
+          let v = c.args.node in
+          let k = c.args.group in
+          let new = c.pass-else-place-eq1.new.self in
+          let old = c.index_mut-else-place-eq1 in
+          let inside : v < length n = in_same _ _ _ c.requires.node c.requires.formed.all_nodes in (
+            None,
+            None,
+            inl c.if-place-eq1.false,
+            inl c.if-place-eq1.false,
+            λ e.
+                subst (λ (z : NodeStreamsView g.row.R.Denot). IsPermutation (offers None None (offers c.args.next None (stream_of n v k).queue)) (get_or (stream_of n v k).queue 0 e ∷ (stream_at z k).queue)) (sym (lists_same n v new inside))
+                (subst (λ (z : NodeStreamsView g.row.R.Denot). IsPermutation (offers None None (offers c.args.next None (stream_at z k).queue)) (get_or (stream_at z k).queue 0 e ∷ (stream_at new k).queue)) (sym (lists_at n v old.result.now old.ensures.value inside)) (c.pass-else-place-eq1.ensures.moved e)),
+          );
+      changed = queue_alone c.args.nodes.now.items c.args.node c.args.group c.index_mut-else-place-eq1.result.now c.pass-else-place-eq1.new.self (in_same _ _ _ c.requires.node c.requires.formed.all_nodes) c.index_mut-else-place-eq1.ensures.value c.pass-else-place-eq1.ensures.changed;
+      least =
+          λ e.
+          subst (λ (z : NodeStreamsView g.row.R.Denot). IsLeast g.R.Rank.KEYS g.R.Rank.key (get_or (stream_at z c.args.group).queue 0 e) (stream_at z c.args.group).queue)
+          (sym (lists_at c.args.nodes.now.items c.args.node c.index_mut-else-place-eq1.result.now c.index_mut-else-place-eq1.ensures.value (in_same _ _ _ c.requires.node c.requires.formed.all_nodes))) (c.pass-else-place-eq1.ensures.least e);
+    }
 
 -- where the first solution of member j enters, there is room for two, or for j if that is fewer
 room_below : {R : Type 0} (d : ℕ) (key : R → KeyOf d 16) (t : List (NodeView R)) (es : List (Linked (Found R))) (v k j room : ℕ) (first : Option (Entry R Source)) → IsFirstBelow d key t es v k 1 j first → IsSome first → can_enter (length (members t v k)) ≤ room → min 2 j ≤ room

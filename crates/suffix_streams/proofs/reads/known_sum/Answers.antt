@@ -45,16 +45,6 @@ overflow_add-child g c =
     let kids = child_in g.R.Rank.KEYS g.R.Rank.key c.args.tree.now c.args.entries.now.entries c.args.nodes.now c.requires.formed c.args.node c.args.row c.args.child c.requires.node c.requires.row c.requires.child in
     omega (arith, most, few, kids)
 
-pub returns-in-Some-clause-sum : goal.returns-in-Some-clause-sum
-returns-in-Some-clause-sum g c =
-    let at = goal.at.returns-in-Some-clause-sum g c in
-    (top_of g at.In-Some (product_is g at.After-index-nodes-node) (within g at.After-index-nodes-node)).sum
-
-pub returns-in-Some-clause-key : goal.returns-in-Some-clause-key
-returns-in-Some-clause-key g c =
-    let at = goal.at.returns-in-Some-clause-key g c in
-    (top_of g at.In-Some (product_is g at.After-index-nodes-node) (within g at.After-index-nodes-node)).rank
-
 pub cell-cell-requires-clause-place : goal.cell-cell-requires-clause-place
 cell-cell-requires-clause-place g c =
     let at = goal.at.cell-cell-requires-clause-place g c in
@@ -67,19 +57,6 @@ pub cell_rank-rank-requires-clause-cell : goal.cell_rank-rank-requires-clause-ce
 cell_rank-rank-requires-clause-cell g c =
     let at = goal.at.cell_rank-rank-requires-clause-cell g c in
     offered_cell g.R.Rank.KEYS g.R.Rank.key c.args.tree.now c.args.entries.now.entries c.args.nodes.now c.requires.formed c.args.node c.args.row c.args.child c.args.place c.requires.node c.requires.row c.requires.child (within g at.After-index-nodes-node)
-    c.cell-cell.result (cell_is g at.After-cell-cell (product_is g at.After-index-nodes-node))
-
-pub returns-clause-sum : goal.returns-clause-sum
-returns-clause-sum g c =
-    let at = goal.at.returns-clause-sum g c in
-    offered_sum g.R.Rank.KEYS g.R.Rank.key c.args.tree.now c.args.entries.now.entries c.args.nodes.now c.requires.formed c.args.node c.args.row c.args.child c.args.place c.requires.node c.requires.row c.requires.child (within g at.After-index-nodes-node)
-    c.cell-cell.result (cell_is g at.After-cell-cell (product_is g at.After-index-nodes-node))
-
-pub returns-clause-key : goal.returns-clause-key
-returns-clause-key g c =
-    let at = goal.at.returns-clause-key g c in
-    c.cell_rank-rank.ensures.key
-    ∙ offered_key g.R.Rank.KEYS g.R.Rank.key c.args.tree.now c.args.entries.now.entries c.args.nodes.now c.requires.formed c.args.node c.args.row c.args.child c.args.place c.requires.node c.requires.row c.requires.child (within g at.After-index-nodes-node)
     c.cell-cell.result (cell_is g at.After-cell-cell (product_is g at.After-index-nodes-node))
 
 pub offset_bounds-nodes-node : goal.offset_bounds-nodes-node
@@ -100,8 +77,14 @@ overflow_add-place g c =
 pub product_top-requires : goal.product_top-requires
 product_top-requires g c = omega (arith, c.requires.child, products_are g (goal.at.product_top-requires g c).After-index-nodes-node)
 
-pub returns-in-Some-clause-cost : goal.returns-in-Some-clause-cost
-returns-in-Some-clause-cost g c = omega arith
+pub returns-in-Some : goal.returns-in-Some
+returns-in-Some g c =
+    let at = goal.at.returns-in-Some g c in
+    record {
+      key = (top_of g at.In-Some (product_is g at.After-index-nodes-node) (within g at.After-index-nodes-node)).rank;
+      sum = (top_of g at.In-Some (product_is g at.After-index-nodes-node) (within g at.After-index-nodes-node)).sum;
+      cost = omega arith;
+    }
 
 pub cell-cell-requires-clause-child : goal.cell-cell-requires-clause-child
 cell-cell-requires-clause-child g c = omega (arith, c.requires.child, products_are g (goal.at.cell-cell-requires-clause-child g c).After-index-nodes-node)
@@ -115,5 +98,16 @@ cell_rank-rank-requires-clause-node g c = c.requires.node
 pub cell_rank-rank-requires-clause-row : goal.cell_rank-rank-requires-clause-row
 cell_rank-rank-requires-clause-row g c = c.requires.row
 
-pub returns-clause-cost : goal.returns-clause-cost
-returns-clause-cost g c = c.cell_rank-rank.ensures.cost
+pub returns : goal.returns
+returns g c =
+    let at = goal.at.returns g c in
+    record {
+      cost = c.cell_rank-rank.ensures.cost;
+      key =
+          c.cell_rank-rank.ensures.key
+          ∙ offered_key g.R.Rank.KEYS g.R.Rank.key c.args.tree.now c.args.entries.now.entries c.args.nodes.now c.requires.formed c.args.node c.args.row c.args.child c.args.place c.requires.node c.requires.row c.requires.child (within g at.After-index-nodes-node)
+          c.cell-cell.result (cell_is g at.After-cell-cell (product_is g at.After-index-nodes-node));
+      sum =
+          offered_sum g.R.Rank.KEYS g.R.Rank.key c.args.tree.now c.args.entries.now.entries c.args.nodes.now c.requires.formed c.args.node c.args.row c.args.child c.args.place c.requires.node c.requires.row c.requires.child (within g at.After-index-nodes-node)
+          c.cell-cell.result (cell_is g at.After-cell-cell (product_is g at.After-index-nodes-node));
+    }

@@ -1,12 +1,19 @@
-use Rattle.std.proofs.Common.{◌≡◌, ◌+◌, ◌<◌, length, sym, ap, ◌∙◌, subst, arith}
+use Rattle.std.proofs.Common.{◌≡◌, ℕ, ◌+◌, ◌*◌, ◌<◌, ◌≤◌, length, sym, ap, ◌∙◌, subst, arith}
 use Rattle.std.proofs.lemmas.Bool.{cond-true, lt-ltb}
 use Rattle.tdp_core.specs.TreeView.{child_count, group_named}
 use Rattle.suffix_streams.specs.Rankings.{child}
 use Rattle.suffix_streams.specs.TreeStreams.{stream_of, AreFreshTo}
 use Rattle.suffix_streams.proofs.Rankings.{own_first}
 use Rattle.suffix_streams.proofs.Firsts.{first_longer, firsts_fit}
+use Rattle.suffix_streams.proofs.Errors.{none_done}
 use Rattle.suffix_streams.proofs.Heads.{children_count, head_key, product_made}
 use Rattle.suffix_streams.proofs.reads.make_products.Goals as goal
+
+child_steps : (s l s1 s2 s3 i n : ℕ) → i < n → l ≡ s + 1 + 3 * i → s1 ≡ l + 1 → s2 ≡ s1 + 1 → s3 ≡ s2 + 1 → s3 ≤ s + 1 + 3 * n
+child_steps s l s1 s2 s3 i n within start head read joined = omega arith
+
+next_child : (s l s1 s2 s3 i : ℕ) → l ≡ s + 1 + 3 * i → s1 ≡ l + 1 → s2 ≡ s1 + 1 → s3 ≡ s2 + 1 → s3 ≡ s + 1 + 3 * (i + 1)
+next_child s l s1 s2 s3 i start head read joined = omega arith
 
 pub loop-child-init : goal.loop-child-init
 loop-child-init g c = record {
@@ -31,14 +38,8 @@ loop-child-preserved g c =
     record {
       key = longer;
       fresh = product_made g.R.Rank.KEYS g.R.Rank.key c.args.tree.now c.args.nodes.now c.args.node c.args.row c.loop-child.child c.child_head-head.result c.loop-child.products.items _ c.in_ok-product.product c.join-rank.result c.loop-child.invariant.fresh c.in_ok-push.ensures.items c.in_ok-product.ensures.found c.in_ok-product.ensures.frontier c.child_head-head.ensures.head longer (λ few. c.in_ok-product.ensures.ranks ∙ cond-true _ _ _ (lt-ltb (c.loop-child.child + 1) c.child_count-children.result (omega (arith, few, kids, c.child_count-children.ensures))));
-      steps = omega (arith, c.loop-child.invariant.steps, c.child_head-head.ensures.cost, c.get.ensures.cost, c.join-rank.ensures.counted);
+      steps = next_child _ _ _ _ _ _ c.loop-child.invariant.steps c.child_head-head.ensures.cost c.get.ensures.cost c.join-rank.ensures.counted;
     }
-
-pub returns-clause-fresh : goal.returns-clause-fresh
-returns-clause-fresh g c =
-    let kids : length c.index-nodes-node.result.children ≡ child_count c.args.tree.now c.args.node = children_count g.R.Rank.KEYS g.R.Rank.key c.args.tree.now c.args.entries.now.entries c.args.nodes.now c.args.node c.args.row c.index-nodes-node.result c.requires.headed c.requires.node c.index-nodes-node.is in
-    let end : c.loop-child.child ≡ child_count c.args.tree.now c.args.node = omega (arith, kids, c.child_count-children.ensures, c.loop-child.auto.child-end) in
-    subst (λ n. AreFreshTo g.R.Rank.KEYS g.R.Rank.key c.args.tree.now c.args.nodes.now c.args.node c.args.row n c.loop-child.products.items) end c.loop-child.invariant.fresh
 
 pub get-requires : goal.get-requires
 get-requires g c =
@@ -79,20 +80,31 @@ pub child_head-head-requires-clause-headed : goal.child_head-head-requires-claus
 child_head-head-requires-clause-headed g c =
     c.requires.headed
 
-pub returns-in_err-product-clause-cost : goal.returns-in_err-product-clause-cost
-returns-in_err-product-clause-cost g c =
-    let kids : length c.index-nodes-node.result.children ≡ child_count c.args.tree.now c.args.node = children_count g.R.Rank.KEYS g.R.Rank.key c.args.tree.now c.args.entries.now.entries c.args.nodes.now c.args.node c.args.row c.index-nodes-node.result c.requires.headed c.requires.node c.index-nodes-node.is in
-    let kid_in : c.loop-child.child < child_count c.args.tree.now c.args.node = omega (arith, kids, c.child_count-children.ensures) in
-    omega (arith, kid_in, c.loop-child.invariant.steps, c.child_head-head.ensures.cost, c.get.ensures.cost, c.join-rank.ensures.counted)
+pub returns-in_err-product : goal.returns-in_err-product
+returns-in_err-product g c =
+    record {
+      fresh = none_done _ c.from_residual.result c.from_residual.ensures.0;
+      cost =
+          let kids : length c.index-nodes-node.result.children ≡ child_count c.args.tree.now c.args.node = children_count g.R.Rank.KEYS g.R.Rank.key c.args.tree.now c.args.entries.now.entries c.args.nodes.now c.args.node c.args.row c.index-nodes-node.result c.requires.headed c.requires.node c.index-nodes-node.is in
+          let kid_in : c.loop-child.child < child_count c.args.tree.now c.args.node = omega (arith, kids, c.child_count-children.ensures) in
+          child_steps _ _ _ _ _ _ _ kid_in c.loop-child.invariant.steps c.child_head-head.ensures.cost c.get.ensures.cost c.join-rank.ensures.counted;
+    }
 
-pub returns-in_err-push-clause-cost : goal.returns-in_err-push-clause-cost
-returns-in_err-push-clause-cost g c =
-    let kids : length c.index-nodes-node.result.children ≡ child_count c.args.tree.now c.args.node = children_count g.R.Rank.KEYS g.R.Rank.key c.args.tree.now c.args.entries.now.entries c.args.nodes.now c.args.node c.args.row c.index-nodes-node.result c.requires.headed c.requires.node c.index-nodes-node.is in
-    let kid_in : c.loop-child.child < child_count c.args.tree.now c.args.node = omega (arith, kids, c.child_count-children.ensures) in
-    omega (arith, kid_in, c.loop-child.invariant.steps, c.child_head-head.ensures.cost, c.get.ensures.cost, c.join-rank.ensures.counted)
+pub returns-in_err-push : goal.returns-in_err-push
+returns-in_err-push g c =
+    record {
+      fresh = none_done _ c.from_residual-in_err-push.result c.from_residual-in_err-push.ensures.0;
+      cost =
+          let kids : length c.index-nodes-node.result.children ≡ child_count c.args.tree.now c.args.node = children_count g.R.Rank.KEYS g.R.Rank.key c.args.tree.now c.args.entries.now.entries c.args.nodes.now c.args.node c.args.row c.index-nodes-node.result c.requires.headed c.requires.node c.index-nodes-node.is in
+          let kid_in : c.loop-child.child < child_count c.args.tree.now c.args.node = omega (arith, kids, c.child_count-children.ensures) in
+          child_steps _ _ _ _ _ _ _ kid_in c.loop-child.invariant.steps c.child_head-head.ensures.cost c.get.ensures.cost c.join-rank.ensures.counted;
+    }
 
-pub returns-clause-cost : goal.returns-clause-cost
-returns-clause-cost g c =
+pub returns : goal.returns
+returns g c =
     let kids : length c.index-nodes-node.result.children ≡ child_count c.args.tree.now c.args.node = children_count g.R.Rank.KEYS g.R.Rank.key c.args.tree.now c.args.entries.now.entries c.args.nodes.now c.args.node c.args.row c.index-nodes-node.result c.requires.headed c.requires.node c.index-nodes-node.is in
     let end : c.loop-child.child ≡ child_count c.args.tree.now c.args.node = omega (arith, kids, c.child_count-children.ensures, c.loop-child.auto.child-end) in
-    omega (arith, end, c.loop-child.invariant.steps)
+    record {
+      fresh = subst (λ n. AreFreshTo g.R.Rank.KEYS g.R.Rank.key c.args.tree.now c.args.nodes.now c.args.node c.args.row n c.loop-child.products.items) end c.loop-child.invariant.fresh;
+      cost = omega (arith, end, c.loop-child.invariant.steps);
+    }

@@ -24,16 +24,6 @@ known-requires g c =
     let same = lists g at.After-child_count-count in
     omega (arith, whole g at.After-child_count-count, ap (λ n. length (get_or n.products c.args.row [])) same)
 
-pub returns-then-count-eq0-clause-none : goal.returns-then-count-eq0-clause-none
-returns-then-count-eq0-clause-none g c =
-    let at = goal.at.returns-then-count-eq0-clause-none g c in
-    let same = lists g at.After-child_count-count in
-    let all = whole g at.After-child_count-count in
-    elim c.then-count-eq0.branch [
-      | then-count-eq0-via-then-count-eq0 w ↦ subst (λ k. part_known c.args.nodes.now c.args.node c.args.row k ≤ c.args.place) (sym w.if-count-eq0.true ∙ all) (omega (arith, c.requires.place))
-      | then-count-eq0-via-else-count-eq0+then-known-place w ↦ omega (arith, w.known.ensures, ap (λ m. known_of m c.args.row c.child_count-count.result) same, ap (λ k. part_known c.args.nodes.now c.args.node c.args.row k) all, w.if-known-place.true)
-    ]
-
 pub known_sum-sum-requires-clause-child : goal.known_sum-sum-requires-clause-child
 known_sum-sum-requires-clause-child g c =
     let at = goal.at.known_sum-sum-requires-clause-child g c in
@@ -46,34 +36,6 @@ known_sum-sum-requires-clause-place g c =
     let same = lists g at.After-child_count-count in
     let more : c.child_count-count.result ≡ c.child_count-count.result - 1 + 1 = omega (arith, c.if-count-eq0.false) in
     omega (arith, ap (λ k. part_known n c.args.node c.args.row k) more, ap (λ m. known_of m c.args.row c.child_count-count.result) same, c.known.ensures, c.if-known-place.false)
-
-pub returns-clause-known : goal.returns-clause-known
-returns-clause-known g c =
-    let at = goal.at.returns-clause-known g c in
-    let n = c.args.nodes.now in
-    let same = lists g at.After-child_count-count in
-    omega (arith, ap (λ k. part_known n c.args.node c.args.row k) (whole g at.After-child_count-count), ap (λ m. known_of m c.args.row c.child_count-count.result) same, c.known.ensures, c.if-known-place.false)
-
-pub returns-clause-parts : goal.returns-clause-parts
-returns-clause-parts g c = (
-  refl,
-  c.requires.number,
-  λ i kids.
-      let at = goal.at.returns-clause-parts g c in
-      let last : c.child_count-count.result - 1 ≡ i = omega (arith, kids, c.requires.opened, whole g at.After-child_count-count) in
-      subst (λ z. IsSumOf g.R.Rank.KEYS g.R.Rank.key c.args.tree.now c.args.entries.now.entries c.args.nodes.now c.args.node c.args.row z c.args.place c.known_sum-sum.result.tag) last c.known_sum-sum.ensures.sum,
-)
-
-pub returns-clause-key : goal.returns-clause-key
-returns-clause-key g c =
-    let at = goal.at.returns-clause-key g c in
-    let last : c.child_count-count.result - 1 + 1 ≡ length (products_of c.args.nodes.now c.args.node c.args.row) = omega (arith, whole g at.After-child_count-count, c.if-count-eq0.false) in
-    c.known_sum-sum.ensures.key ∙ ap (λ k. get_or (part_list g.R.Rank.KEYS g.R.Rank.key c.args.tree.now c.args.node c.args.row k) c.args.place (key_none g.R.Rank.KEYS 16)) last
-
-pub returns-clause-cost : goal.returns-clause-cost
-returns-clause-cost g c =
-    let at = goal.at.returns-clause-cost g c in
-    omega (arith, c.known_sum-sum.ensures.cost, c.requires.opened, whole g at.After-child_count-count, c.if-count-eq0.false)
 
 pub offset_bounds-nodes-node : goal.offset_bounds-nodes-node
 offset_bounds-nodes-node g c = omega (arith, c.requires.formed.all_nodes, c.requires.node)
@@ -93,23 +55,43 @@ known_sum-sum-requires-clause-node g c = c.requires.node
 pub known_sum-sum-requires-clause-row : goal.known_sum-sum-requires-clause-row
 known_sum-sum-requires-clause-row g c = c.requires.row
 
-pub returns-clause-none : goal.returns-clause-none
-returns-clause-none g c = tt
+pub returns : goal.returns
+returns g c =
+    let at = goal.at.returns g c in
+    record {
+      none = tt;
+      key =
+          let last : c.child_count-count.result - 1 + 1 ≡ length (products_of c.args.nodes.now c.args.node c.args.row) = omega (arith, whole g at.After-child_count-count, c.if-count-eq0.false) in
+          c.known_sum-sum.ensures.key ∙ ap (λ k. get_or (part_list g.R.Rank.KEYS g.R.Rank.key c.args.tree.now c.args.node c.args.row k) c.args.place (key_none g.R.Rank.KEYS 16)) last;
+      parts = (
+        refl,
+        c.requires.number,
+        λ i kids.
+            let last : c.child_count-count.result - 1 ≡ i = omega (arith, kids, c.requires.opened, whole g at.After-child_count-count) in
+            subst (λ z. IsSumOf g.R.Rank.KEYS g.R.Rank.key c.args.tree.now c.args.entries.now.entries c.args.nodes.now c.args.node c.args.row z c.args.place c.known_sum-sum.result.tag) last c.known_sum-sum.ensures.sum,
+      );
+      cost = omega (arith, c.known_sum-sum.ensures.cost, c.requires.opened, whole g at.After-child_count-count, c.if-count-eq0.false);
+      known =
+          let n = c.args.nodes.now in
+          let same = lists g at.After-child_count-count in
+          omega (arith, ap (λ k. part_known n c.args.node c.args.row k) (whole g at.After-child_count-count), ap (λ m. known_of m c.args.row c.child_count-count.result) same, c.known.ensures, c.if-known-place.false);
+      source = (refl, refl);
+    }
 
-pub returns-clause-source : goal.returns-clause-source
-returns-clause-source g c = (refl, refl)
-
-pub returns-then-count-eq0-clause-source : goal.returns-then-count-eq0-clause-source
-returns-then-count-eq0-clause-source g c = tt
-
-pub returns-then-count-eq0-clause-known : goal.returns-then-count-eq0-clause-known
-returns-then-count-eq0-clause-known g c = tt
-
-pub returns-then-count-eq0-clause-parts : goal.returns-then-count-eq0-clause-parts
-returns-then-count-eq0-clause-parts g c = tt
-
-pub returns-then-count-eq0-clause-key : goal.returns-then-count-eq0-clause-key
-returns-then-count-eq0-clause-key g c = tt
-
-pub returns-then-count-eq0-clause-cost : goal.returns-then-count-eq0-clause-cost
-returns-then-count-eq0-clause-cost g c = omega arith
+pub returns-then-count-eq0 : goal.returns-then-count-eq0
+returns-then-count-eq0 g c =
+    record {
+      none =
+          let at = goal.at.returns-then-count-eq0 g c in
+          let same = lists g at.After-child_count-count in
+          let all = whole g at.After-child_count-count in
+          elim c.then-count-eq0.branch [
+            | then-count-eq0-via-then-count-eq0 w ↦ subst (λ k. part_known c.args.nodes.now c.args.node c.args.row k ≤ c.args.place) (sym w.if-count-eq0.true ∙ all) (omega (arith, c.requires.place))
+            | then-count-eq0-via-else-count-eq0+then-known-place w ↦ omega (arith, w.known.ensures, ap (λ m. known_of m c.args.row c.child_count-count.result) same, ap (λ k. part_known c.args.nodes.now c.args.node c.args.row k) all, w.if-known-place.true)
+          ];
+      cost = omega arith;
+      known = tt;
+      source = tt;
+      key = tt;
+      parts = tt;
+    }

@@ -1,10 +1,15 @@
-use Rattle.std.proofs.Common.{◌≡◌, ◌<◌, ◌↔◌, IsTrue, length, slice_index, sym, ap, ◌∙◌, subst, arith}
+use Rattle.std.proofs.Common.{◌≡◌, ℕ, ◌<◌, ◌↔◌, IsTrue, false, length, slice_index, sym, ap, ◌∙◌, subst, arith}
+use Rattle.std.proofs.lemmas.Bool.{false≢true}
 use Rattle.suffix_streams.specs.NodeStreamsView.{HasHead}
 use Rattle.suffix_streams.specs.TreeStreams.{lists_of}
 use Rattle.suffix_streams.proofs.Heads.{lists_at}
 use Rattle.suffix_streams.proofs.solutions.has_beside.Given.{Over}
 use Rattle.suffix_streams.proofs.solutions.has_beside.Goals.{After-child-child_node}
 use Rattle.suffix_streams.proofs.solutions.has_beside.Goals as goal
+
+-- in a row's first product no sum is beside another one
+none_beside : {P : Type 0} (n : ℕ) → n ≡ 0 → IsTrue false ↔ ((0 < n) × P)
+none_beside n e = (λ y. absurd (false≢true y), λ h. absurd (omega (arith, h.0, e)))
 
 module _ (g : Over) where
   child_is : (c : After-child-child_node g) → slice_index (lists_of c.args.nodes.now c.args.node).children c.args.child ≡ c.child-child_node.result
@@ -28,3 +33,6 @@ returns g c =
     let below = lists_at c.args.nodes.now c.child-child_node.result c.index-nodes-child_node.result c.index-nodes-child_node.is (child_within g called) in
     let told = subst (λ n. IsTrue c.is_head.result ↔ HasHead n c.args.right) (sym (ap (λ u. lists_of c.args.nodes.now u) (child_is g called) ∙ below)) c.is_head.ensures in
     (λ y. (omega (arith, c.if-child-eq0.false), told.0 y), λ h. told.1 h.1)
+
+pub returns-then-child-eq0 : goal.returns-then-child-eq0
+returns-then-child-eq0 g c = none_beside c.args.child c.if-child-eq0.true

@@ -8,32 +8,25 @@ use Rattle.suffix_streams.specs.NodeStreamsView.{stream_at, with_queue}
 use Rattle.suffix_streams.proofs.NodeFacts.{in_queues, queue_read, queue_changed}
 use Rattle.suffix_streams.proofs.node.NodeStreams.pass.Goals as goal
 
-pub returns-clause-least : goal.returns-clause-least
-returns-clause-least g c d =
+pub returns : goal.returns
+returns g c =
     let o = queue_changed _ c.self.inside.first_head c.self.inside.streams.items _ c.args.self.now c.self.view_is c.args.group c.requires.group c.pass.new.self c.index_mut.result.now c.index_mut.ensures.value in
-    subst (λ z. IsLeast g.R.Rank.KEYS g.R.Rank.key (slice_index_or z.queue 0 d) z.queue) (sym o.0) (c.pass.ensures.least d)
-
-pub returns-clause-changed : goal.returns-clause-changed
-returns-clause-changed g c =
-    let o = queue_changed _ c.self.inside.first_head c.self.inside.streams.items _ c.args.self.now c.self.view_is c.args.group c.requires.group c.pass.new.self c.index_mut.result.now c.index_mut.ensures.value in
-    o.2 ∙ ap (λ (s : StreamView g.row.R.Denot). with_queue c.args.self.now c.args.group s.queue s.room) (sym o.1)
-
-pub returns-clause-moved : goal.returns-clause-moved
-returns-clause-moved g c d =
-    let o = queue_changed _ c.self.inside.first_head c.self.inside.streams.items _ c.args.self.now c.self.view_is c.args.group c.requires.group c.pass.new.self c.index_mut.result.now c.index_mut.ensures.value in
-    subst (λ (s : StreamView g.row.R.Denot). IsPermutation (offers c.args.right None (offers c.args.next c.args.left (stream_at c.args.self.now c.args.group).queue)) (slice_index_or (stream_at c.args.self.now c.args.group).queue 0 d ∷ s.queue)) (sym o.1)
-    (subst (λ (s : StreamView g.row.R.Denot). IsPermutation (offers c.args.right None (offers c.args.next c.args.left s.queue)) (slice_index_or s.queue 0 d ∷ c.pass.new.self.entries)) (sym o.0) (c.pass.ensures.moved d))
-
-pub returns-clause-cost : goal.returns-clause-cost
-returns-clause-cost g c =
-    let o = queue_changed _ c.self.inside.first_head c.self.inside.streams.items _ c.args.self.now c.self.view_is c.args.group c.requires.group c.pass.new.self c.index_mut.result.now c.index_mut.ensures.value in
-    omega (
-      arith,
-      c.pass.ensures.cost,
-      ap (λ (s : StreamView g.row.R.Denot). bit_length (length s.queue)) o.0,
-      ap (λ (s : StreamView g.row.R.Denot). bit_length (length s.queue + 1)) o.0,
-      ap (λ (s : StreamView g.row.R.Denot). bit_length (length s.queue)) o.1,
-    )
+    record {
+      least = λ d. subst (λ z. IsLeast g.R.Rank.KEYS g.R.Rank.key (slice_index_or z.queue 0 d) z.queue) (sym o.0) (c.pass.ensures.least d);
+      moved =
+          λ d.
+          subst (λ (s : StreamView g.row.R.Denot). IsPermutation (offers c.args.right None (offers c.args.next c.args.left (stream_at c.args.self.now c.args.group).queue)) (slice_index_or (stream_at c.args.self.now c.args.group).queue 0 d ∷ s.queue)) (sym o.1)
+          (subst (λ (s : StreamView g.row.R.Denot). IsPermutation (offers c.args.right None (offers c.args.next c.args.left s.queue)) (slice_index_or s.queue 0 d ∷ c.pass.new.self.entries)) (sym o.0) (c.pass.ensures.moved d));
+      cost =
+          omega (
+            arith,
+            c.pass.ensures.cost,
+            ap (λ (s : StreamView g.row.R.Denot). bit_length (length s.queue)) o.0,
+            ap (λ (s : StreamView g.row.R.Denot). bit_length (length s.queue + 1)) o.0,
+            ap (λ (s : StreamView g.row.R.Denot). bit_length (length s.queue)) o.1,
+          );
+      changed = o.2 ∙ ap (λ (s : StreamView g.row.R.Denot). with_queue c.args.self.now c.args.group s.queue s.room) (sym o.1);
+    }
 
 pub index_mut-requires : goal.index_mut-requires
 index_mut-requires g c = omega (arith, in_queues _ c.self.inside.first_head c.self.inside.streams.items _ c.args.self.now c.self.view_is c.args.group c.requires.group, c.self.inside.streams.ok.0)

@@ -12,14 +12,13 @@ pub reserve-requires : goal.reserve-requires
 reserve-requires g c =
     subst (λ (s : StreamView g.row.R.Denot). length s.queue ≤ c.args.members) (queue_read _ c.self.inside.first_head c.self.inside.streams.items _ c.args.self.now c.self.view_is c.args.group c.requires.group c.index_mut.result.now c.index_mut.ensures.value) c.requires.few
 
-pub returns-clause-changed : goal.returns-clause-changed
-returns-clause-changed g c =
+pub returns : goal.returns
+returns g c =
     let o = queue_changed _ c.self.inside.first_head c.self.inside.streams.items _ c.args.self.now c.self.view_is c.args.group c.requires.group c.reserve.new.self c.index_mut.result.now c.index_mut.ensures.value in
-    o.2
-    ∙ ap (λ q. with_queue c.args.self.now c.args.group q c.reserve.new.self.spare) (c.reserve.ensures.entries ∙ sym (ap (λ (s : StreamView g.row.R.Denot). s.queue) o.0))
-    ∙ ap (λ (s : StreamView g.row.R.Denot). with_queue c.args.self.now c.args.group (stream_at c.args.self.now c.args.group).queue s.room) (sym o.1)
-
-pub returns-clause-room : goal.returns-clause-room
-returns-clause-room g c =
-    let o = queue_changed _ c.self.inside.first_head c.self.inside.streams.items _ c.args.self.now c.self.view_is c.args.group c.requires.group c.reserve.new.self c.index_mut.result.now c.index_mut.ensures.value in
-    subst (λ (s : StreamView g.row.R.Denot). OnOk c.reserve.result (can_enter c.args.members ≤ s.room)) (sym o.1) c.reserve.ensures.room
+    record {
+      room = subst (λ (s : StreamView g.row.R.Denot). OnOk c.reserve.result (can_enter c.args.members ≤ s.room)) (sym o.1) c.reserve.ensures.room;
+      changed =
+          o.2
+          ∙ ap (λ q. with_queue c.args.self.now c.args.group q c.reserve.new.self.spare) (c.reserve.ensures.entries ∙ sym (ap (λ (s : StreamView g.row.R.Denot). s.queue) o.0))
+          ∙ ap (λ (s : StreamView g.row.R.Denot). with_queue c.args.self.now c.args.group (stream_at c.args.self.now c.args.group).queue s.room) (sym o.1);
+    }

@@ -8,9 +8,6 @@ use Rattle.suffix_streams.specs.ProductView.{ProductView, with_rank}
 use Rattle.suffix_streams.proofs.NodeFacts.{product_changed}
 use Rattle.suffix_streams.proofs.node.NodeStreams.step_product.Goals as goal
 
-pub product_mut-product-requires : goal.product_mut-product-requires
-product_mut-product-requires g c = subst (λ n. c.args.child < length (slice_index_or n.products c.args.row [])) (sym c.self.view_is) c.requires.child
-
 pub step-requires-clause-top : goal.step-requires-clause-top
 step-requires-clause-top g c =
     let same = c.product_mut-product.ensures.value (record { found = []; ranks = []; frontier = []; room = 0; frontier_room = 0 }) ∙ ap (λ n. product_at n c.args.row c.args.child) c.self.view_is in
@@ -26,55 +23,29 @@ step-requires-clause-room g c =
     let same = c.product_mut-product.ensures.value (record { found = []; ranks = []; frontier = []; room = 0; frontier_room = 0 }) ∙ ap (λ n. product_at n c.args.row c.args.child) c.self.view_is in
     subst (λ (p : ProductView g.row.R.Denot). 0 < p.room) (sym same) c.requires.room
 
-pub returns-clause-changed : goal.returns-clause-changed
-returns-clause-changed g c =
-    let o = product_changed c.self.inside.children.items _ _ c.args.self.now c.args.row c.args.child c.step.new.self c.self.view_is c.requires.child in
-    o.1 ∙ ap (λ (p : ProductView g.row.R.Denot). with_product c.args.self.now c.args.row c.args.child p) (sym o.0)
-
-pub returns-clause-moved : goal.returns-clause-moved
-returns-clause-moved g c d =
+pub returns : goal.returns
+returns g c =
     let o = product_changed c.self.inside.children.items _ _ c.args.self.now c.args.row c.args.child c.step.new.self c.self.view_is c.requires.child in
     let same = c.product_mut-product.ensures.value (record { found = []; ranks = []; frontier = []; room = 0; frontier_room = 0 }) ∙ ap (λ n. product_at n c.args.row c.args.child) c.self.view_is in
-    subst (λ (p : ProductView g.row.R.Denot). IsPermutation (offers c.args.down c.args.across (product_at c.args.self.now c.args.row c.args.child).frontier) (slice_index_or (product_at c.args.self.now c.args.row c.args.child).frontier 0 d ∷ p.frontier)) (sym o.0)
-    (subst (λ (p : ProductView g.row.R.Denot). IsPermutation (offers c.args.down c.args.across p.frontier) (slice_index_or p.frontier 0 d ∷ c.step.new.self.frontier)) same (c.step.ensures.moved d))
-
-pub returns-clause-least : goal.returns-clause-least
-returns-clause-least g c d =
-    let same = c.product_mut-product.ensures.value (record { found = []; ranks = []; frontier = []; room = 0; frontier_room = 0 }) ∙ ap (λ n. product_at n c.args.row c.args.child) c.self.view_is in
-    subst (λ z. IsLeast g.R.Rank.KEYS g.R.Rank.key (slice_index_or z.frontier 0 d) z.frontier) same (c.step.ensures.least d)
-
-pub returns-clause-limit : goal.returns-clause-limit
-returns-clause-limit g c =
-    let o = product_changed c.self.inside.children.items _ _ c.args.self.now c.args.row c.args.child c.step.new.self c.self.view_is c.requires.child in
-    subst (λ (p : ProductView g.row.R.Denot). length p.frontier < 2 ^ 64) (sym o.0) c.step.ensures.limit
-
-pub returns-clause-ended : goal.returns-clause-ended
-returns-clause-ended g c =
-    let o = product_changed c.self.inside.children.items _ _ c.args.self.now c.args.row c.args.child c.step.new.self c.self.view_is c.requires.child in
-    let same = c.product_mut-product.ensures.value (record { found = []; ranks = []; frontier = []; room = 0; frontier_room = 0 }) ∙ ap (λ n. product_at n c.args.row c.args.child) c.self.view_is in
-    subst (λ (p : ProductView g.row.R.Denot). length p.frontier ≡ 0 → (p.found ≡ (product_at c.args.self.now c.args.row c.args.child).found) × (p.ranks ≡ (product_at c.args.self.now c.args.row c.args.child).ranks)) (sym o.0)
-    (subst (λ (p : ProductView g.row.R.Denot). length c.step.new.self.frontier ≡ 0 → (c.step.new.self.found ≡ p.found) × (c.step.new.self.ranks ≡ p.ranks)) same c.step.ensures.ended)
-
-pub returns-clause-found : goal.returns-clause-found
-returns-clause-found g c d =
-    let o = product_changed c.self.inside.children.items _ _ c.args.self.now c.args.row c.args.child c.step.new.self c.self.view_is c.requires.child in
-    let same = c.product_mut-product.ensures.value (record { found = []; ranks = []; frontier = []; room = 0; frontier_room = 0 }) ∙ ap (λ n. product_at n c.args.row c.args.child) c.self.view_is in
-    subst (λ (p : ProductView g.row.R.Denot). 0 < length p.frontier → p.found ≡ (product_at c.args.self.now c.args.row c.args.child).found ++ (slice_index_or p.frontier 0 d).tag ∷ []) (sym o.0)
-    (subst (λ (p : ProductView g.row.R.Denot). 0 < length c.step.new.self.frontier → c.step.new.self.found ≡ p.found ++ (slice_index_or c.step.new.self.frontier 0 d).tag ∷ []) same (c.step.ensures.found d))
-
-pub returns-clause-ranks : goal.returns-clause-ranks
-returns-clause-ranks g c d =
-    let o = product_changed c.self.inside.children.items _ _ c.args.self.now c.args.row c.args.child c.step.new.self c.self.view_is c.requires.child in
-    let same = c.product_mut-product.ensures.value (record { found = []; ranks = []; frontier = []; room = 0; frontier_room = 0 }) ∙ ap (λ n. product_at n c.args.row c.args.child) c.self.view_is in
-    subst (λ (p : ProductView g.row.R.Denot). 0 < length p.frontier → p.ranks ≡ with_rank (product_at c.args.self.now c.args.row c.args.child).ranks (slice_index_or p.frontier 0 d).rank) (sym o.0)
-    (subst (λ (p : ProductView g.row.R.Denot). 0 < length c.step.new.self.frontier → c.step.new.self.ranks ≡ with_rank p.ranks (slice_index_or c.step.new.self.frontier 0 d).rank) same (c.step.ensures.ranks d))
-
-pub returns-clause-next : goal.returns-clause-next
-returns-clause-next g c d =
-    let o = product_changed c.self.inside.children.items _ _ c.args.self.now c.args.row c.args.child c.step.new.self c.self.view_is c.requires.child in
-    subst (λ (p : ProductView g.row.R.Denot). 0 < length p.frontier → IsLeast g.R.Rank.KEYS g.R.Rank.key (slice_index_or p.frontier 0 d) p.frontier) (sym o.0) (c.step.ensures.next d)
-
-pub returns-clause-cost : goal.returns-clause-cost
-returns-clause-cost g c =
-    let same = c.product_mut-product.ensures.value (record { found = []; ranks = []; frontier = []; room = 0; frontier_room = 0 }) ∙ ap (λ n. product_at n c.args.row c.args.child) c.self.view_is in
-    omega (arith, c.step.ensures.cost, ap (λ (p : ProductView g.row.R.Denot). bit_length (length p.frontier)) same, ap (λ (p : ProductView g.row.R.Denot). bit_length (length p.frontier + 1)) same)
+    record {
+      found =
+          λ d.
+          subst (λ (p : ProductView g.row.R.Denot). 0 < length p.frontier → p.found ≡ (product_at c.args.self.now c.args.row c.args.child).found ++ (slice_index_or p.frontier 0 d).tag ∷ []) (sym o.0)
+          (subst (λ (p : ProductView g.row.R.Denot). 0 < length c.step.new.self.frontier → c.step.new.self.found ≡ p.found ++ (slice_index_or c.step.new.self.frontier 0 d).tag ∷ []) same (c.step.ensures.found d));
+      limit = subst (λ (p : ProductView g.row.R.Denot). length p.frontier < 2 ^ 64) (sym o.0) c.step.ensures.limit;
+      ranks =
+          λ d.
+          subst (λ (p : ProductView g.row.R.Denot). 0 < length p.frontier → p.ranks ≡ with_rank (product_at c.args.self.now c.args.row c.args.child).ranks (slice_index_or p.frontier 0 d).rank) (sym o.0)
+          (subst (λ (p : ProductView g.row.R.Denot). 0 < length c.step.new.self.frontier → c.step.new.self.ranks ≡ with_rank p.ranks (slice_index_or c.step.new.self.frontier 0 d).rank) same (c.step.ensures.ranks d));
+      moved =
+          λ d.
+          subst (λ (p : ProductView g.row.R.Denot). IsPermutation (offers c.args.down c.args.across (product_at c.args.self.now c.args.row c.args.child).frontier) (slice_index_or (product_at c.args.self.now c.args.row c.args.child).frontier 0 d ∷ p.frontier)) (sym o.0)
+          (subst (λ (p : ProductView g.row.R.Denot). IsPermutation (offers c.args.down c.args.across p.frontier) (slice_index_or p.frontier 0 d ∷ c.step.new.self.frontier)) same (c.step.ensures.moved d));
+      cost = omega (arith, c.step.ensures.cost, ap (λ (p : ProductView g.row.R.Denot). bit_length (length p.frontier)) same, ap (λ (p : ProductView g.row.R.Denot). bit_length (length p.frontier + 1)) same);
+      ended =
+          subst (λ (p : ProductView g.row.R.Denot). length p.frontier ≡ 0 → (p.found ≡ (product_at c.args.self.now c.args.row c.args.child).found) × (p.ranks ≡ (product_at c.args.self.now c.args.row c.args.child).ranks)) (sym o.0)
+          (subst (λ (p : ProductView g.row.R.Denot). length c.step.new.self.frontier ≡ 0 → (c.step.new.self.found ≡ p.found) × (c.step.new.self.ranks ≡ p.ranks)) same c.step.ensures.ended);
+      changed = o.1 ∙ ap (λ (p : ProductView g.row.R.Denot). with_product c.args.self.now c.args.row c.args.child p) (sym o.0);
+      least = λ d. subst (λ z. IsLeast g.R.Rank.KEYS g.R.Rank.key (slice_index_or z.frontier 0 d) z.frontier) same (c.step.ensures.least d);
+      next = λ d. subst (λ (p : ProductView g.row.R.Denot). 0 < length p.frontier → IsLeast g.R.Rank.KEYS g.R.Rank.key (slice_index_or p.frontier 0 d) p.frontier) (sym o.0) (c.step.ensures.next d);
+    }

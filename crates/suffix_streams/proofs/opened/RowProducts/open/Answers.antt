@@ -47,8 +47,5 @@ returns-in_err-make_chunk-clause-refused g c =
     on_err c.from_residual.result
     (view_kept c.args.self.now c.self.inside.width _ _ c.self.view_is (same_rows c.self.inside.width c.self.inside.count c.self.inside.chunks.items c.make_chunk.new.chunks.items c.self.inside.opened.items c.make_chunk.ensures.same ∙ ap (λ z. z.rows) c.self.view_is))
 
-pub index_mut-requires : goal.index_mut-requires
-index_mut-requires g c = omega (arith, c.in_ok-make_chunk.ensures.there, c.make_chunk.new.chunks.ok.0)
-
 pub index_mut-requires-2 : goal.index_mut-requires-2
 index_mut-requires-2 g c = omega (arith, c.requires.row, ap (λ z. length z.rows) c.self.view_is, map_length (list_numbered c.self.inside.width (map (λ l. l.items) c.self.inside.chunks.items)) c.self.inside.opened.items, c.self.inside.opened.ok.0)

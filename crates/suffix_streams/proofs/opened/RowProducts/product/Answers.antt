@@ -1,25 +1,13 @@
-use Rattle.std.proofs.Common.{◌≡◌, ℕ, ◌<◌, ◌≤◌, ◌+◌, ◌-◌, ◌*◌, ◌%◌, ap, ◌∙◌, [], length, get_or, refl, sym, subst, arith}
+use Rattle.std.proofs.Common.{ℕ, ◌<◌, ◌≤◌, ◌+◌, ◌-◌, ◌*◌, ◌%◌, ap, ◌∙◌, arith}
 use Rattle.suffix_streams.proofs.Stores.{any_default}
-use Rattle.suffix_streams.specs.OpenedRows.{list_numbered}
-use Rattle.suffix_streams.proofs.OpenedRows.{items_of, row_opened, number_some, chunk_in, place_fits, place_in, product_read}
+use Rattle.suffix_streams.proofs.OpenedRows.{number_some, place_fits, place_in, product_read}
 use Rattle.suffix_streams.proofs.opened.RowProducts.product.Goals as goal
-
-in_same : (v n m : ℕ) → v < n → m ≡ n → v < m
-in_same v n m l e = omega arith
 
 one_within : (n : ℕ) → 0 < n → 1 ≤ n
 one_within n h = omega arith
 
-pub index-requires : goal.index-requires
-index-requires g c =
-    let some = subst (λ z. c.args.child < length (get_or z c.args.row [])) (sym (ap (λ z. z.rows) c.self.view_is)) c.requires in
-    in_same _ _ _ (row_opened (list_numbered c.self.inside.width (items_of c.self.inside.chunks.items)) refl c.self.inside.opened.items c.args.row c.args.child some).0 c.self.inside.opened.ok.0
-
 pub overflow_sub-list : goal.overflow_sub-list
 overflow_sub-list g c = one_within _ (number_some c.self.inside.width c.self.inside.count c.self.inside.chunks.items c.self.inside.opened.items c.self.invariant.0 c.self.invariant.1 c.args.self.now.rows (ap (λ z. z.rows) c.self.view_is) c.args.row c.args.child c.index.result.now c.index.ensures c.requires)
-
-pub index-requires-2 : goal.index-requires-2
-index-requires-2 g c = in_same _ _ _ (chunk_in c.self.inside.width c.self.inside.count c.self.inside.chunks.items c.self.inside.opened.items c.self.invariant.0 c.self.invariant.1 c.args.self.now.rows (ap (λ z. z.rows) c.self.view_is) c.args.row c.args.child c.index.result.now c.index.ensures c.requires) c.self.inside.chunks.ok.0
 
 pub overflow_mul-place : goal.overflow_mul-place
 overflow_mul-place g c =

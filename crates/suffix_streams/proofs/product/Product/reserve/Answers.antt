@@ -14,62 +14,42 @@ some_left n h = omega arith
 few_left : {n : ℕ} {before after : List Cell} → n ≡ length before → n < 2 ^ 32 - 1 → after ≡ before → length after < 2 ^ 32 - 1
 few_left e few same = subst (λ (l : List Cell). length l < 2 ^ 32 - 1) (sym same) (subst (λ k. k < 2 ^ 32 - 1) e few)
 
-pub returns-in_err-reserve-clause-found : goal.returns-in_err-reserve-clause-found
-returns-in_err-reserve-clause-found g c = c.reserve.ensures.cells ∙ ap (λ (p : ProductView g.row.R.Denot). p.found) c.self.view_is
+pub returns-in_err-reserve : goal.returns-in_err-reserve
+returns-in_err-reserve g c =
+    record {
+      frontier = ap (λ (p : ProductView g.row.R.Denot). p.frontier) c.self.view_is;
+      room = none_done _ c.from_residual.result c.from_residual.ensures.0;
+      ranks = c.reserve.ensures.ranks ∙ ap (λ (p : ProductView g.row.R.Denot). p.ranks) c.self.view_is;
+      frontier_room = none_done _ c.from_residual.result c.from_residual.ensures.0;
+      found = c.reserve.ensures.cells ∙ ap (λ (p : ProductView g.row.R.Denot). p.found) c.self.view_is;
+    }
 
-pub returns-in_err-reserve-clause-ranks : goal.returns-in_err-reserve-clause-ranks
-returns-in_err-reserve-clause-ranks g c = c.reserve.ensures.ranks ∙ ap (λ (p : ProductView g.row.R.Denot). p.ranks) c.self.view_is
+pub returns-in_err-reserve-2 : goal.returns-in_err-reserve-2
+returns-in_err-reserve-2 g c =
+    record {
+      frontier = c.reserve-then-beside.ensures.entries ∙ ap (λ (p : ProductView g.row.R.Denot). p.frontier) c.self.view_is;
+      frontier_room = none_done _ c.from_residual-in_err-reserve-2.result c.from_residual-in_err-reserve-2.ensures.0;
+      ranks = c.reserve.ensures.ranks ∙ ap (λ (p : ProductView g.row.R.Denot). p.ranks) c.self.view_is;
+      found = c.reserve.ensures.cells ∙ ap (λ (p : ProductView g.row.R.Denot). p.found) c.self.view_is;
+      room = none_done _ c.from_residual-in_err-reserve-2.result c.from_residual-in_err-reserve-2.ensures.0;
+    }
 
-pub returns-in_err-reserve-clause-frontier : goal.returns-in_err-reserve-clause-frontier
-returns-in_err-reserve-clause-frontier g c = ap (λ (p : ProductView g.row.R.Denot). p.frontier) c.self.view_is
+pub returns-in_ok-reserve-2 : goal.returns-in_ok-reserve-2
+returns-in_ok-reserve-2 g c =
+    record {
+      frontier = c.reserve-then-beside.ensures.entries ∙ ap (λ (p : ProductView g.row.R.Denot). p.frontier) c.self.view_is;
+      ranks = c.reserve.ensures.ranks ∙ ap (λ (p : ProductView g.row.R.Denot). p.ranks) c.self.view_is;
+      room = room_left _ _ c.in_ok-reserve.ensures.spare (few_left c.len.ensures c.if-len.false c.reserve.ensures.cells);
+      frontier_room = λ b. some_left _ c.in_ok-reserve-2.ensures.ok;
+      found = c.reserve.ensures.cells ∙ ap (λ (p : ProductView g.row.R.Denot). p.found) c.self.view_is;
+    }
 
-pub returns-in_err-reserve-2-clause-found : goal.returns-in_err-reserve-2-clause-found
-returns-in_err-reserve-2-clause-found g c = c.reserve.ensures.cells ∙ ap (λ (p : ProductView g.row.R.Denot). p.found) c.self.view_is
-
-pub returns-in_err-reserve-2-clause-ranks : goal.returns-in_err-reserve-2-clause-ranks
-returns-in_err-reserve-2-clause-ranks g c = c.reserve.ensures.ranks ∙ ap (λ (p : ProductView g.row.R.Denot). p.ranks) c.self.view_is
-
-pub returns-in_err-reserve-2-clause-frontier : goal.returns-in_err-reserve-2-clause-frontier
-returns-in_err-reserve-2-clause-frontier g c = c.reserve-then-beside.ensures.entries ∙ ap (λ (p : ProductView g.row.R.Denot). p.frontier) c.self.view_is
-
-pub returns-in_err-reserve-clause-room : goal.returns-in_err-reserve-clause-room
-returns-in_err-reserve-clause-room g c = none_done _ c.from_residual.result c.from_residual.ensures.0
-
-pub returns-in_err-reserve-clause-frontier_room : goal.returns-in_err-reserve-clause-frontier_room
-returns-in_err-reserve-clause-frontier_room g c = none_done _ c.from_residual.result c.from_residual.ensures.0
-
-pub returns-in_err-reserve-2-clause-room : goal.returns-in_err-reserve-2-clause-room
-returns-in_err-reserve-2-clause-room g c = none_done _ c.from_residual-in_err-reserve-2.result c.from_residual-in_err-reserve-2.ensures.0
-
-pub returns-in_err-reserve-2-clause-frontier_room : goal.returns-in_err-reserve-2-clause-frontier_room
-returns-in_err-reserve-2-clause-frontier_room g c = none_done _ c.from_residual-in_err-reserve-2.result c.from_residual-in_err-reserve-2.ensures.0
-
-pub returns-in_ok-reserve-2-clause-found : goal.returns-in_ok-reserve-2-clause-found
-returns-in_ok-reserve-2-clause-found g c = c.reserve.ensures.cells ∙ ap (λ (p : ProductView g.row.R.Denot). p.found) c.self.view_is
-
-pub returns-in_ok-reserve-2-clause-ranks : goal.returns-in_ok-reserve-2-clause-ranks
-returns-in_ok-reserve-2-clause-ranks g c = c.reserve.ensures.ranks ∙ ap (λ (p : ProductView g.row.R.Denot). p.ranks) c.self.view_is
-
-pub returns-in_ok-reserve-2-clause-frontier : goal.returns-in_ok-reserve-2-clause-frontier
-returns-in_ok-reserve-2-clause-frontier g c = c.reserve-then-beside.ensures.entries ∙ ap (λ (p : ProductView g.row.R.Denot). p.frontier) c.self.view_is
-
-pub returns-in_ok-reserve-2-clause-room : goal.returns-in_ok-reserve-2-clause-room
-returns-in_ok-reserve-2-clause-room g c = room_left _ _ c.in_ok-reserve.ensures.spare (few_left c.len.ensures c.if-len.false c.reserve.ensures.cells)
-
-pub returns-in_ok-reserve-2-clause-frontier_room : goal.returns-in_ok-reserve-2-clause-frontier_room
-returns-in_ok-reserve-2-clause-frontier_room g c b = some_left _ c.in_ok-reserve-2.ensures.ok
-
-pub returns-else-beside-clause-found : goal.returns-else-beside-clause-found
-returns-else-beside-clause-found g c = c.reserve.ensures.cells ∙ ap (λ (p : ProductView g.row.R.Denot). p.found) c.self.view_is
-
-pub returns-else-beside-clause-ranks : goal.returns-else-beside-clause-ranks
-returns-else-beside-clause-ranks g c = c.reserve.ensures.ranks ∙ ap (λ (p : ProductView g.row.R.Denot). p.ranks) c.self.view_is
-
-pub returns-else-beside-clause-frontier : goal.returns-else-beside-clause-frontier
-returns-else-beside-clause-frontier g c = ap (λ (p : ProductView g.row.R.Denot). p.frontier) c.self.view_is
-
-pub returns-else-beside-clause-room : goal.returns-else-beside-clause-room
-returns-else-beside-clause-room g c = room_left _ _ c.in_ok-reserve.ensures.spare (few_left c.len.ensures c.if-len.false c.reserve.ensures.cells)
-
-pub returns-else-beside-clause-frontier_room : goal.returns-else-beside-clause-frontier_room
-returns-else-beside-clause-frontier_room g c b = absurd (false≢true (sym c.if-beside.false ∙ b))
+pub returns-else-beside : goal.returns-else-beside
+returns-else-beside g c =
+    record {
+      frontier_room = λ b. absurd (false≢true (sym c.if-beside.false ∙ b));
+      room = room_left _ _ c.in_ok-reserve.ensures.spare (few_left c.len.ensures c.if-len.false c.reserve.ensures.cells);
+      frontier = ap (λ (p : ProductView g.row.R.Denot). p.frontier) c.self.view_is;
+      found = c.reserve.ensures.cells ∙ ap (λ (p : ProductView g.row.R.Denot). p.found) c.self.view_is;
+      ranks = c.reserve.ensures.ranks ∙ ap (λ (p : ProductView g.row.R.Denot). p.ranks) c.self.view_is;
+    }

@@ -1,13 +1,16 @@
-use Rattle.std.proofs.Common.{◌≡◌, ◌≢◌, ◌↔◌, ◌⊎◌, IsTrue, ℕ, suc, ◌+◌, ◌-◌, ◌*◌, ◌<◌, ◌≤◌, max, Fits, w64, Some, None, is_some, OnOk, List, [], length, get_or, slice_index, refl, sym, ap, ◌∙◌, subst, inl, inr, arith}
+use Rattle.std.proofs.Common.{◌≡◌, ◌≢◌, ◌↔◌, ◌⊎◌, IsTrue, ℕ, suc, ◌+◌, ◌-◌, ◌*◌, ◌<◌, ◌≤◌, max, Some, None, is_some, OnOk, List, [], length, get_or, slice_index, refl, sym, ap, ◌∙◌, subst, inl, inr, arith}
 use Rattle.stream_store.specs.declared.entry.Linked.{Linked}
+use Rattle.take2_heap.specs.declared.entry.Entry.{Entry}
+use Rattle.stream_cells.specs.declared.source.Source.{Source}
 use Rattle.rank_key.specs.Bits.{bit_length}
 use Rattle.tdp_core.specs.TreeView.{NodeView, parent, rows, number, members, child_count, group_named}
 use Rattle.tdp_core.specs.WellFormed.{IsTieFreeTree}
 use Rattle.tdp_core.proofs.Children.{kids_below_most}
 use Rattle.suffix_streams.specs.declared.stream.Found.{Found}
 use Rattle.suffix_streams.specs.ProductView.{ProductView}
+use Rattle.suffix_streams.specs.ProductTops.{IsProductTop}
 use Rattle.suffix_streams.specs.StreamView.{StreamView}
-use Rattle.suffix_streams.specs.NodeStreamsView.{NodeStreamsView, HasHead, product_at, stream_at, known_of}
+use Rattle.suffix_streams.specs.NodeStreamsView.{HasHead, product_at, known_of}
 use Rattle.suffix_streams.specs.Firsts.{can_enter}
 use Rattle.suffix_streams.specs.Rankings.{child}
 use Rattle.suffix_streams.specs.TreeStreams.{group_of, next_of, node_of, stream_of, part_known, row_known, lists_of, IsStreams}
@@ -21,16 +24,13 @@ use Rattle.suffix_streams.proofs.RowSearch.{IsRoomMade, IsChildAsked, IsLeftSear
 use Rattle.suffix_streams.proofs.Errors.{none_given, none_done}
 use Rattle.suffix_streams.proofs.SearchCosts.{none_within}
 use Rattle.suffix_streams.proofs.SearchRoom.{unstepped_on}
-use Rattle.suffix_streams.proofs.SearchSteps.{searched, left_or_none, all_or_none, left_reached, left_within, none_within_known, count_few}
+use Rattle.suffix_streams.proofs.SearchSteps.{searched, left_or_none, all_or_none, left_reached, left_few, left_within, count_few}
 use Rattle.suffix_streams.proofs.SearchCalls.{on_ok, on_err, not_some, next_is, opened_grown}
 use Rattle.suffix_streams.proofs.solutions.Solutions.+growth.Given.{Over}
-use Rattle.suffix_streams.proofs.solutions.Solutions.+growth.Goals.{after-After-extend, after-After-get-found, after-After-open_row, after-After-child_count-count, after-In-Some-top, search-After-after, search-After-extend, search-After-make_room, extend-then-place-known-via-then-place-known, extend-then-place-known-via-else-place-known+then-count-eq0}
+use Rattle.suffix_streams.proofs.solutions.Solutions.+growth.Goals.{after-After-extend, after-After-get-found, after-After-open_row, after-After-place_after-count, after-In-Some-top, search-After-after, search-After-extend, search-After-make_room, extend-then-place-known-via-then-place-known, extend-then-place-known-via-else-place-known+then-count-eq0}
 use Rattle.suffix_streams.proofs.solutions.Solutions.+growth.Goals as goal
 
 -- # Numbers
-
-node_fits : (v n : ℕ) → v < n → n ≤ 16 → Fits w64 v
-node_fits v n l few = omega arith
 
 in_same : (v n m : ℕ) → v < n → m ≡ n → v < m
 in_same v n m l e = omega arith
@@ -47,8 +47,8 @@ none_before p q one e = omega arith
 at_below : (v p n : ℕ) → p < n → v ≡ p → v ≤ n
 at_below v p n l e = omega arith
 
-none_few : (v n : ℕ) → v ≡ 0 → v ≤ n
-none_few v n e = omega arith
+few_below : (v u n : ℕ) → v ≤ u → u < n → v ≤ n
+few_below v u n few l = omega arith
 
 some_is : (n : ℕ) → n ≢ 0 → 0 < n
 some_is n h = omega arith
@@ -78,6 +78,9 @@ below_next v u e = omega arith
 child_in : (v u n m : ℕ) → v ≡ u → u < n → m ≡ n → v < m
 child_in v u n m e l same = omega arith
 
+all_found : (found whole known : ℕ) → found ≡ whole → found ≡ known → whole ≤ known
+all_found found whole known e is = omega arith
+
 queue_itself : (n more : ℕ) → n ≤ max 1 n + more
 queue_itself n more = omega arith
 
@@ -105,6 +108,25 @@ later_steps s n b = omega arith
 fewer_digits : (s n b b' : ℕ) → s ≤ n + 4 * b → b ≤ b' → s ≤ n + 4 * b'
 fewer_digits s n b b' h l = omega arith
 
+-- # What gets smaller with each call
+
+-- few nodes have fewer children
+kids_few : (count kids n most : ℕ) → count ≡ kids → kids ≤ n → n ≤ most → count ≤ most
+kids_few count kids n most e h few = omega arith
+
+-- a search in a row with all its children, for the entry after one
+row_smaller : (t n n' v w count : ℕ) → 64 * (n - w) + 63 ≡ t → w ≡ v → n' ≡ n → v < n → count ≤ 16 → 64 * (n' - v) + 2 * count + 1 < t
+row_smaller t n n' v w count h e same l few = omega arith
+
+search_smaller : (t n v count : ℕ) → 64 * (n - v) + 2 * count + 1 ≡ t → 64 * (n - v) + 2 * count < t
+search_smaller t n v count h = omega arith
+
+child_smaller : (t n v u w count : ℕ) → 64 * (n - v) + 2 * count ≡ t → w ≡ u → v < u → u < n → 64 * (n - w) + 63 < t
+child_smaller t n v u w count h e below within = omega arith
+
+left_smaller : (t n n' v count k : ℕ) → 64 * (n - v) + 2 * count ≡ t → suc (count - 1) ≡ count → n' ≡ n → k ≤ count - 1 → 64 * (n' - v) + 2 * k + 1 < t
+left_smaller t n n' v count k h last same few = omega arith
+
 -- # What the proofs share about a call for the next entry
 
 module _ (g : Over) (t : ℕ) where
@@ -112,18 +134,18 @@ module _ (g : Over) (t : ℕ) where
   entry_owned c = owned g.R.Rank.KEYS g.R.Rank.key c.args.self.now.tree.now c.args.self.now.entries.entries c.args.self.now.nodes.items c.args.entry c.get-found.result.now c.requires.formed c.requires.entry c.get-found.ensures.value
 
   top_of : (c : after-In-Some-top g t) → IsOwned g.R.Rank.KEYS g.R.Rank.key c.args.self.now.tree.now c.args.self.now.entries.entries c.args.self.now.nodes.items c.args.entry c.get-found.result.now → IsTopRead c.args.self.now.tree.now c.args.self.now.nodes.items c.get-found.result.now c.in-Some-top.top
-  top_of c o = top_read o c.index.result.now c.in-Some-top.top c.index.ensures (c.top.ensures.variant.0 (ap is_some c.in-Some-top.is)) (c.in-Some-top.ensures.top c.in-Some-top.top)
+  top_of c o = top_read o c.in-Some-top.top (c.top.ensures.variant.0 (ap is_some c.in-Some-top.is)) (c.in-Some-top.ensures.top c.in-Some-top.top)
 
   row_of : (c : after-After-open_row g t) → IsOwned g.R.Rank.KEYS g.R.Rank.key c.args.self.now.tree.now c.args.self.now.entries.entries c.args.self.now.nodes.items c.args.entry c.get-found.result.now → IsTopRead c.args.self.now.tree.now c.args.self.now.nodes.items c.get-found.result.now c.in-Some-top.top → IsRowOpen g.R.Rank.KEYS g.R.Rank.key c.args.self.now.tree.now c.args.self.now.entries.entries c.args.self.now.nodes.items c.open_row.new.self.nodes.items c.get-found.result.now c.in-Some-top.top c.in-Some-top.top.tag.row c.args.steps.now c.open_row.new.steps
   row_of c o p =
       row_open o p c.open_row.new.self.tree.now c.open_row.new.self.entries.entries c.open_row.new.self.nodes.items c.in-Some-top.top.tag.row c.args.steps.now c.open_row.new.steps p.row c.open_row.ensures.tree (ap (λ z. z.entries) c.open_row.ensures.entries) c.open_row.ensures.formed c.open_row.ensures.above c.open_row.ensures.streams c.open_row.ensures.queues (opened_steps _ _ _ _ _ c.next_of.ensures.cost c.get-found.ensures.cost c.open_row.ensures.cost)
 
-  counted_of : (c : after-After-child_count-count g t) → IsOwned g.R.Rank.KEYS g.R.Rank.key c.args.self.now.tree.now c.args.self.now.entries.entries c.args.self.now.nodes.items c.args.entry c.get-found.result.now → IsRowOpen g.R.Rank.KEYS g.R.Rank.key c.args.self.now.tree.now c.args.self.now.entries.entries c.args.self.now.nodes.items c.open_row.new.self.nodes.items c.get-found.result.now c.in-Some-top.top c.in-Some-top.top.tag.row c.args.steps.now c.open_row.new.steps → IsRowCounted c.args.self.now.tree.now c.open_row.new.self.nodes.items c.get-found.result.now c.in-Some-top.top c.in-Some-top.top.tag.row c.child_count-count.result
-  counted_of c o a = row_counted o a c.index-2.result.now c.child_count-count.result c.index-2.ensures c.child_count-count.ensures c.in_ok-open_row.ensures.count
+  counted_of : (c : after-After-place_after-count g t) → IsOwned g.R.Rank.KEYS g.R.Rank.key c.args.self.now.tree.now c.args.self.now.entries.entries c.args.self.now.nodes.items c.args.entry c.get-found.result.now → IsRowOpen g.R.Rank.KEYS g.R.Rank.key c.args.self.now.tree.now c.args.self.now.entries.entries c.args.self.now.nodes.items c.open_row.new.self.nodes.items c.get-found.result.now c.in-Some-top.top c.in-Some-top.top.tag.row c.args.steps.now c.open_row.new.steps → IsRowCounted c.args.self.now.tree.now c.open_row.new.self.nodes.items c.get-found.result.now c.in-Some-top.top c.in-Some-top.top.tag.row c.place_after-count.result.0
+  counted_of c o a = row_counted o a c.place_after-count.result.0 c.place_after-count.ensures.count c.in_ok-open_row.ensures.count
 
-  search_of : (c : after-After-extend g t) → IsRowSearched g.R.Rank.KEYS g.R.Rank.key c.args.self.now.tree.now c.args.self.now.entries.entries c.extend.new.self.entries.entries c.open_row.new.self.nodes.items c.extend.new.self.nodes.items c.get-found.result.now.node c.in-Some-top.top.tag.row c.child_count-count.result c.open_row.new.steps c.extend.new.steps
+  search_of : (c : after-After-extend g t) → IsRowSearched g.R.Rank.KEYS g.R.Rank.key c.args.self.now.tree.now c.args.self.now.entries.entries c.extend.new.self.entries.entries c.open_row.new.self.nodes.items c.extend.new.self.nodes.items c.get-found.result.now.node c.in-Some-top.top.tag.row c.place_after-count.result.0 c.open_row.new.steps c.extend.new.steps
   search_of c =
-      row_searched g.R.Rank.KEYS g.R.Rank.key c.args.self.now.tree.now c.open_row.new.self.tree.now c.extend.new.self.tree.now c.args.self.now.entries.entries c.open_row.new.self.entries.entries c.extend.new.self.entries.entries c.open_row.new.self.nodes.items c.extend.new.self.nodes.items c.get-found.result.now.node c.in-Some-top.top.tag.row c.child_count-count.result c.open_row.new.steps c.extend.new.steps c.open_row.ensures.tree (ap (λ z. z.entries) c.open_row.ensures.entries) c.extend.ensures.tree c.extend.ensures.formed c.extend.ensures.extended c.extend.ensures.queues c.extend.ensures.cost
+      row_searched g.R.Rank.KEYS g.R.Rank.key c.args.self.now.tree.now c.open_row.new.self.tree.now c.extend.new.self.tree.now c.args.self.now.entries.entries c.open_row.new.self.entries.entries c.extend.new.self.entries.entries c.open_row.new.self.nodes.items c.extend.new.self.nodes.items c.get-found.result.now.node c.in-Some-top.top.tag.row c.place_after-count.result.0 c.open_row.new.steps c.extend.new.steps c.open_row.ensures.tree (ap (λ z. z.entries) c.open_row.ensures.entries) c.extend.ensures.tree c.extend.ensures.formed c.extend.ensures.extended c.extend.ensures.queues c.extend.ensures.cost
 
   -- # What they share about a search in a row
 
@@ -142,67 +164,17 @@ module _ (g : Over) (t : ℕ) where
       let kids : c.args.count ≤ child_count c.args.self.now.tree.now c.args.node = count_few g.R.Rank.KEYS g.R.Rank.key c.args.self.now.tree.now c.args.self.now.entries.entries c.args.self.now.nodes.items c.requires.formed c.args.node c.args.row c.args.count c.requires.node c.requires.row c.requires.count in
       left_searched a b (searched g.R.Rank.KEYS g.R.Rank.key c.args.self.now.tree.now c.after.new.self.tree.now c.args.node c.args.row (c.args.count - 1) c.after.new.self.entries.entries c.after.new.self.nodes.items c.extend.new.self.tree.now c.extend.new.self.entries.entries c.extend.new.self.nodes.items c.left_search-earlier.result.0 c.after.new.steps c.extend.new.steps c.after.ensures.tree c.extend.ensures.tree (omega (arith, kids)) (all_or_none c.left_search-earlier.result.0 (c.args.count - 1) c.left_search-earlier.result.1 (c.in-Some.top.tag.left + 1) (left_is c)) c.extend.ensures.formed c.extend.ensures.extended c.extend.ensures.queues c.extend.ensures.cost)
 
-pub after-returns-in-Some-clause-answer : goal.after-returns-in-Some-clause-answer
-after-returns-in-Some-clause-answer g t c =
-    next_is c.args.self.now.entries.entries c.args.entry (Some c.in-Some.next) c.requires.entry (λ x. c.next_of.ensures.next x ∙ c.in-Some.is)
-
-pub after-next_of-requires : goal.after-next_of-requires
-after-next_of-requires g t c = c.requires.entry
-
-pub after-get-found-requires : goal.after-get-found-requires
-after-get-found-requires g t c = c.requires.entry
-
-pub after-returns-in-Some-clause-known : goal.after-returns-in-Some-clause-known
-after-returns-in-Some-clause-known g t c =
-    λ some. (refl, refl, omega (arith, c.next_of.ensures.cost))
-
-pub after-returns-in-Some-clause-cost : goal.after-returns-in-Some-clause-cost
-after-returns-in-Some-clause-cost g t c =
-    λ k b one bits few queues. first_step _ _ _ _ c.next_of.ensures.cost
-
-pub after-overflow_cast-found : goal.after-overflow_cast-found
-after-overflow_cast-found g t c =
-    let at = goal.at.after-overflow_cast-found g t c in
+pub after-top-requires-clause-node : goal.after-top-requires-clause-node
+after-top-requires-clause-node g t c =
+    let at = goal.at.after-top-requires-clause-node g t c in
     let o = entry_owned g t at.After-get-found in
-    node_fits _ _ o.node o.formed.tree.shaped.few_nodes
+    o.in_nodes
 
-pub after-overflow_cast-found-2 : goal.after-overflow_cast-found-2
-after-overflow_cast-found-2 g t c =
-    let at = goal.at.after-overflow_cast-found-2 g t c in
+pub after-top-requires-clause-group : goal.after-top-requires-clause-group
+after-top-requires-clause-group g t c =
+    let at = goal.at.after-top-requires-clause-group g t c in
     let o = entry_owned g t at.After-get-found in
-    node_fits _ _ o.node o.formed.tree.shaped.few_nodes
-
-pub after-overflow_cast-found-3 : goal.after-overflow_cast-found-3
-after-overflow_cast-found-3 g t c =
-    let at = goal.at.after-overflow_cast-found-3 g t c in
-    let o = entry_owned g t at.After-get-found in
-    node_fits _ _ o.node o.formed.tree.shaped.few_nodes
-
-pub after-index-requires : goal.after-index-requires
-after-index-requires g t c =
-    let at = goal.at.after-index-requires g t c in
-    let o = entry_owned g t at.After-get-found in
-    in_same _ _ _ o.in_nodes c.args.self.now.nodes.ok.0
-
-pub after-top-requires : goal.after-top-requires
-after-top-requires g t c =
-    let at = goal.at.after-top-requires g t c in
-    let o = entry_owned g t at.After-get-found in
-    subst (λ (z : NodeStreamsView g.row.R.Denot). c.get-found.result.now.group < length z.streams) (lists_at c.args.self.now.nodes.items c.get-found.result.now.node c.index.result.now c.index.ensures o.in_nodes) (in_same _ _ _ o.group (o.formed.all_streams c.get-found.result.now.node o.node))
-
-pub after-returns-in_default-top-clause-answer : goal.after-returns-in_default-top-clause-answer
-after-returns-in_default-top-clause-answer g t c =
-    let at = goal.at.after-returns-in_default-top-clause-answer g t c in
-    let o = entry_owned g t at.After-get-found in
-    let none = next_is c.args.self.now.entries.entries c.args.entry None c.requires.entry (λ x. c.next_of.ensures.next x ∙ c.in_default.is) in
-    let empty : (stream_of c.args.self.now.nodes.items c.get-found.result.now.node c.get-found.result.now.group).queue ≡ [] =
-    ap (λ n. (stream_at n c.get-found.result.now.group).queue) (lists_at c.args.self.now.nodes.items c.get-found.result.now.node c.index.result.now c.index.ensures o.in_nodes) ∙ no_top c.top.result (stream_at c.index.result.now c.get-found.result.now.group).queue c.in_default-top.is c.top.ensures.variant in
-    last_of_all g.R.Rank.KEYS g.R.Rank.key c.args.self.now.tree.now c.args.self.now.entries.entries c.args.self.now.nodes.items c.requires.formed c.args.entry c.requires.entry none
-    (subst (λ v. (stream_of c.args.self.now.nodes.items v (group_of c.args.self.now.entries.entries c.args.entry)).queue ≡ []) (sym o.node_is) (subst (λ k. (stream_of c.args.self.now.nodes.items c.get-found.result.now.node k).queue ≡ []) (sym o.group_is) empty))
-
-pub after-returns-in_default-top-clause-cost : goal.after-returns-in_default-top-clause-cost
-after-returns-in_default-top-clause-cost g t c =
-    λ k b one bits few queues. second_step _ _ _ _ _ c.next_of.ensures.cost c.get-found.ensures.cost
+    in_same _ _ _ o.group (o.formed.all_streams c.get-found.result.now.node o.node)
 
 pub after-open_row-requires-clause-node : goal.after-open_row-requires-clause-node
 after-open_row-requires-clause-node g t c =
@@ -230,57 +202,29 @@ after-open_row-requires-clause-place g t c =
     let p = top_of g t at.In-Some-top o in
     subst (λ r. c.in-Some-top.top.tag.place < row_known c.args.self.now.nodes.items c.get-found.result.now.node r) (sym p.row) p.known
 
-pub after-returns-in_err-open_row-clause-grown : goal.after-returns-in_err-open_row-clause-grown
-after-returns-in_err-open_row-clause-grown g t c =
-    let at = goal.at.after-returns-in_err-open_row-clause-grown g t c in
-    let o = entry_owned g t at.After-get-found in
-    subst (λ v. IsGrown (parent c.args.self.now.tree.now) v c.args.self.now.entries.entries c.args.self.now.nodes.items c.open_row.new.self.entries.entries c.open_row.new.self.nodes.items) (sym o.node_is)
-    (opened_grown c.args.self.now.tree.now c.get-found.result.now.node c.args.self.now.entries.entries c.open_row.new.self.entries.entries c.args.self.now.nodes.items c.open_row.new.self.nodes.items (ap (λ z. z.entries) c.open_row.ensures.entries) c.open_row.ensures.above)
-
-pub after-returns-in_err-open_row-clause-known : goal.after-returns-in_err-open_row-clause-known
-after-returns-in_err-open_row-clause-known g t c =
-    let none = next_is c.args.self.now.entries.entries c.args.entry None c.requires.entry (λ x. c.next_of.ensures.next x ∙ c.in_default.is) in
-    λ some. not_some (next_of c.args.self.now.entries.entries c.args.entry) none some
-
-pub after-returns-in_err-open_row-clause-cost : goal.after-returns-in_err-open_row-clause-cost
-after-returns-in_err-open_row-clause-cost g t c =
-    let at = goal.at.after-returns-in_err-open_row-clause-cost g t c in
-    let o = entry_owned g t at.After-get-found in
-    only_opened o c.args.steps.now c.open_row.new.steps (opened_steps _ _ _ _ _ c.next_of.ensures.cost c.get-found.ensures.cost c.open_row.ensures.cost)
-
-pub after-index-requires-2 : goal.after-index-requires-2
-after-index-requires-2 g t c =
-    let at = goal.at.after-index-requires-2 g t c in
+pub after-place_after-count-requires-clause-node : goal.after-place_after-count-requires-clause-node
+after-place_after-count-requires-clause-node g t c =
+    let at = goal.at.after-place_after-count-requires-clause-node g t c in
     let o = entry_owned g t at.After-get-found in
     let p = top_of g t at.In-Some-top o in
     let a = row_of g t at.After-open_row o p in
-    in_same _ _ _ a.in_nodes c.open_row.new.self.nodes.ok.0
+    a.in_nodes
 
-pub after-index-requires-3 : goal.after-index-requires-3
-after-index-requires-3 g t c =
-    let at = goal.at.after-index-requires-3 g t c in
+pub after-place_after-count-requires-clause-opened : goal.after-place_after-count-requires-clause-opened
+after-place_after-count-requires-clause-opened g t c =
+    let at = goal.at.after-place_after-count-requires-clause-opened g t c in
     let o = entry_owned g t at.After-get-found in
     let p = top_of g t at.In-Some-top o in
     let a = row_of g t at.After-open_row o p in
-    in_same _ _ _ a.in_nodes c.open_row.new.self.nodes.ok.0
+    c.in_ok-open_row.ensures.count ∙ sym (a.formed.all_children c.get-found.result.now.node o.node)
 
-pub after-known-requires : goal.after-known-requires
-after-known-requires g t c =
-    let at = goal.at.after-known-requires g t c in
+pub after-place_after-count-requires-clause-known : goal.after-place_after-count-requires-clause-known
+after-place_after-count-requires-clause-known g t c =
+    let at = goal.at.after-place_after-count-requires-clause-known g t c in
     let o = entry_owned g t at.After-get-found in
     let p = top_of g t at.In-Some-top o in
     let a = row_of g t at.After-open_row o p in
-    let k = counted_of g t at.After-child_count-count o a in
-    record { count = subst (λ (z : NodeStreamsView g.row.R.Denot). c.child_count-count.result ≤ length (get_or z.products c.in-Some-top.top.tag.row [])) (lists_at c.open_row.new.self.nodes.items c.get-found.result.now.node c.index-3.result.now c.index-3.ensures a.in_nodes) k.within }
-
-pub after-next_place-place-requires : goal.after-next_place-place-requires
-after-next_place-place-requires g t c =
-    let at = goal.at.after-next_place-place-requires g t c in
-    let o = entry_owned g t at.After-get-found in
-    let p = top_of g t at.In-Some-top o in
-    let a = row_of g t at.After-open_row o p in
-    let k = counted_of g t at.After-child_count-count o a in
-    in_same _ _ _ k.known (c.known.ensures ∙ ap (λ z. known_of z c.in-Some-top.top.tag.row c.child_count-count.result) (sym (lists_at c.open_row.new.self.nodes.items c.get-found.result.now.node c.index-3.result.now c.index-3.ensures a.in_nodes)))
+    a.known
 
 pub after-extend-requires : goal.after-extend-requires
 after-extend-requires g t c κs within =
@@ -288,65 +232,8 @@ after-extend-requires g t c κs within =
     let o = entry_owned g t at.After-get-found in
     let p = top_of g t at.In-Some-top o in
     let a = row_of g t at.After-open_row o p in
-    let k = counted_of g t at.After-child_count-count o a in
-    (omega (arith, c.decreases, o.node_is, k.all, o.node, ap length c.open_row.ensures.tree, kids_below_most (parent c.args.self.now.tree.now) c.get-found.result.now.node (length c.args.self.now.tree.now), o.formed.tree.shaped.few_nodes), (within.0, (within.1.0, (within.1.1, (c.open_row.ensures.formed, (subst IsTieFreeTree (sym c.open_row.ensures.tree) c.requires.tie_free, (subst (λ z. c.get-found.result.now.node < length z) (sym c.open_row.ensures.tree) o.node, (subst (λ z. c.in-Some-top.top.tag.row < rows z c.get-found.result.now.node) (sym c.open_row.ensures.tree) a.row, (k.within, next_within _ _ _ k.known c.next_place-place.ensures)))))))))
-
-pub after-returns-in_err-extend-clause-grown : goal.after-returns-in_err-extend-clause-grown
-after-returns-in_err-extend-clause-grown g t c =
-    let at = goal.at.after-returns-in_err-extend-clause-grown g t c in
-    let o = entry_owned g t at.After-get-found in
-    let p = top_of g t at.In-Some-top o in
-    let a = row_of g t at.After-open_row o p in
-    let k = counted_of g t at.After-child_count-count o a in
-    let s = search_of g t at.After-extend in
-    searched_grown o a k s
-
-pub after-returns-in_err-extend-clause-known : goal.after-returns-in_err-extend-clause-known
-after-returns-in_err-extend-clause-known g t c =
-    let none = next_is c.args.self.now.entries.entries c.args.entry None c.requires.entry (λ x. c.next_of.ensures.next x ∙ c.in_default.is) in
-    λ some. not_some (next_of c.args.self.now.entries.entries c.args.entry) none some
-
-pub after-returns-in_err-extend-clause-queues : goal.after-returns-in_err-extend-clause-queues
-after-returns-in_err-extend-clause-queues g t c =
-    let at = goal.at.after-returns-in_err-extend-clause-queues g t c in
-    let o = entry_owned g t at.After-get-found in
-    let p = top_of g t at.In-Some-top o in
-    let a = row_of g t at.After-open_row o p in
-    let k = counted_of g t at.After-child_count-count o a in
-    let s = search_of g t at.After-extend in
-    searched_queues o a k s
-
-pub after-returns-in_err-extend-clause-cost : goal.after-returns-in_err-extend-clause-cost
-after-returns-in_err-extend-clause-cost g t c =
-    let at = goal.at.after-returns-in_err-extend-clause-cost g t c in
-    let o = entry_owned g t at.After-get-found in
-    let p = top_of g t at.In-Some-top o in
-    let a = row_of g t at.After-open_row o p in
-    let k = counted_of g t at.After-child_count-count o a in
-    let s = search_of g t at.After-extend in
-    searched_steps o a k s c.extend.new.steps (λ b members. later_steps _ _ _)
-
-pub after-advance-requires-clause-node : goal.after-advance-requires-clause-node
-after-advance-requires-clause-node g t c =
-    let at = goal.at.after-advance-requires-clause-node g t c in
-    let o = entry_owned g t at.After-get-found in
-    let s = search_of g t at.After-extend in
-    s.extended.store.nodes c.args.entry c.requires.entry ∙ o.node_is
-
-pub after-advance-requires-clause-group : goal.after-advance-requires-clause-group
-after-advance-requires-clause-group g t c =
-    let at = goal.at.after-advance-requires-clause-group g t c in
-    let o = entry_owned g t at.After-get-found in
-    let s = search_of g t at.After-extend in
-    s.extended.store.groups c.args.entry c.requires.entry ∙ o.group_is
-
-pub after-advance-requires-clause-none : goal.after-advance-requires-clause-none
-after-advance-requires-clause-none g t c =
-    let at = goal.at.after-advance-requires-clause-none g t c in
-    let o = entry_owned g t at.After-get-found in
-    let s = search_of g t at.After-extend in
-    let none = next_is c.args.self.now.entries.entries c.args.entry None c.requires.entry (λ x. c.next_of.ensures.next x ∙ c.in_default.is) in
-    s.extended.store.above c.args.entry c.requires.entry (below_next _ _ o.node_is) ∙ none
+    let k = counted_of g t at.After-place_after-count o a in
+    (row_smaller _ _ _ _ _ _ c.decreases o.node_is (ap length c.open_row.ensures.tree) o.node (kids_few _ _ _ _ k.all (kids_below_most (parent c.args.self.now.tree.now) c.get-found.result.now.node (length c.args.self.now.tree.now)) o.formed.tree.shaped.few_nodes), (within.0, (within.1.0, (within.1.1, (c.open_row.ensures.formed, (subst IsTieFreeTree (sym c.open_row.ensures.tree) c.requires.tie_free, (subst (λ z. c.get-found.result.now.node < length z) (sym c.open_row.ensures.tree) o.node, (subst (λ z. c.in-Some-top.top.tag.row < rows z c.get-found.result.now.node) (sym c.open_row.ensures.tree) a.row, (k.within, next_within _ _ _ k.known c.place_after-count.ensures.place)))))))))
 
 pub after-advance-requires-clause-top : goal.after-advance-requires-clause-top
 after-advance-requires-clause-top g t c =
@@ -354,9 +241,15 @@ after-advance-requires-clause-top g t c =
     let o = entry_owned g t at.After-get-found in
     let p = top_of g t at.In-Some-top o in
     let a = row_of g t at.After-open_row o p in
-    let k = counted_of g t at.After-child_count-count o a in
+    let k = counted_of g t at.After-place_after-count o a in
     let s = search_of g t at.After-extend in
-    subst (λ z. 0 < length z) (sym (searched_queue o a k s)) p.some
+    let same = searched_queue o a k s in
+    let first : (x : Entry g.row.R.Denot Source) → get_or (stream_of c.extend.new.self.nodes.items c.get-found.result.now.node c.get-found.result.now.group).queue 0 x ≡ c.in-Some-top.top = λ x. ap (λ z. get_or z 0 x) same ∙ any_default (stream_of c.args.self.now.nodes.items c.get-found.result.now.node c.get-found.result.now.group).queue 0 x c.in-Some-top.top p.some ∙ sym p.first in
+    record {
+      some = subst (λ z. 0 < length z) (sym same) p.some;
+      member = λ x. ap (λ e. e.tag.member) (first x);
+      after = λ x. ap (λ e. e.tag.place + 1) (first x) ∙ sym c.place_after-count.ensures.place;
+    }
 
 pub after-advance-requires-clause-queue_room : goal.after-advance-requires-clause-queue_room
 after-advance-requires-clause-queue_room g t c one =
@@ -364,10 +257,10 @@ after-advance-requires-clause-queue_room g t c one =
     let o = entry_owned g t at.After-get-found in
     let p = top_of g t at.In-Some-top o in
     let a = row_of g t at.After-open_row o p in
-    let k = counted_of g t at.After-child_count-count o a in
+    let k = counted_of g t at.After-place_after-count o a in
     let s = search_of g t at.After-extend in
     subst (λ (z : List (NodeView g.row.R.Denot)). can_enter (length (members z c.get-found.result.now.node c.get-found.result.now.group)) ≤ (stream_of c.extend.new.self.nodes.items c.get-found.result.now.node c.get-found.result.now.group).room) (sym (c.extend.ensures.tree ∙ c.open_row.ensures.tree))
-    (subst (λ (z : StreamView g.row.R.Denot). can_enter (length (members c.args.self.now.tree.now c.get-found.result.now.node c.get-found.result.now.group)) ≤ z.room) (sym (searched_stream o a k s)) (c.in_ok-open_row.ensures.room (none_before _ _ one c.next_place-place.ensures)))
+    (subst (λ (z : StreamView g.row.R.Denot). can_enter (length (members c.args.self.now.tree.now c.get-found.result.now.node c.get-found.result.now.group)) ≤ z.room) (sym (searched_stream o a k s)) (c.in_ok-open_row.ensures.room (none_before _ _ one c.place_after-count.ensures.place)))
 
 pub after-advance-requires-clause-row : goal.after-advance-requires-clause-row
 after-advance-requires-clause-row g t c =
@@ -384,80 +277,21 @@ after-advance-requires-clause-number g t c =
     p.numbered ∙ ap (number c.args.self.now.tree.now c.get-found.result.now.node) (sym p.row)
     ∙ ap (λ (z : List (NodeView g.row.R.Denot)). number z c.get-found.result.now.node c.in-Some-top.top.tag.row) (sym (c.extend.ensures.tree ∙ c.open_row.ensures.tree))
 
-pub after-advance-requires-clause-member : goal.after-advance-requires-clause-member
-after-advance-requires-clause-member g t c =
-    let at = goal.at.after-advance-requires-clause-member g t c in
-    let o = entry_owned g t at.After-get-found in
-    let p = top_of g t at.In-Some-top o in
-    let a = row_of g t at.After-open_row o p in
-    let k = counted_of g t at.After-child_count-count o a in
-    let s = search_of g t at.After-extend in
-    λ x. ap (λ z. (get_or z 0 x).tag.member) (searched_queue o a k s)
-    ∙ ap (λ e. e.tag.member) (any_default (stream_of c.args.self.now.nodes.items c.get-found.result.now.node c.get-found.result.now.group).queue 0 x c.in-Some-top.top p.some ∙ sym p.first)
-
-pub after-advance-requires-clause-after : goal.after-advance-requires-clause-after
-after-advance-requires-clause-after g t c =
-    let at = goal.at.after-advance-requires-clause-after g t c in
-    let o = entry_owned g t at.After-get-found in
-    let p = top_of g t at.In-Some-top o in
-    let a = row_of g t at.After-open_row o p in
-    let k = counted_of g t at.After-child_count-count o a in
-    let s = search_of g t at.After-extend in
-    λ x. ap (λ z. (get_or z 0 x).tag.place + 1) (searched_queue o a k s)
-    ∙ ap (λ e. e.tag.place + 1) (any_default (stream_of c.args.self.now.nodes.items c.get-found.result.now.node c.get-found.result.now.group).queue 0 x c.in-Some-top.top p.some ∙ sym p.first) ∙ sym c.next_place-place.ensures
-
 pub after-advance-requires-clause-place : goal.after-advance-requires-clause-place
 after-advance-requires-clause-place g t c =
     let at = goal.at.after-advance-requires-clause-place g t c in
     let o = entry_owned g t at.After-get-found in
     let p = top_of g t at.In-Some-top o in
     let a = row_of g t at.After-open_row o p in
-    let k = counted_of g t at.After-child_count-count o a in
-    subst (λ z. IsReached g.R.Rank.KEYS g.R.Rank.key c.extend.new.self.tree.now c.extend.new.self.nodes.items c.get-found.result.now.node c.in-Some-top.top.tag.row z c.next_place-place.result) (k.all ∙ ap (λ z. child_count z c.get-found.result.now.node) (sym (c.extend.ensures.tree ∙ c.open_row.ensures.tree)))
-    (subst (λ z. IsReached g.R.Rank.KEYS g.R.Rank.key z c.extend.new.self.nodes.items c.get-found.result.now.node c.in-Some-top.top.tag.row c.child_count-count.result c.next_place-place.result) (sym c.extend.ensures.tree) c.in_ok-extend.ensures.reached)
-
-pub after-returns-clause-grown : goal.after-returns-clause-grown
-after-returns-clause-grown g t c =
-    let at = goal.at.after-returns-clause-grown g t c in
-    let o = entry_owned g t at.After-get-found in
-    let p = top_of g t at.In-Some-top o in
-    let a = row_of g t at.After-open_row o p in
-    let k = counted_of g t at.After-child_count-count o a in
-    let s = search_of g t at.After-extend in
-    linked_grown o a k s c.advance.new.self.entries.entries c.advance.new.self.nodes.items (subst (λ z. IsStreams g.R.Rank.KEYS g.R.Rank.key z c.advance.new.self.entries.entries c.advance.new.self.nodes.items) (c.advance.ensures.tree ∙ c.extend.ensures.tree ∙ c.open_row.ensures.tree) c.advance.ensures.formed) c.advance.ensures.store c.advance.ensures.above c.advance.ensures.products c.advance.ensures.growth
-
-pub after-returns-clause-known : goal.after-returns-clause-known
-after-returns-clause-known g t c =
-    let none = next_is c.args.self.now.entries.entries c.args.entry None c.requires.entry (λ x. c.next_of.ensures.next x ∙ c.in_default.is) in
-    λ some. not_some (next_of c.args.self.now.entries.entries c.args.entry) none some
-
-pub after-returns-clause-queues : goal.after-returns-clause-queues
-after-returns-clause-queues g t c =
-    let at = goal.at.after-returns-clause-queues g t c in
-    let o = entry_owned g t at.After-get-found in
-    let p = top_of g t at.In-Some-top o in
-    let a = row_of g t at.After-open_row o p in
-    let k = counted_of g t at.After-child_count-count o a in
-    let s = search_of g t at.After-extend in
-    linked_queues o a k s c.advance.new.self.entries.entries c.advance.new.self.nodes.items (subst (λ z. IsStreams g.R.Rank.KEYS g.R.Rank.key z c.advance.new.self.entries.entries c.advance.new.self.nodes.items) (c.advance.ensures.tree ∙ c.extend.ensures.tree ∙ c.open_row.ensures.tree) c.advance.ensures.formed) c.advance.ensures.store c.advance.ensures.above c.advance.ensures.products c.advance.ensures.growth
-
-pub after-returns-clause-cost : goal.after-returns-clause-cost
-after-returns-clause-cost g t c =
-    let at = goal.at.after-returns-clause-cost g t c in
-    let o = entry_owned g t at.After-get-found in
-    let p = top_of g t at.In-Some-top o in
-    let a = row_of g t at.After-open_row o p in
-    let k = counted_of g t at.After-child_count-count o a in
-    let s = search_of g t at.After-extend in
-    let last : c.advance.new.steps ≤ c.extend.new.steps + 10 + 3 * child_count c.args.self.now.tree.now c.get-found.result.now.node + 4 * bit_length (length (members c.args.self.now.tree.now c.get-found.result.now.node c.get-found.result.now.group) + 1) =
-    subst (λ (z : List (NodeView g.row.R.Denot)). c.advance.new.steps ≤ c.extend.new.steps + 10 + 3 * child_count z c.get-found.result.now.node + 4 * bit_length (length (members z c.get-found.result.now.node c.get-found.result.now.group) + 1)) (c.extend.ensures.tree ∙ c.open_row.ensures.tree) c.advance.ensures.cost in
-    searched_steps o a k s c.advance.new.steps (λ b members. fewer_digits _ _ _ _ last (members c.get-found.result.now.node c.get-found.result.now.group))
+    let k = counted_of g t at.After-place_after-count o a in
+    subst (λ z. IsReached g.R.Rank.KEYS g.R.Rank.key c.extend.new.self.tree.now c.extend.new.self.nodes.items c.get-found.result.now.node c.in-Some-top.top.tag.row z c.place_after-count.result.1) (k.all ∙ ap (λ z. child_count z c.get-found.result.now.node) (sym (c.extend.ensures.tree ∙ c.open_row.ensures.tree)))
+    (subst (λ z. IsReached g.R.Rank.KEYS g.R.Rank.key z c.extend.new.self.nodes.items c.get-found.result.now.node c.in-Some-top.top.tag.row c.place_after-count.result.0 c.place_after-count.result.1) (sym c.extend.ensures.tree) c.in_ok-extend.ensures.reached)
 
 pub search-after-requires : goal.search-after-requires
 search-after-requires g t c κs within =
     let at = goal.at.search-after-requires g t c in
     let a = room_of g t at.After-make_room in
-    (omega (arith, c.decreases, a.known.node, a.below, a.child_within, a.node), (within.0, (within.1.0, (within.1.1, (a.formed, (c.requires.tie_free, a.known.right))))))
+    (child_smaller _ _ _ _ _ _ c.decreases a.known.node a.below a.child_within, (within.0, (within.1.0, (within.1.1, (a.formed, (c.requires.tie_free, a.known.right))))))
 
 pub search-extend-requires : goal.search-extend-requires
 search-extend-requires g t c κs within =
@@ -466,143 +300,13 @@ search-extend-requires g t c κs within =
     let b = child_of g t at.After-after a in
     let in_tree = subst (λ (z : List (NodeView g.row.R.Denot)). c.args.node < length z) (sym c.after.ensures.tree) c.requires.node in
     let in_node = subst (λ (z : List (NodeView g.row.R.Denot)). c.args.row < rows z c.args.node) (sym c.after.ensures.tree) c.requires.row in
-    elim (left_or_none c.has_beside-beside.result c.left_search-earlier.result.0 (c.args.count - 1) c.left_search-earlier.result.1 (c.in-Some.top.tag.left + 1) c.left_search-earlier.ensures.beside c.left_search-earlier.ensures.apart) [
-      | inl e ↦ (omega (arith, c.decreases, a.last, ap length c.after.ensures.tree, e.0), (within.0, (within.1.0, (within.1.1, (c.after.ensures.formed, (subst IsTieFreeTree (sym c.after.ensures.tree) c.requires.tie_free, (in_tree, (in_node, (at_below _ _ _ b.in_row e.0, left_within c.after.new.self.nodes.items c.args.node c.args.row (c.args.count - 1) c.left_search-earlier.result.0 c.left_search-earlier.result.1 c.in-Some.top.tag.left b.left e.0 e.1)))))))))
-      | inr n ↦ (omega (arith, c.decreases, a.last, ap length c.after.ensures.tree, n.0), (within.0, (within.1.0, (within.1.1, (c.after.ensures.formed, (subst IsTieFreeTree (sym c.after.ensures.tree) c.requires.tie_free, (in_tree, (in_node, (none_few _ _ n.0, none_within_known c.after.new.self.nodes.items c.args.node c.args.row c.left_search-earlier.result.0 c.left_search-earlier.result.1 n.1)))))))))
-    ]
+    let left = left_or_none c.has_beside-beside.result c.left_search-earlier.result.0 (c.args.count - 1) c.left_search-earlier.result.1 (c.in-Some.top.tag.left + 1) c.left_search-earlier.ensures.beside c.left_search-earlier.ensures.apart in
+    let few = left_few _ _ _ _ left in
+    (left_smaller _ _ _ _ _ _ c.decreases a.last (ap length c.after.ensures.tree) few, (within.0, (within.1.0, (within.1.1, (c.after.ensures.formed, (subst IsTieFreeTree (sym c.after.ensures.tree) c.requires.tie_free, (in_tree, (in_node, (few_below _ _ _ few b.in_row, left_within c.after.new.self.nodes.items c.args.node c.args.row (c.args.count - 1) c.left_search-earlier.result.0 c.left_search-earlier.result.1 c.in-Some.top.tag.left b.left left)))))))))
 
 pub extend-search-requires : goal.extend-search-requires
 extend-search-requires g t c κs within =
-    (omega (arith, c.decreases), (within.0, (within.1.0, (within.1.1, (c.requires.formed, (c.requires.tie_free, (c.requires.node, (c.requires.row, (some_is c.args.count c.if-count-eq0.false, c.requires.count)))))))))
-
-pub extend-returns-clause-reached : goal.extend-returns-clause-reached
-extend-returns-clause-reached g t c =
-    let known : c.known.result ≡ part_known c.args.self.now.nodes.items c.args.node c.args.row c.args.count = c.known.ensures ∙ ap (λ z. known_of z c.args.row c.args.count) (sym (lists_at c.args.self.now.nodes.items c.args.node c.index.result.now c.index.ensures (in_same _ _ _ c.requires.node c.requires.formed.all_nodes))) in
-    let same : part_known c.args.self.now.nodes.items c.args.node c.args.row c.args.count ≡ c.args.place = place_is _ _ _ known c.if-place-known.false c.requires.place in
-    subst (λ z. OnOk c.search.result (IsReached g.R.Rank.KEYS g.R.Rank.key c.args.self.now.tree.now c.search.new.self.nodes.items c.args.node c.args.row c.args.count z)) same c.search.ensures.reached
-
-pub extend-returns-then-place-known-clause-reached : goal.extend-returns-then-place-known-clause-reached
-extend-returns-then-place-known-clause-reached g t c =
-    let known : c.known.result ≡ part_known c.args.self.now.nodes.items c.args.node c.args.row c.args.count = c.known.ensures ∙ ap (λ z. known_of z c.args.row c.args.count) (sym (lists_at c.args.self.now.nodes.items c.args.node c.index.result.now c.index.ensures (in_same _ _ _ c.requires.node c.requires.formed.all_nodes))) in
-    on_ok c.reserve.result (elim c.then-place-known.branch [
-      | extend-then-place-known-via-then-place-known w ↦ inl (subst (λ z. c.args.place < z) known w.if-place-known.true)
-      | extend-then-place-known-via-else-place-known+then-count-eq0 w ↦
-          let none : 0 ≡ c.args.count = sym w.if-count-eq0.true in
-          subst (λ z. IsReached g.R.Rank.KEYS g.R.Rank.key c.args.self.now.tree.now c.args.self.now.nodes.items c.args.node c.args.row z c.args.place) none (reached_none g.R.Rank.KEYS g.R.Rank.key c.args.self.now.tree.now c.args.self.now.entries.entries c.args.self.now.nodes.items c.requires.formed c.args.node c.args.row c.args.place c.requires.node (known_before _ _ _ _ known w.if-place-known.false (ap (λ z. part_known c.args.self.now.nodes.items c.args.node c.args.row z) none)))
-    ])
-
-pub extend-returns-then-place-known-clause-cost : goal.extend-returns-then-place-known-clause-cost
-extend-returns-then-place-known-clause-cost g t c =
-    let kids = count_few g.R.Rank.KEYS g.R.Rank.key c.args.self.now.tree.now c.args.self.now.entries.entries c.args.self.now.nodes.items c.requires.formed c.args.node c.args.row c.args.count c.requires.node c.requires.row c.requires.count in
-    λ k b one bits members queues. none_within g.R.Rank.KEYS g.R.Rank.key c.args.self.now.tree.now c.requires.formed.tree c.args.node c.args.count b c.args.steps.now kids
-
-pub search-returns-in_default-clause-cost : goal.search-returns-in_default-clause-cost
-search-returns-in_default-clause-cost g t c =
-    let kids = count_few g.R.Rank.KEYS g.R.Rank.key c.args.self.now.tree.now c.args.self.now.entries.entries c.args.self.now.nodes.items c.requires.formed c.args.node c.args.row c.args.count c.requires.node c.requires.row c.requires.count in
-    λ k b one bits members queues. none_within g.R.Rank.KEYS g.R.Rank.key c.args.self.now.tree.now c.requires.formed.tree c.args.node c.args.count b c.args.steps.now kids
-
-pub search-returns-in_default-clause-reached : goal.search-returns-in_default-clause-reached
-search-returns-in_default-clause-reached g t c =
-    let last : suc (c.args.count - 1) ≡ c.args.count = last_is c.args.count c.requires.some in
-    let empty = ap (λ n. (product_at n c.args.row (c.args.count - 1)).frontier) (lists_at c.args.self.now.nodes.items c.args.node c.index.result.now c.index.ensures (in_same _ _ _ c.requires.node c.requires.formed.all_nodes)) ∙ no_top c.product_top.result (product_at c.index.result.now c.args.row (c.args.count - 1)).frontier c.in_default.is c.product_top.ensures.variant in
-    let done = sums_done g.R.Rank.KEYS g.R.Rank.key c.args.self.now.tree.now c.args.self.now.entries.entries c.args.self.now.nodes.items c.requires.formed c.args.node c.args.row (c.args.count - 1) c.requires.node c.requires.row (last_below _ _ c.requires.some c.requires.count) empty in
-    on_ok c.reserve.result (subst (λ z. IsReached g.R.Rank.KEYS g.R.Rank.key c.args.self.now.tree.now c.args.self.now.nodes.items c.args.node c.args.row z (part_known c.args.self.now.nodes.items c.args.node c.args.row c.args.count)) last (inr (omega (arith, done, ap (λ z. part_known c.args.self.now.nodes.items c.args.node c.args.row z) last))))
-
-pub search-returns-in_err-make_room-clause-formed : goal.search-returns-in_err-make_room-clause-formed
-search-returns-in_err-make_room-clause-formed g t c =
-    let at = goal.at.search-returns-in_err-make_room-clause-formed g t c in
-    let a = room_of g t at.After-make_room in
-    a.formed
-
-pub search-returns-in_err-make_room-clause-extended : goal.search-returns-in_err-make_room-clause-extended
-search-returns-in_err-make_room-clause-extended g t c =
-    let at = goal.at.search-returns-in_err-make_room-clause-extended g t c in
-    let a = room_of g t at.After-make_room in
-    made_none a
-
-pub search-returns-in_err-make_room-clause-queues : goal.search-returns-in_err-make_room-clause-queues
-search-returns-in_err-make_room-clause-queues g t c =
-    let at = goal.at.search-returns-in_err-make_room-clause-queues g t c in
-    let a = room_of g t at.After-make_room in
-    made_queues a c.make_room.new.nodes.items (λ w s k. queue_itself _ _)
-
-pub search-returns-in_err-make_room-clause-cost : goal.search-returns-in_err-make_room-clause-cost
-search-returns-in_err-make_room-clause-cost g t c =
-    let kids = count_few g.R.Rank.KEYS g.R.Rank.key c.args.self.now.tree.now c.args.self.now.entries.entries c.args.self.now.nodes.items c.requires.formed c.args.node c.args.row c.args.count c.requires.node c.requires.row c.requires.count in
-    λ k b one bits members queues. none_within g.R.Rank.KEYS g.R.Rank.key c.args.self.now.tree.now c.requires.formed.tree c.args.node c.args.count b c.args.steps.now kids
-
-pub extend-returns-then-place-known-clause-refused : goal.extend-returns-then-place-known-clause-refused
-extend-returns-then-place-known-clause-refused g t c =
-    on_err c.reserve.result (λ s k. (refl, refl, refl))
-
-pub search-returns-in_default-clause-refused : goal.search-returns-in_default-clause-refused
-search-returns-in_default-clause-refused g t c =
-    on_err c.reserve.result (λ s k. (refl, refl, refl))
-
-pub search-returns-in_err-make_room-clause-refused : goal.search-returns-in_err-make_room-clause-refused
-search-returns-in_err-make_room-clause-refused g t c =
-    let at = goal.at.search-returns-in_err-make_room-clause-refused g t c in
-    let a = room_of g t at.After-make_room in
-    on_err c.from_residual.result (made_unstepped a)
-
-pub search-returns-in_err-below-clause-refused : goal.search-returns-in_err-below-clause-refused
-search-returns-in_err-below-clause-refused g t c =
-    let at = goal.at.search-returns-in_err-below-clause-refused g t c in
-    let a = room_of g t at.After-make_room in
-    let b = child_of g t at.After-after a in
-    on_err c.from_residual-in_err-below.result (asked_unstepped a b)
-
-pub search-returns-in_err-extend-clause-refused : goal.search-returns-in_err-extend-clause-refused
-search-returns-in_err-extend-clause-refused g t c =
-    let at = goal.at.search-returns-in_err-extend-clause-refused g t c in
-    let a = room_of g t at.After-make_room in
-    let b = child_of g t at.After-after a in
-    on_err c.from_residual-in_err-extend.result (unstepped_on c.args.node c.args.self.now.nodes.items c.after.new.self.nodes.items c.extend.new.self.nodes.items (asked_unstepped a b) c.in_err-extend.ensures.refused)
-
-pub search-returns-in_err-below-clause-extended : goal.search-returns-in_err-below-clause-extended
-search-returns-in_err-below-clause-extended g t c =
-    let at = goal.at.search-returns-in_err-below-clause-extended g t c in
-    let a = room_of g t at.After-make_room in
-    let b = child_of g t at.After-after a in
-    asked_extended a b
-
-pub search-returns-in_err-below-clause-queues : goal.search-returns-in_err-below-clause-queues
-search-returns-in_err-below-clause-queues g t c =
-    let at = goal.at.search-returns-in_err-below-clause-queues g t c in
-    let a = room_of g t at.After-make_room in
-    let b = child_of g t at.After-after a in
-    asked_queues a b
-
-pub search-returns-in_err-below-clause-cost : goal.search-returns-in_err-below-clause-cost
-search-returns-in_err-below-clause-cost g t c =
-    let at = goal.at.search-returns-in_err-below-clause-cost g t c in
-    let a = room_of g t at.After-make_room in
-    let b = child_of g t at.After-after a in
-    asked_within a b
-
-pub search-returns-in_err-extend-clause-extended : goal.search-returns-in_err-extend-clause-extended
-search-returns-in_err-extend-clause-extended g t c =
-    let at = goal.at.search-returns-in_err-extend-clause-extended g t c in
-    let a = room_of g t at.After-make_room in
-    let b = child_of g t at.After-after a in
-    let l = left_of g t at.After-extend a b in
-    left_extended a b l
-
-pub search-returns-in_err-extend-clause-queues : goal.search-returns-in_err-extend-clause-queues
-search-returns-in_err-extend-clause-queues g t c =
-    let at = goal.at.search-returns-in_err-extend-clause-queues g t c in
-    let a = room_of g t at.After-make_room in
-    let b = child_of g t at.After-after a in
-    let l = left_of g t at.After-extend a b in
-    left_queues a b l
-
-pub search-returns-in_err-extend-clause-cost : goal.search-returns-in_err-extend-clause-cost
-search-returns-in_err-extend-clause-cost g t c =
-    let at = goal.at.search-returns-in_err-extend-clause-cost g t c in
-    let a = room_of g t at.After-make_room in
-    let b = child_of g t at.After-after a in
-    let l = left_of g t at.After-extend a b in
-    left_steps a b l c.extend.new.steps (one_later _) (later_digits _ _)
+    (search_smaller _ _ _ _ c.decreases, (within.0, (within.1.0, (within.1.1, (c.requires.formed, (c.requires.tie_free, (c.requires.node, (c.requires.row, (some_is c.args.count c.if-count-eq0.false, c.requires.count)))))))))
 
 pub search-step-requires-clause-tie_free : goal.search-step-requires-clause-tie_free
 search-step-requires-clause-tie_free g t c =
@@ -642,15 +346,7 @@ search-step-requires-clause-top g t c =
     let a = room_of g t at.After-make_room in
     let b = child_of g t at.After-after a in
     let l = left_of g t at.After-extend a b in
-    subst (λ (z : ProductView g.row.R.Denot). 0 < length z.frontier) (sym l.product) a.some
-
-pub search-step-requires-clause-first : goal.search-step-requires-clause-first
-search-step-requires-clause-first g t c =
-    let at = goal.at.search-step-requires-clause-first g t c in
-    let a = room_of g t at.After-make_room in
-    let b = child_of g t at.After-after a in
-    let l = left_of g t at.After-extend a b in
-    λ x. ap (λ (z : ProductView g.row.R.Denot). get_or z.frontier 0 x) l.product ∙ a.first x
+    subst (λ (z : ProductView g.row.R.Denot). IsProductTop z (c.args.count - 1) c.in-Some.top) (sym l.product) (record { some = a.some; first = a.first; room = c.in_ok-make_room.ensures.room; frontier_room = c.in_ok-make_room.ensures.frontier_room })
 
 pub search-step-requires-clause-beside : goal.search-step-requires-clause-beside
 search-step-requires-clause-beside g t c later =
@@ -674,77 +370,26 @@ pub search-step-requires-clause-across : goal.search-step-requires-clause-across
 search-step-requires-clause-across g t c =
     λ later e. left_reached g.R.Rank.KEYS g.R.Rank.key c.extend.new.self.tree.now c.after.new.self.tree.now c.extend.new.self.nodes.items c.args.node c.args.row (c.args.count - 1) c.left_search-earlier.result.0 c.left_search-earlier.result.1 (c.in-Some.top.tag.left + 1) (sym c.extend.ensures.tree) (c.left_search-earlier.ensures.beside e).0 (c.left_search-earlier.ensures.beside e).1 c.in_ok-extend.ensures.reached
 
-pub search-step-requires-clause-room : goal.search-step-requires-clause-room
-search-step-requires-clause-room g t c =
-    let at = goal.at.search-step-requires-clause-room g t c in
+pub search-left_search-earlier-requires-clause-node : goal.search-left_search-earlier-requires-clause-node
+search-left_search-earlier-requires-clause-node g t c =
+    let at = goal.at.search-left_search-earlier-requires-clause-node g t c in
     let a = room_of g t at.After-make_room in
     let b = child_of g t at.After-after a in
-    let l = left_of g t at.After-extend a b in
-    subst (λ (z : ProductView g.row.R.Denot). 0 < z.room) (sym l.product) c.in_ok-make_room.ensures.room
+    in_same _ _ _ c.requires.node b.formed.all_nodes
 
-pub search-step-requires-clause-frontier_room : goal.search-step-requires-clause-frontier_room
-search-step-requires-clause-frontier_room g t c =
-    let at = goal.at.search-step-requires-clause-frontier_room g t c in
+pub search-left_search-earlier-requires-clause-child : goal.search-left_search-earlier-requires-clause-child
+search-left_search-earlier-requires-clause-child g t c =
+    let at = goal.at.search-left_search-earlier-requires-clause-child g t c in
     let a = room_of g t at.After-make_room in
     let b = child_of g t at.After-after a in
-    let l = left_of g t at.After-extend a b in
-    subst (λ (z : ProductView g.row.R.Denot). 0 < c.args.count - 1 → 0 < z.frontier_room) (sym l.product) c.in_ok-make_room.ensures.frontier_room
+    at_below _ _ _ b.in_row refl
 
-pub search-returns-clause-tree : goal.search-returns-clause-tree
-search-returns-clause-tree g t c =
-    let at = goal.at.search-returns-clause-tree g t c in
+pub search-left_search-earlier-requires-clause-left : goal.search-left_search-earlier-requires-clause-left
+search-left_search-earlier-requires-clause-left g t c =
+    let at = goal.at.search-left_search-earlier-requires-clause-left g t c in
     let a = room_of g t at.After-make_room in
     let b = child_of g t at.After-after a in
-    let l = left_of g t at.After-extend a b in
-    c.step.ensures.tree ∙ l.searched.tree
-
-pub search-returns-clause-extended : goal.search-returns-clause-extended
-search-returns-clause-extended g t c =
-    let at = goal.at.search-returns-clause-extended g t c in
-    let a = room_of g t at.After-make_room in
-    let b = child_of g t at.After-after a in
-    let l = left_of g t at.After-extend a b in
-    subst (λ (y : List (Linked (Found g.row.R.Denot))). IsExtended c.args.self.now.tree.now c.args.node c.args.row c.args.count c.args.self.now.entries.entries c.args.self.now.nodes.items y c.step.new.self.nodes.items) (sym (ap (λ z. z.entries) c.step.ensures.entries)) (one_more_extended a b l c.step.new.self.nodes.items c.step.ensures.changed)
-
-pub search-returns-clause-reached : goal.search-returns-clause-reached
-search-returns-clause-reached g t c =
-    let at = goal.at.search-returns-clause-reached g t c in
-    let a = room_of g t at.After-make_room in
-    let b = child_of g t at.After-after a in
-    let l = left_of g t at.After-extend a b in
-    let at : part_known c.extend.new.self.nodes.items c.args.node c.args.row c.args.count ≡ part_known c.args.self.now.nodes.items c.args.node c.args.row c.args.count =
-    ap (λ z. part_known c.extend.new.self.nodes.items c.args.node c.args.row z) (sym a.last) ∙ ap (λ (z : ProductView g.row.R.Denot). length z.found) l.product ∙ ap length a.found ∙ ap (λ z. part_known c.args.self.now.nodes.items c.args.node c.args.row z) a.last in
-    let more : (c.args.count - 1) + 1 ≡ c.args.count = next_last c.args.count a.last in
-    subst (λ z. IsReached g.R.Rank.KEYS g.R.Rank.key c.args.self.now.tree.now c.step.new.self.nodes.items c.args.node c.args.row c.args.count z) at
-    (subst (λ z. IsReached g.R.Rank.KEYS g.R.Rank.key c.args.self.now.tree.now c.step.new.self.nodes.items c.args.node c.args.row z (part_known c.extend.new.self.nodes.items c.args.node c.args.row z)) more
-    (subst (λ (y : List (NodeView g.row.R.Denot)). IsReached g.R.Rank.KEYS g.R.Rank.key y c.step.new.self.nodes.items c.args.node c.args.row ((c.args.count - 1) + 1) (part_known c.extend.new.self.nodes.items c.args.node c.args.row ((c.args.count - 1) + 1))) l.searched.tree c.step.ensures.reached))
-
-pub search-returns-clause-room : goal.search-returns-clause-room
-search-returns-clause-room g t c =
-    subst (λ n. 0 < n) (sym (ap (λ z. z.spare) c.step.ensures.entries)) c.in_ok-extend.ensures.room
-
-pub search-returns-clause-queues : goal.search-returns-clause-queues
-search-returns-clause-queues g t c =
-    let at = goal.at.search-returns-clause-queues g t c in
-    let a = room_of g t at.After-make_room in
-    let b = child_of g t at.After-after a in
-    let l = left_of g t at.After-extend a b in
-    one_more_queues a b l c.step.new.self.nodes.items c.step.ensures.changed c.step.ensures.queue
-
-pub search-returns-clause-cost : goal.search-returns-clause-cost
-search-returns-clause-cost g t c =
-    let at = goal.at.search-returns-clause-cost g t c in
-    let a = room_of g t at.After-make_room in
-    let b = child_of g t at.After-after a in
-    let l = left_of g t at.After-extend a b in
-    left_steps a b l c.step.new.steps (one_later _) c.step.ensures.cost
-
-pub search-left_search-earlier-requires : goal.search-left_search-earlier-requires
-search-left_search-earlier-requires g t c =
-    let at = goal.at.search-left_search-earlier-requires g t c in
-    let a = room_of g t at.After-make_room in
-    let b = child_of g t at.After-after a in
-    in_same _ _ _ b.left (c.known-known.ensures ∙ ap (λ z. known_of z c.args.row (c.args.count - 1)) (sym (lists_at c.after.new.self.nodes.items c.args.node c.index-2.result.now c.index-2.ensures (in_same _ _ _ c.requires.node b.formed.all_nodes))))
+    b.left
 
 pub search-has_beside-beside-requires-clause-node : goal.search-has_beside-beside-requires-clause-node
 search-has_beside-beside-requires-clause-node g t c =
@@ -768,29 +413,6 @@ search-has_beside-beside-requires-clause-below g t c =
     subst (λ n. slice_index (lists_of n c.args.node).children (c.args.count - 1) < length n) (sym c.as_slice.ensures.value)
     (child_in _ _ _ _ (b.formed.children c.args.node (c.args.count - 1) c.requires.node a.in_kids) a.child_within b.formed.all_nodes)
 
-pub search-known-known-requires : goal.search-known-known-requires
-search-known-known-requires g t c =
-    let at = goal.at.search-known-known-requires g t c in
-    let a = room_of g t at.After-make_room in
-    let b = child_of g t at.After-after a in
-    record { count = at_below _ _ _ (subst (λ (z : NodeStreamsView g.row.R.Denot). c.args.count - 1 < length (get_or z.products c.args.row [])) (lists_at c.after.new.self.nodes.items c.args.node c.index-2.result.now c.index-2.ensures (in_same _ _ _ c.requires.node b.formed.all_nodes)) b.in_row) refl }
-
-pub extend-index-requires : goal.extend-index-requires
-extend-index-requires g t c =
-    in_same _ _ _ (in_same _ _ _ c.requires.node c.requires.formed.all_nodes) c.args.self.now.nodes.ok.0
-
-pub extend-known-requires : goal.extend-known-requires
-extend-known-requires g t c =
-    record { count = subst (λ (z : NodeStreamsView g.row.R.Denot). c.args.count ≤ length (get_or z.products c.args.row [])) (lists_at c.args.self.now.nodes.items c.args.node c.index.result.now c.index.ensures (in_same _ _ _ c.requires.node c.requires.formed.all_nodes)) c.requires.count }
-
-pub search-index-requires : goal.search-index-requires
-search-index-requires g t c =
-    in_same _ _ _ (in_same _ _ _ c.requires.node c.requires.formed.all_nodes) c.args.self.now.nodes.ok.0
-
-pub search-product_top-requires : goal.search-product_top-requires
-search-product_top-requires g t c =
-    record { child = subst (λ (z : NodeStreamsView g.row.R.Denot). c.args.count - 1 < length (get_or z.products c.args.row [])) (lists_at c.args.self.now.nodes.items c.args.node c.index.result.now c.index.ensures (in_same _ _ _ c.requires.node c.requires.formed.all_nodes)) (last_below _ _ c.requires.some c.requires.count) }
-
 pub search-make_room-requires-clause-node : goal.search-make_room-requires-clause-node
 search-make_room-requires-clause-node g t c =
     in_same _ _ _ c.requires.node c.requires.formed.all_nodes
@@ -799,45 +421,25 @@ pub search-make_room-requires-clause-child : goal.search-make_room-requires-clau
 search-make_room-requires-clause-child g t c =
     last_below _ _ c.requires.some c.requires.count
 
-pub extend-returns-clause-formed : goal.extend-returns-clause-formed
-extend-returns-clause-formed g t c =
-    c.search.ensures.formed
-
-pub extend-returns-clause-tree : goal.extend-returns-clause-tree
-extend-returns-clause-tree g t c =
-    c.search.ensures.tree
-
-pub extend-returns-clause-extended : goal.extend-returns-clause-extended
-extend-returns-clause-extended g t c =
-    c.search.ensures.extended
-
-pub extend-returns-clause-room : goal.extend-returns-clause-room
-extend-returns-clause-room g t c =
-    c.search.ensures.room
-
-pub extend-returns-clause-refused : goal.extend-returns-clause-refused
-extend-returns-clause-refused g t c =
-    c.search.ensures.refused
-
-pub extend-returns-clause-queues : goal.extend-returns-clause-queues
-extend-returns-clause-queues g t c =
-    c.search.ensures.queues
-
-pub extend-returns-clause-cost : goal.extend-returns-clause-cost
-extend-returns-clause-cost g t c =
-    c.search.ensures.cost
-
-pub search-returns-clause-formed : goal.search-returns-clause-formed
-search-returns-clause-formed g t c =
-    c.step.ensures.formed
+pub extend-returns : goal.extend-returns
+extend-returns g t c =
+    record {
+      formed = c.search.ensures.formed;
+      tree = c.search.ensures.tree;
+      extended = c.search.ensures.extended;
+      reached =
+          let known : c.known.result ≡ part_known c.args.self.now.nodes.items c.args.node c.args.row c.args.count = c.known.ensures ∙ ap (λ z. known_of z c.args.row c.args.count) (sym (lists_at c.args.self.now.nodes.items c.args.node c.index.result.now c.index.ensures (in_same _ _ _ c.requires.node c.requires.formed.all_nodes))) in
+          let same : part_known c.args.self.now.nodes.items c.args.node c.args.row c.args.count ≡ c.args.place = place_is _ _ _ known c.if-place-known.false c.requires.place in
+          subst (λ z. OnOk c.search.result (IsReached g.R.Rank.KEYS g.R.Rank.key c.args.self.now.tree.now c.search.new.self.nodes.items c.args.node c.args.row c.args.count z)) same c.search.ensures.reached;
+      room = c.search.ensures.room;
+      refused = c.search.ensures.refused;
+      queues = c.search.ensures.queues;
+      cost = c.search.ensures.cost;
+    }
 
 pub search-step-requires-clause-formed : goal.search-step-requires-clause-formed
 search-step-requires-clause-formed g t c =
     c.extend.ensures.formed
-
-pub after-returns-clause-formed : goal.after-returns-clause-formed
-after-returns-clause-formed g t c =
-    c.advance.ensures.formed
 
 pub after-open_row-requires-clause-formed : goal.after-open_row-requires-clause-formed
 after-open_row-requires-clause-formed g t c =
@@ -847,66 +449,9 @@ pub after-open_row-requires-clause-tie_free : goal.after-open_row-requires-claus
 after-open_row-requires-clause-tie_free g t c =
     c.requires.tie_free
 
-pub after-returns-in_err-open_row-clause-formed : goal.after-returns-in_err-open_row-clause-formed
-after-returns-in_err-open_row-clause-formed g t c =
-    c.open_row.ensures.formed
-
-pub after-returns-in_err-open_row-clause-queues : goal.after-returns-in_err-open_row-clause-queues
-after-returns-in_err-open_row-clause-queues g t c =
-    λ v r k. queue_grown _ _ _ (c.open_row.ensures.queues v r k)
-
-pub after-returns-in_err-extend-clause-formed : goal.after-returns-in_err-extend-clause-formed
-after-returns-in_err-extend-clause-formed g t c =
-    c.extend.ensures.formed
-
 pub after-advance-requires-clause-formed : goal.after-advance-requires-clause-formed
 after-advance-requires-clause-formed g t c =
     c.extend.ensures.formed
-
-pub search-returns-in_err-below-clause-formed : goal.search-returns-in_err-below-clause-formed
-search-returns-in_err-below-clause-formed g t c =
-    c.after.ensures.formed
-
-pub search-returns-in_err-extend-clause-formed : goal.search-returns-in_err-extend-clause-formed
-search-returns-in_err-extend-clause-formed g t c =
-    c.extend.ensures.formed
-
-pub after-returns-in-Some-clause-formed : goal.after-returns-in-Some-clause-formed
-after-returns-in-Some-clause-formed g t c =
-    c.requires.formed
-
-pub after-returns-in-Some-clause-grown : goal.after-returns-in-Some-clause-grown
-after-returns-in-Some-clause-grown g t c =
-    opened_grown c.args.self.now.tree.now (node_of c.args.self.now.entries.entries c.args.entry) c.args.self.now.entries.entries c.args.self.now.entries.entries c.args.self.now.nodes.items c.args.self.now.nodes.items refl (λ w other. refl)
-
-pub after-returns-in-Some-clause-queues : goal.after-returns-in-Some-clause-queues
-after-returns-in-Some-clause-queues g t c =
-    λ v r k. queue_itself _ _
-
-pub after-returns-in_default-top-clause-formed : goal.after-returns-in_default-top-clause-formed
-after-returns-in_default-top-clause-formed g t c =
-    c.requires.formed
-
-pub after-returns-in_default-top-clause-grown : goal.after-returns-in_default-top-clause-grown
-after-returns-in_default-top-clause-grown g t c =
-    opened_grown c.args.self.now.tree.now (node_of c.args.self.now.entries.entries c.args.entry) c.args.self.now.entries.entries c.args.self.now.entries.entries c.args.self.now.nodes.items c.args.self.now.nodes.items refl (λ w other. refl)
-
-pub after-returns-in_default-top-clause-queues : goal.after-returns-in_default-top-clause-queues
-after-returns-in_default-top-clause-queues g t c =
-    λ v r k. queue_itself _ _
-
-pub after-returns-in_default-top-clause-known : goal.after-returns-in_default-top-clause-known
-after-returns-in_default-top-clause-known g t c =
-    let none = next_is c.args.self.now.entries.entries c.args.entry None c.requires.entry (λ x. c.next_of.ensures.next x ∙ c.in_default.is) in
-    λ some. not_some (next_of c.args.self.now.entries.entries c.args.entry) none some
-
-pub after-returns-in_err-open_row-clause-tree : goal.after-returns-in_err-open_row-clause-tree
-after-returns-in_err-open_row-clause-tree g t c =
-    c.open_row.ensures.tree
-
-pub after-returns-in_err-extend-clause-tree : goal.after-returns-in_err-extend-clause-tree
-after-returns-in_err-extend-clause-tree g t c =
-    c.extend.ensures.tree ∙ c.open_row.ensures.tree
 
 pub after-advance-requires-clause-tie_free : goal.after-advance-requires-clause-tie_free
 after-advance-requires-clause-tie_free g t c =
@@ -914,7 +459,16 @@ after-advance-requires-clause-tie_free g t c =
 
 pub after-advance-requires-clause-last : goal.after-advance-requires-clause-last
 after-advance-requires-clause-last g t c =
-    in_longer _ _ _ (in_same _ _ _ c.requires.entry (ap (λ z. length z.entries) c.open_row.ensures.entries)) c.extend.ensures.extended.store.longer
+    let at = goal.at.after-advance-requires-clause-last g t c in
+    let o = entry_owned g t at.After-get-found in
+    let s = search_of g t at.After-extend in
+    let none = next_is c.args.self.now.entries.entries c.args.entry None c.requires.entry (λ x. c.next_of.ensures.next x ∙ c.in_default.is) in
+    record {
+      within = in_longer _ _ _ c.requires.entry s.extended.store.longer;
+      node = s.extended.store.nodes c.args.entry c.requires.entry ∙ o.node_is;
+      group = s.extended.store.groups c.args.entry c.requires.entry ∙ o.group_is;
+      none = s.extended.store.above c.args.entry c.requires.entry (below_next _ _ o.node_is) ∙ none;
+    }
 
 pub after-advance-requires-clause-count : goal.after-advance-requires-clause-count
 after-advance-requires-clause-count g t c =
@@ -924,114 +478,213 @@ pub after-advance-requires-clause-room : goal.after-advance-requires-clause-room
 after-advance-requires-clause-room g t c =
     c.in_ok-extend.ensures.room
 
-pub after-returns-clause-tree : goal.after-returns-clause-tree
-after-returns-clause-tree g t c =
-    c.advance.ensures.tree ∙ c.extend.ensures.tree ∙ c.open_row.ensures.tree
-
-pub after-returns-clause-answer : goal.after-returns-clause-answer
-after-returns-clause-answer g t c =
-    subst (λ (z : List (NodeView g.row.R.Denot)). IsAnswered g.R.Rank.KEYS g.R.Rank.key z c.advance.new.self.entries.entries c.args.entry c.advance.result) (c.advance.ensures.tree ∙ c.extend.ensures.tree ∙ c.open_row.ensures.tree) (subst (λ (z : List (NodeView g.row.R.Denot)). IsAnswered g.R.Rank.KEYS g.R.Rank.key z c.advance.new.self.entries.entries c.args.entry c.advance.result) (sym c.advance.ensures.tree) c.advance.ensures.answer)
-
-pub extend-returns-then-place-known-clause-formed : goal.extend-returns-then-place-known-clause-formed
-extend-returns-then-place-known-clause-formed g t c =
-    subst (λ (z : List (Linked (Found g.row.R.Denot))). IsStreams g.R.Rank.KEYS g.R.Rank.key c.args.self.now.tree.now z c.args.self.now.nodes.items) (sym c.reserve.ensures.entries) c.requires.formed
-
-pub extend-returns-then-place-known-clause-extended : goal.extend-returns-then-place-known-clause-extended
-extend-returns-then-place-known-clause-extended g t c =
-    subst (λ (z : List (Linked (Found g.row.R.Denot))). IsExtended c.args.self.now.tree.now c.args.node c.args.row c.args.count c.args.self.now.entries.entries c.args.self.now.nodes.items z c.args.self.now.nodes.items) (sym c.reserve.ensures.entries) (extended_none g.R.Rank.KEYS g.R.Rank.key c.args.self.now.tree.now c.args.node c.args.row c.args.count c.args.self.now.entries.entries c.args.self.now.nodes.items)
-
-pub extend-returns-then-place-known-clause-queues : goal.extend-returns-then-place-known-clause-queues
-extend-returns-then-place-known-clause-queues g t c =
-    λ v r k. queue_itself _ _
-
-pub extend-returns-then-place-known-clause-room : goal.extend-returns-then-place-known-clause-room
-extend-returns-then-place-known-clause-room g t c =
-    c.reserve.ensures.ok
-
-pub search-returns-in_default-clause-formed : goal.search-returns-in_default-clause-formed
-search-returns-in_default-clause-formed g t c =
-    subst (λ (z : List (Linked (Found g.row.R.Denot))). IsStreams g.R.Rank.KEYS g.R.Rank.key c.args.self.now.tree.now z c.args.self.now.nodes.items) (sym c.reserve.ensures.entries) c.requires.formed
-
-pub search-returns-in_default-clause-extended : goal.search-returns-in_default-clause-extended
-search-returns-in_default-clause-extended g t c =
-    subst (λ (z : List (Linked (Found g.row.R.Denot))). IsExtended c.args.self.now.tree.now c.args.node c.args.row c.args.count c.args.self.now.entries.entries c.args.self.now.nodes.items z c.args.self.now.nodes.items) (sym c.reserve.ensures.entries) (extended_none g.R.Rank.KEYS g.R.Rank.key c.args.self.now.tree.now c.args.node c.args.row c.args.count c.args.self.now.entries.entries c.args.self.now.nodes.items)
-
-pub search-returns-in_default-clause-queues : goal.search-returns-in_default-clause-queues
-search-returns-in_default-clause-queues g t c =
-    λ v r k. queue_itself _ _
-
-pub search-returns-in_default-clause-room : goal.search-returns-in_default-clause-room
-search-returns-in_default-clause-room g t c =
-    c.reserve.ensures.ok
+pub after-returns : goal.after-returns
+after-returns g t c =
+    let at = goal.at.after-returns g t c in
+    let o = entry_owned g t at.After-get-found in
+    let p = top_of g t at.In-Some-top o in
+    let a = row_of g t at.After-open_row o p in
+    let k = counted_of g t at.After-place_after-count o a in
+    let s = search_of g t at.After-extend in
+    record {
+      formed = c.advance.ensures.formed;
+      tree = c.advance.ensures.tree ∙ c.extend.ensures.tree ∙ c.open_row.ensures.tree;
+      grown = linked_grown o a k s c.advance.new.self.entries.entries c.advance.new.self.nodes.items (subst (λ z. IsStreams g.R.Rank.KEYS g.R.Rank.key z c.advance.new.self.entries.entries c.advance.new.self.nodes.items) (c.advance.ensures.tree ∙ c.extend.ensures.tree ∙ c.open_row.ensures.tree) c.advance.ensures.formed) c.advance.ensures.store c.advance.ensures.above c.advance.ensures.products c.advance.ensures.growth;
+      answer = subst (λ (z : List (NodeView g.row.R.Denot)). IsAnswered g.R.Rank.KEYS g.R.Rank.key z c.advance.new.self.entries.entries c.args.entry c.advance.result) (c.advance.ensures.tree ∙ c.extend.ensures.tree ∙ c.open_row.ensures.tree) (subst (λ (z : List (NodeView g.row.R.Denot)). IsAnswered g.R.Rank.KEYS g.R.Rank.key z c.advance.new.self.entries.entries c.args.entry c.advance.result) (sym c.advance.ensures.tree) c.advance.ensures.answer);
+      known =
+          let none = next_is c.args.self.now.entries.entries c.args.entry None c.requires.entry (λ x. c.next_of.ensures.next x ∙ c.in_default.is) in
+          λ some. not_some (next_of c.args.self.now.entries.entries c.args.entry) none some;
+      queues = linked_queues o a k s c.advance.new.self.entries.entries c.advance.new.self.nodes.items (subst (λ z. IsStreams g.R.Rank.KEYS g.R.Rank.key z c.advance.new.self.entries.entries c.advance.new.self.nodes.items) (c.advance.ensures.tree ∙ c.extend.ensures.tree ∙ c.open_row.ensures.tree) c.advance.ensures.formed) c.advance.ensures.store c.advance.ensures.above c.advance.ensures.products c.advance.ensures.growth;
+      cost =
+          let last : c.advance.new.steps ≤ c.extend.new.steps + 10 + 3 * child_count c.args.self.now.tree.now c.get-found.result.now.node + 4 * bit_length (length (members c.args.self.now.tree.now c.get-found.result.now.node c.get-found.result.now.group) + 1) =
+          subst (λ (z : List (NodeView g.row.R.Denot)). c.advance.new.steps ≤ c.extend.new.steps + 10 + 3 * child_count z c.get-found.result.now.node + 4 * bit_length (length (members z c.get-found.result.now.node c.get-found.result.now.group) + 1)) (c.extend.ensures.tree ∙ c.open_row.ensures.tree) c.advance.ensures.cost in
+          searched_steps o a k s c.advance.new.steps (λ b members. fewer_digits _ _ _ _ last (members c.get-found.result.now.node c.get-found.result.now.group));
+    }
 
 pub search-overflow_sub-child : goal.search-overflow_sub-child
 search-overflow_sub-child g t c =
     one_within c.args.count c.requires.some
 
-pub search-index-requires-2 : goal.search-index-requires-2
-search-index-requires-2 g t c =
-    in_same _ _ _ (in_same _ _ _ c.requires.node (c.after.ensures.formed.all_nodes ∙ ap length c.after.ensures.tree)) c.after.new.self.nodes.ok.0
+pub search-returns-in_err-below : goal.search-returns-in_err-below
+search-returns-in_err-below g t c =
+    let at = goal.at.search-returns-in_err-below g t c in
+    let a = room_of g t at.After-make_room in
+    let b = child_of g t at.After-after a in
+    record {
+      formed = c.after.ensures.formed;
+      tree = c.after.ensures.tree;
+      extended = asked_extended a b;
+      reached = none_done _ c.from_residual-in_err-below.result c.from_residual-in_err-below.ensures.0;
+      room = none_done _ c.from_residual-in_err-below.result c.from_residual-in_err-below.ensures.0;
+      refused = on_err c.from_residual-in_err-below.result (asked_unstepped a b);
+      queues = asked_queues a b;
+      cost = asked_within a b;
+    }
 
-pub search-returns-in_err-below-clause-tree : goal.search-returns-in_err-below-clause-tree
-search-returns-in_err-below-clause-tree g t c =
-    c.after.ensures.tree
+pub search-returns-in_err-extend : goal.search-returns-in_err-extend
+search-returns-in_err-extend g t c =
+    let at = goal.at.search-returns-in_err-extend g t c in
+    let a = room_of g t at.After-make_room in
+    let b = child_of g t at.After-after a in
+    let l = left_of g t at.After-extend a b in
+    record {
+      formed = c.extend.ensures.formed;
+      tree = c.extend.ensures.tree ∙ c.after.ensures.tree;
+      extended = left_extended a b l;
+      reached = none_done _ c.from_residual-in_err-extend.result c.from_residual-in_err-extend.ensures.0;
+      room = none_done _ c.from_residual-in_err-extend.result c.from_residual-in_err-extend.ensures.0;
+      refused = on_err c.from_residual-in_err-extend.result (unstepped_on c.args.node c.args.self.now.nodes.items c.after.new.self.nodes.items c.extend.new.self.nodes.items (asked_unstepped a b) c.in_err-extend.ensures.refused);
+      queues = left_queues a b l;
+      cost = left_steps a b l c.extend.new.steps (one_later _) (later_digits _ _);
+    }
 
-pub search-returns-in_err-extend-clause-tree : goal.search-returns-in_err-extend-clause-tree
-search-returns-in_err-extend-clause-tree g t c =
-    c.extend.ensures.tree ∙ c.after.ensures.tree
+pub after-returns-in_err-open_row : goal.after-returns-in_err-open_row
+after-returns-in_err-open_row g t c =
+    let at = goal.at.after-returns-in_err-open_row g t c in
+    let o = entry_owned g t at.After-get-found in
+    record {
+      formed = c.open_row.ensures.formed;
+      tree = c.open_row.ensures.tree;
+      grown =
+          subst (λ v. IsGrown (parent c.args.self.now.tree.now) v c.args.self.now.entries.entries c.args.self.now.nodes.items c.open_row.new.self.entries.entries c.open_row.new.self.nodes.items) (sym o.node_is)
+          (opened_grown c.args.self.now.tree.now c.get-found.result.now.node c.args.self.now.entries.entries c.open_row.new.self.entries.entries c.args.self.now.nodes.items c.open_row.new.self.nodes.items (ap (λ z. z.entries) c.open_row.ensures.entries) c.open_row.ensures.above);
+      answer = none_given _ c.from_residual.result c.from_residual.ensures.0;
+      known =
+          let none = next_is c.args.self.now.entries.entries c.args.entry None c.requires.entry (λ x. c.next_of.ensures.next x ∙ c.in_default.is) in
+          λ some. not_some (next_of c.args.self.now.entries.entries c.args.entry) none some;
+      queues = λ v r k. queue_grown _ _ _ (c.open_row.ensures.queues v r k);
+      cost = only_opened o c.args.steps.now c.open_row.new.steps (opened_steps _ _ _ _ _ c.next_of.ensures.cost c.get-found.ensures.cost c.open_row.ensures.cost);
+    }
 
-pub search-returns-in_err-make_room-clause-room : goal.search-returns-in_err-make_room-clause-room
-search-returns-in_err-make_room-clause-room g t c =
-    none_done _ c.from_residual.result c.from_residual.ensures.0
+pub after-returns-in_err-extend : goal.after-returns-in_err-extend
+after-returns-in_err-extend g t c =
+    let at = goal.at.after-returns-in_err-extend g t c in
+    let o = entry_owned g t at.After-get-found in
+    let p = top_of g t at.In-Some-top o in
+    let a = row_of g t at.After-open_row o p in
+    let k = counted_of g t at.After-place_after-count o a in
+    let s = search_of g t at.After-extend in
+    record {
+      formed = c.extend.ensures.formed;
+      tree = c.extend.ensures.tree ∙ c.open_row.ensures.tree;
+      grown = searched_grown o a k s;
+      answer = none_given _ c.from_residual-in_err-extend.result c.from_residual-in_err-extend.ensures.0;
+      known =
+          let none = next_is c.args.self.now.entries.entries c.args.entry None c.requires.entry (λ x. c.next_of.ensures.next x ∙ c.in_default.is) in
+          λ some. not_some (next_of c.args.self.now.entries.entries c.args.entry) none some;
+      queues = searched_queues o a k s;
+      cost = searched_steps o a k s c.extend.new.steps (λ b members. later_steps _ _ _);
+    }
 
-pub search-returns-in_err-make_room-clause-reached : goal.search-returns-in_err-make_room-clause-reached
-search-returns-in_err-make_room-clause-reached g t c =
-    none_done _ c.from_residual.result c.from_residual.ensures.0
+pub search-returns-in_err-make_room : goal.search-returns-in_err-make_room
+search-returns-in_err-make_room g t c =
+    let at = goal.at.search-returns-in_err-make_room g t c in
+    let a = room_of g t at.After-make_room in
+    record {
+      formed = a.formed;
+      tree = refl;
+      extended = made_none a;
+      reached = none_done _ c.from_residual.result c.from_residual.ensures.0;
+      room = none_done _ c.from_residual.result c.from_residual.ensures.0;
+      refused = on_err c.from_residual.result (made_unstepped a);
+      queues = made_queues a c.make_room.new.nodes.items (λ w s k. queue_itself _ _);
+      cost =
+          let kids = count_few g.R.Rank.KEYS g.R.Rank.key c.args.self.now.tree.now c.args.self.now.entries.entries c.args.self.now.nodes.items c.requires.formed c.args.node c.args.row c.args.count c.requires.node c.requires.row c.requires.count in
+          λ k b one bits members queues. none_within g.R.Rank.KEYS g.R.Rank.key c.args.self.now.tree.now c.requires.formed.tree c.args.node c.args.count b c.args.steps.now kids;
+    }
 
-pub search-returns-in_err-below-clause-room : goal.search-returns-in_err-below-clause-room
-search-returns-in_err-below-clause-room g t c =
-    none_done _ c.from_residual-in_err-below.result c.from_residual-in_err-below.ensures.0
+pub search-returns-in_default : goal.search-returns-in_default
+search-returns-in_default g t c =
+    record {
+      formed = subst (λ (z : List (Linked (Found g.row.R.Denot))). IsStreams g.R.Rank.KEYS g.R.Rank.key c.args.self.now.tree.now z c.args.self.now.nodes.items) (sym c.reserve.ensures.entries) c.requires.formed;
+      tree = refl;
+      extended = subst (λ (z : List (Linked (Found g.row.R.Denot))). IsExtended c.args.self.now.tree.now c.args.node c.args.row c.args.count c.args.self.now.entries.entries c.args.self.now.nodes.items z c.args.self.now.nodes.items) (sym c.reserve.ensures.entries) (extended_none g.R.Rank.KEYS g.R.Rank.key c.args.self.now.tree.now c.args.node c.args.row c.args.count c.args.self.now.entries.entries c.args.self.now.nodes.items);
+      reached =
+          let last : suc (c.args.count - 1) ≡ c.args.count = last_is c.args.count c.requires.some in
+          let empty = ap (λ n. (product_at n c.args.row (c.args.count - 1)).frontier) (lists_at c.args.self.now.nodes.items c.args.node c.index.result.now c.index.ensures (in_same _ _ _ c.requires.node c.requires.formed.all_nodes)) ∙ no_top c.product_top.result (product_at c.index.result.now c.args.row (c.args.count - 1)).frontier c.in_default.is c.product_top.ensures.variant in
+          let done = sums_done g.R.Rank.KEYS g.R.Rank.key c.args.self.now.tree.now c.args.self.now.entries.entries c.args.self.now.nodes.items c.requires.formed c.args.node c.args.row (c.args.count - 1) c.requires.node c.requires.row (last_below _ _ c.requires.some c.requires.count) empty in
+          on_ok c.reserve.result (subst (λ z. IsReached g.R.Rank.KEYS g.R.Rank.key c.args.self.now.tree.now c.args.self.now.nodes.items c.args.node c.args.row z (part_known c.args.self.now.nodes.items c.args.node c.args.row c.args.count)) last (inr (all_found _ _ _ done (ap (λ z. part_known c.args.self.now.nodes.items c.args.node c.args.row z) last))));
+      room = c.reserve.ensures.ok;
+      refused = on_err c.reserve.result (λ s k. (refl, refl, refl));
+      queues = λ v r k. queue_itself _ _;
+      cost =
+          let kids = count_few g.R.Rank.KEYS g.R.Rank.key c.args.self.now.tree.now c.args.self.now.entries.entries c.args.self.now.nodes.items c.requires.formed c.args.node c.args.row c.args.count c.requires.node c.requires.row c.requires.count in
+          λ k b one bits members queues. none_within g.R.Rank.KEYS g.R.Rank.key c.args.self.now.tree.now c.requires.formed.tree c.args.node c.args.count b c.args.steps.now kids;
+    }
 
-pub search-returns-in_err-below-clause-reached : goal.search-returns-in_err-below-clause-reached
-search-returns-in_err-below-clause-reached g t c =
-    none_done _ c.from_residual-in_err-below.result c.from_residual-in_err-below.ensures.0
+pub extend-returns-then-place-known : goal.extend-returns-then-place-known
+extend-returns-then-place-known g t c =
+    record {
+      formed = subst (λ (z : List (Linked (Found g.row.R.Denot))). IsStreams g.R.Rank.KEYS g.R.Rank.key c.args.self.now.tree.now z c.args.self.now.nodes.items) (sym c.reserve.ensures.entries) c.requires.formed;
+      tree = refl;
+      extended = subst (λ (z : List (Linked (Found g.row.R.Denot))). IsExtended c.args.self.now.tree.now c.args.node c.args.row c.args.count c.args.self.now.entries.entries c.args.self.now.nodes.items z c.args.self.now.nodes.items) (sym c.reserve.ensures.entries) (extended_none g.R.Rank.KEYS g.R.Rank.key c.args.self.now.tree.now c.args.node c.args.row c.args.count c.args.self.now.entries.entries c.args.self.now.nodes.items);
+      reached =
+          let known : c.known.result ≡ part_known c.args.self.now.nodes.items c.args.node c.args.row c.args.count = c.known.ensures ∙ ap (λ z. known_of z c.args.row c.args.count) (sym (lists_at c.args.self.now.nodes.items c.args.node c.index.result.now c.index.ensures (in_same _ _ _ c.requires.node c.requires.formed.all_nodes))) in
+          on_ok c.reserve.result (elim c.then-place-known.branch [
+            | extend-then-place-known-via-then-place-known w ↦ inl (subst (λ z. c.args.place < z) known w.if-place-known.true)
+            | extend-then-place-known-via-else-place-known+then-count-eq0 w ↦
+                let none : 0 ≡ c.args.count = sym w.if-count-eq0.true in
+                subst (λ z. IsReached g.R.Rank.KEYS g.R.Rank.key c.args.self.now.tree.now c.args.self.now.nodes.items c.args.node c.args.row z c.args.place) none (reached_none g.R.Rank.KEYS g.R.Rank.key c.args.self.now.tree.now c.args.self.now.entries.entries c.args.self.now.nodes.items c.requires.formed c.args.node c.args.row c.args.place c.requires.node (known_before _ _ _ _ known w.if-place-known.false (ap (λ z. part_known c.args.self.now.nodes.items c.args.node c.args.row z) none)))
+          ]);
+      room = c.reserve.ensures.ok;
+      refused = on_err c.reserve.result (λ s k. (refl, refl, refl));
+      queues = λ v r k. queue_itself _ _;
+      cost =
+          let kids = count_few g.R.Rank.KEYS g.R.Rank.key c.args.self.now.tree.now c.args.self.now.entries.entries c.args.self.now.nodes.items c.requires.formed c.args.node c.args.row c.args.count c.requires.node c.requires.row c.requires.count in
+          λ k b one bits members queues. none_within g.R.Rank.KEYS g.R.Rank.key c.args.self.now.tree.now c.requires.formed.tree c.args.node c.args.count b c.args.steps.now kids;
+    }
 
-pub search-returns-in_err-extend-clause-room : goal.search-returns-in_err-extend-clause-room
-search-returns-in_err-extend-clause-room g t c =
-    none_done _ c.from_residual-in_err-extend.result c.from_residual-in_err-extend.ensures.0
+pub after-returns-in_default-top : goal.after-returns-in_default-top
+after-returns-in_default-top g t c =
+    let none = next_is c.args.self.now.entries.entries c.args.entry None c.requires.entry (λ x. c.next_of.ensures.next x ∙ c.in_default.is) in
+    record {
+      formed = c.requires.formed;
+      tree = refl;
+      grown = opened_grown c.args.self.now.tree.now (node_of c.args.self.now.entries.entries c.args.entry) c.args.self.now.entries.entries c.args.self.now.entries.entries c.args.self.now.nodes.items c.args.self.now.nodes.items refl (λ w other. refl);
+      answer =
+          let at = goal.at.after-returns-in_default-top g t c in
+          let o = entry_owned g t at.After-get-found in
+          let none = next_is c.args.self.now.entries.entries c.args.entry None c.requires.entry (λ x. c.next_of.ensures.next x ∙ c.in_default.is) in
+          let empty : (stream_of c.args.self.now.nodes.items c.get-found.result.now.node c.get-found.result.now.group).queue ≡ [] =
+          no_top c.top.result (stream_of c.args.self.now.nodes.items c.get-found.result.now.node c.get-found.result.now.group).queue c.in_default-top.is c.top.ensures.variant in
+          last_of_all g.R.Rank.KEYS g.R.Rank.key c.args.self.now.tree.now c.args.self.now.entries.entries c.args.self.now.nodes.items c.requires.formed c.args.entry c.requires.entry none
+          (subst (λ v. (stream_of c.args.self.now.nodes.items v (group_of c.args.self.now.entries.entries c.args.entry)).queue ≡ []) (sym o.node_is) (subst (λ k. (stream_of c.args.self.now.nodes.items c.get-found.result.now.node k).queue ≡ []) (sym o.group_is) empty));
+      known = λ some. not_some (next_of c.args.self.now.entries.entries c.args.entry) none some;
+      queues = λ v r k. queue_itself _ _;
+      cost = λ k b one bits few queues. second_step _ _ _ _ _ c.next_of.ensures.cost c.get-found.ensures.cost;
+    }
 
-pub search-returns-in_err-extend-clause-reached : goal.search-returns-in_err-extend-clause-reached
-search-returns-in_err-extend-clause-reached g t c =
-    none_done _ c.from_residual-in_err-extend.result c.from_residual-in_err-extend.ensures.0
+pub after-returns-in-Some : goal.after-returns-in-Some
+after-returns-in-Some g t c =
+    record {
+      formed = c.requires.formed;
+      tree = refl;
+      grown = opened_grown c.args.self.now.tree.now (node_of c.args.self.now.entries.entries c.args.entry) c.args.self.now.entries.entries c.args.self.now.entries.entries c.args.self.now.nodes.items c.args.self.now.nodes.items refl (λ w other. refl);
+      answer = next_is c.args.self.now.entries.entries c.args.entry (Some c.in-Some.next) c.requires.entry (λ x. c.next_of.ensures.next x ∙ c.in-Some.is);
+      known = λ some. (refl, refl, omega (arith, c.next_of.ensures.cost));
+      queues = λ v r k. queue_itself _ _;
+      cost = λ k b one bits few queues. first_step _ _ _ _ c.next_of.ensures.cost;
+    }
 
-pub after-returns-in_err-open_row-clause-answer : goal.after-returns-in_err-open_row-clause-answer
-after-returns-in_err-open_row-clause-answer g t c =
-    none_given _ c.from_residual.result c.from_residual.ensures.0
-
-pub after-returns-in_err-extend-clause-answer : goal.after-returns-in_err-extend-clause-answer
-after-returns-in_err-extend-clause-answer g t c =
-    none_given _ c.from_residual-in_err-extend.result c.from_residual-in_err-extend.ensures.0
-
-pub search-returns-in_err-make_room-clause-tree : goal.search-returns-in_err-make_room-clause-tree
-search-returns-in_err-make_room-clause-tree g t c =
-    refl
-
-pub search-returns-in_default-clause-tree : goal.search-returns-in_default-clause-tree
-search-returns-in_default-clause-tree g t c =
-    refl
-
-pub extend-returns-then-place-known-clause-tree : goal.extend-returns-then-place-known-clause-tree
-extend-returns-then-place-known-clause-tree g t c =
-    refl
-
-pub after-returns-in_default-top-clause-tree : goal.after-returns-in_default-top-clause-tree
-after-returns-in_default-top-clause-tree g t c =
-    refl
-
-pub after-returns-in-Some-clause-tree : goal.after-returns-in-Some-clause-tree
-after-returns-in-Some-clause-tree g t c =
-    refl
-
-pub search-returns-clause-refused : goal.search-returns-clause-refused
-search-returns-clause-refused g t c =
-    tt
+pub search-returns : goal.search-returns
+search-returns g t c =
+    let at = goal.at.search-returns g t c in
+    let a = room_of g t at.After-make_room in
+    let b = child_of g t at.After-after a in
+    let l = left_of g t at.After-extend a b in
+    record {
+      formed = c.step.ensures.formed;
+      tree = c.step.ensures.tree ∙ l.searched.tree;
+      extended = subst (λ (y : List (Linked (Found g.row.R.Denot))). IsExtended c.args.self.now.tree.now c.args.node c.args.row c.args.count c.args.self.now.entries.entries c.args.self.now.nodes.items y c.step.new.self.nodes.items) (sym (ap (λ z. z.entries) c.step.ensures.entries)) (one_more_extended a b l c.step.new.self.nodes.items c.step.ensures.changed);
+      reached =
+          let same : part_known c.extend.new.self.nodes.items c.args.node c.args.row c.args.count ≡ part_known c.args.self.now.nodes.items c.args.node c.args.row c.args.count =
+          ap (λ z. part_known c.extend.new.self.nodes.items c.args.node c.args.row z) (sym a.last) ∙ ap (λ (z : ProductView g.row.R.Denot). length z.found) l.product ∙ ap length a.found ∙ ap (λ z. part_known c.args.self.now.nodes.items c.args.node c.args.row z) a.last in
+          let more : (c.args.count - 1) + 1 ≡ c.args.count = next_last c.args.count a.last in
+          subst (λ z. IsReached g.R.Rank.KEYS g.R.Rank.key c.args.self.now.tree.now c.step.new.self.nodes.items c.args.node c.args.row c.args.count z) same
+          (subst (λ z. IsReached g.R.Rank.KEYS g.R.Rank.key c.args.self.now.tree.now c.step.new.self.nodes.items c.args.node c.args.row z (part_known c.extend.new.self.nodes.items c.args.node c.args.row z)) more
+          (subst (λ (y : List (NodeView g.row.R.Denot)). IsReached g.R.Rank.KEYS g.R.Rank.key y c.step.new.self.nodes.items c.args.node c.args.row ((c.args.count - 1) + 1) (part_known c.extend.new.self.nodes.items c.args.node c.args.row ((c.args.count - 1) + 1))) l.searched.tree c.step.ensures.reached));
+      room = subst (λ n. 0 < n) (sym (ap (λ z. z.spare) c.step.ensures.entries)) c.in_ok-extend.ensures.room;
+      refused = tt;
+      queues = one_more_queues a b l c.step.new.self.nodes.items c.step.ensures.changed c.step.ensures.queue;
+      cost = left_steps a b l c.step.new.steps (one_later _) c.step.ensures.cost;
+    }

@@ -1,4 +1,4 @@
-use Rattle.std.proofs.Common.{◌≡◌, ℕ, ◌+◌, ◌-◌, ◌<◌, suc, length, get_or, refl, sym, ap, ◌∙◌, subst, arith}
+use Rattle.std.proofs.Common.{◌≡◌, ◌≢◌, ℕ, ◌+◌, ◌-◌, ◌*◌, ◌<◌, ◌≤◌, suc, length, get_or, refl, sym, ap, ◌∙◌, subst, arith}
 use Rattle.tdp_core.specs.TreeView.{parent, rows, number, child_count, group_named, rank}
 use Rattle.tdp_core.proofs.Children.{kids_below_most}
 use Rattle.tdp_model.specs.KeyTuple.{key_add, key_none}
@@ -16,6 +16,66 @@ use Rattle.suffix_streams.proofs.PartRows.{IsSolvedAt, known_own, solved_at}
 use Rattle.suffix_streams.proofs.solutions.Solutions.+walk.Given.{Over}
 use Rattle.suffix_streams.proofs.solutions.Solutions.+walk.Goals.{add_entry_rows-After-child_count-count, add_entry_rows-After-get-found, add_part_rows-After-part_cell-cell, add_sum_rows-After-add_part_rows}
 use Rattle.suffix_streams.proofs.solutions.Solutions.+walk.Goals as goal
+
+-- # Numbers
+
+same_few : (n m : ℕ) → n ≡ m → n ≤ m
+same_few n m e = omega arith
+
+some_is : (n : ℕ) → n ≢ 0 → 1 ≤ n
+some_is n some = omega arith
+
+last_is : (n : ℕ) → n ≢ 0 → n - 1 + 1 ≡ n
+last_is n some = omega arith
+
+last_below : (n m : ℕ) → n ≢ 0 → n ≤ m → n - 1 < m
+last_below n m some few = omega arith
+
+below_last : (k n : ℕ) → n ≡ suc k → k < n
+below_last k n e = omega arith
+
+before_is : (k n : ℕ) → k < n → k ≤ n
+before_is k n l = omega arith
+
+next_is : (k : ℕ) → suc k ≡ k + 1
+next_is k = omega arith
+
+kids_last : (count kids : ℕ) → count ≡ kids → count ≢ 0 → kids ≡ suc (count - 1)
+kids_last count kids e some = omega arith
+
+kids_few : (count kids n most : ℕ) → count ≡ kids → kids ≤ n → n ≤ most → count ≤ most
+kids_few count kids n most e h few = omega arith
+
+-- # What gets smaller with each call
+
+entry_smaller : (t n v w count : ℕ) → 64 * (n - w) + 63 ≡ t → w ≡ v → count ≤ 16 → 64 * (n - v) + 2 * (count - 1) + 1 < t
+entry_smaller t n v w count h e few = omega arith
+
+part_smaller : (t n v count : ℕ) → 64 * (n - v) + 2 * count ≡ t → count ≢ 0 → 64 * (n - v) + 2 * (count - 1) + 1 < t
+part_smaller t n v count h some = omega arith
+
+sum_smaller : (t n v child : ℕ) → 64 * (n - v) + 2 * child + 1 ≡ t → 64 * (n - v) + 2 * child < t
+sum_smaller t n v child h = omega arith
+
+below_smaller : (t n v w u p child : ℕ) → 64 * (n - v) + 2 * child + 1 ≡ t → w ≡ u → p < u → p ≡ v → u < n → 64 * (n - w) + 63 < t
+below_smaller t n v w u p child h e above is within = omega arith
+
+-- # Steps: k, m and sub are the sizes of what is below
+
+own_within : (s s1 k sub sub' : ℕ) → s1 ≡ s + 1 → k + 1 ≤ sub → sub' ≡ sub → s1 + 1 ≤ s + 4 * sub'
+own_within s s1 k sub sub' read smaller same = omega arith
+
+sum_within : (s s1 s2 k k' sub sub' : ℕ) → s1 ≡ s + 1 → s2 ≤ s1 + 4 * k' → k' ≡ k → k + 1 ≤ sub → sub' ≡ sub → s2 + 1 ≤ s + 4 * sub'
+sum_within s s1 s2 k k' sub sub' read sum e smaller same = omega arith
+
+both_within : (s s1 s2 k sub sub' m m' : ℕ) → s1 ≤ s + 1 + 4 * k → s2 + 1 ≤ s1 + 4 * sub' → sub' ≡ sub → m ≡ k + sub → m ≡ m' → s2 ≤ s + 4 * m'
+both_within s s1 s2 k sub sub' m m' left right same sum e = omega arith
+
+part_within : (s s1 s2 m m' : ℕ) → s1 ≤ s + 1 → s2 ≤ s1 + 4 * m' → m' ≡ m → s2 ≤ s + 1 + 4 * m
+part_within s s1 s2 m m' read sum e = omega arith
+
+none_within : (s n : ℕ) → s ≤ s + 1 + n
+none_within s n = omega arith
 
 -- # What the proofs share about an entry
 
@@ -104,23 +164,18 @@ add_entry_rows-add_own_row-requires-clause-fits g t c =
     let at = goal.at.add_entry_rows-add_own_row-requires-clause-fits g t c in
     subst (AreAddable g.R.Rank.KEYS c.args.numbers.now) (sym (own_is g t at.After-child_count-count (solved_of g t at.After-get-found) (omega (arith, c.if-count-eq0.true)))) c.requires.fits
 
-pub add_entry_rows-returns-then-count-eq0-clause-added : goal.add_entry_rows-returns-then-count-eq0-clause-added
-add_entry_rows-returns-then-count-eq0-clause-added g t c =
-    let at = goal.at.add_entry_rows-returns-then-count-eq0-clause-added g t c in
-    subst (λ k. AreAdded g.R.Rank.KEYS c.args.numbers.now k c.add_own_row.new.numbers) (own_is g t at.After-child_count-count (solved_of g t at.After-get-found) (omega (arith, c.if-count-eq0.true))) c.add_own_row.ensures.added
-
-pub add_entry_rows-returns-then-count-eq0-clause-cost : goal.add_entry_rows-returns-then-count-eq0-clause-cost
-add_entry_rows-returns-then-count-eq0-clause-cost g t c =
-    let at = goal.at.add_entry_rows-returns-then-count-eq0-clause-cost g t c in
-    let tree = c.args.self.now.tree.now in
-    let s = solved_of g t at.After-get-found in
-    let kids = kids_of g t at.After-child_count-count s in
-    omega (
-      arith,
-      c.get-found.ensures.cost,
-      kids_smaller g.R.Rank.KEYS g.R.Rank.key tree c.requires.formed.tree c.get-found.result.now.node c.child_count-count.result s.node (omega (arith, kids)),
-      ap (λ v. subtree_size tree v) s.owner,
-    )
+pub add_entry_rows-returns-then-count-eq0 : goal.add_entry_rows-returns-then-count-eq0
+add_entry_rows-returns-then-count-eq0 g t c =
+    let at = goal.at.add_entry_rows-returns-then-count-eq0 g t c in
+    record {
+      added = subst (λ k. AreAdded g.R.Rank.KEYS c.args.numbers.now k c.add_own_row.new.numbers) (own_is g t at.After-child_count-count (solved_of g t at.After-get-found) (omega (arith, c.if-count-eq0.true))) c.add_own_row.ensures.added;
+      cost =
+          let tree = c.args.self.now.tree.now in
+          let s = solved_of g t at.After-get-found in
+          let kids = kids_of g t at.After-child_count-count s in
+          own_within _ _ _ _ _ c.get-found.ensures.cost
+          (kids_smaller g.R.Rank.KEYS g.R.Rank.key tree c.requires.formed.tree c.get-found.result.now.node c.child_count-count.result s.node (same_few _ _ kids)) (ap (λ v. subtree_size tree v) s.owner);
+    }
 
 pub add_entry_rows-add_sum_rows-requires : goal.add_entry_rows-add_sum_rows-requires
 add_entry_rows-add_sum_rows-requires g t c κs within =
@@ -129,8 +184,8 @@ add_entry_rows-add_sum_rows-requires g t c κs within =
     let f = c.get-found.result.now in
     let s = solved_of g t at.After-get-found in
     let kids = kids_of g t at.After-child_count-count s in
-    let last : child_count tree f.node ≡ suc (c.child_count-count.result - 1) = omega (arith, kids, c.if-count-eq0.false) in (
-      omega (arith, c.decreases, s.owner, s.node, kids, kids_below_most (parent tree) f.node (length tree), c.requires.formed.tree.shaped.few_nodes),
+    let last : child_count tree f.node ≡ suc (c.child_count-count.result - 1) = kids_last _ _ kids c.if-count-eq0.false in (
+      entry_smaller _ _ _ _ _ c.decreases s.owner (kids_few _ _ _ _ kids (kids_below_most (parent tree) f.node (length tree)) c.requires.formed.tree.shaped.few_nodes),
       (
         within.0,
         (
@@ -148,7 +203,7 @@ add_entry_rows-add_sum_rows-requires g t c κs within =
                     (
                       number_of g t at.After-child_count-count s,
                       (
-                        omega (arith, last),
+                        below_last _ _ last,
                         (
                           (s.place, own_parts g t at.After-child_count-count s (c.child_count-count.result - 1) last),
                           subst (AreAddable g.R.Rank.KEYS c.args.numbers.now) (sym (sum_is g t at.After-child_count-count s (c.child_count-count.result - 1) last)) c.requires.fits,
@@ -164,30 +219,21 @@ add_entry_rows-add_sum_rows-requires g t c κs within =
       ),
     )
 
-pub add_entry_rows-returns-else-count-eq0-clause-added : goal.add_entry_rows-returns-else-count-eq0-clause-added
-add_entry_rows-returns-else-count-eq0-clause-added g t c =
-    let at = goal.at.add_entry_rows-returns-else-count-eq0-clause-added g t c in
+pub add_entry_rows-returns-else-count-eq0 : goal.add_entry_rows-returns-else-count-eq0
+add_entry_rows-returns-else-count-eq0 g t c =
+    let at = goal.at.add_entry_rows-returns-else-count-eq0 g t c in
     let s = solved_of g t at.After-get-found in
     let kids = kids_of g t at.After-child_count-count s in
-    let last : child_count c.args.self.now.tree.now c.get-found.result.now.node ≡ suc (c.child_count-count.result - 1) = omega (arith, kids, c.if-count-eq0.false) in
-    subst (λ k. AreAdded g.R.Rank.KEYS c.args.numbers.now k c.add_sum_rows.new.numbers) (sum_is g t at.After-child_count-count s (c.child_count-count.result - 1) last) c.add_sum_rows.ensures.added
-
-pub add_entry_rows-returns-else-count-eq0-clause-cost : goal.add_entry_rows-returns-else-count-eq0-clause-cost
-add_entry_rows-returns-else-count-eq0-clause-cost g t c =
-    let at = goal.at.add_entry_rows-returns-else-count-eq0-clause-cost g t c in
-    let tree = c.args.self.now.tree.now in
-    let f = c.get-found.result.now in
-    let s = solved_of g t at.After-get-found in
-    let kids = kids_of g t at.After-child_count-count s in
-    let more : c.child_count-count.result - 1 + 1 ≡ c.child_count-count.result = omega (arith, c.if-count-eq0.false) in
-    omega (
-      arith,
-      c.get-found.ensures.cost,
-      c.add_sum_rows.ensures.cost,
-      ap (λ k. kids_size tree f.node k) more,
-      kids_smaller g.R.Rank.KEYS g.R.Rank.key tree c.requires.formed.tree f.node c.child_count-count.result s.node (omega (arith, kids)),
-      ap (λ v. subtree_size tree v) s.owner,
-    )
+    record {
+      added =
+          let last : child_count c.args.self.now.tree.now c.get-found.result.now.node ≡ suc (c.child_count-count.result - 1) = kids_last _ _ kids c.if-count-eq0.false in
+          subst (λ k. AreAdded g.R.Rank.KEYS c.args.numbers.now k c.add_sum_rows.new.numbers) (sum_is g t at.After-child_count-count s (c.child_count-count.result - 1) last) c.add_sum_rows.ensures.added;
+      cost =
+          let tree = c.args.self.now.tree.now in
+          let f = c.get-found.result.now in
+          sum_within _ _ _ _ _ _ _ c.get-found.ensures.cost c.add_sum_rows.ensures.cost (ap (λ k. kids_size tree f.node k) (last_is _ c.if-count-eq0.false))
+          (kids_smaller g.R.Rank.KEYS g.R.Rank.key tree c.requires.formed.tree f.node c.child_count-count.result s.node (same_few _ _ kids)) (ap (λ v. subtree_size tree v) s.owner);
+    }
 
 -- # The rows of a row's solution with its first children
 
@@ -201,25 +247,12 @@ add_part_rows-add_own_row-requires-clause-fits g t c =
     (sym (own_at g.R.Rank.KEYS g.R.Rank.key c.args.self.now.tree.now c.requires.formed.tree c.args.self.now.nodes.items c.args.node c.args.row c.args.count c.args.place (rank c.args.self.now.tree.now g.R.Rank.KEYS g.R.Rank.key c.args.node c.args.row) c.requires.node (omega arith) known refl))
     c.requires.fits
 
-pub add_part_rows-returns-then-count-eq0-clause-added : goal.add_part_rows-returns-then-count-eq0-clause-added
-add_part_rows-returns-then-count-eq0-clause-added g t c =
-    let known = known_own g.R.Rank.KEYS g.R.Rank.key c.args.self.now.tree.now c.args.self.now.entries.entries c.args.self.now.nodes.items c.requires.formed c.args.node c.args.row c.args.count c.args.place (omega arith) c.requires.place in
-    subst (λ k. AreAdded g.R.Rank.KEYS c.args.numbers.now k c.add_own_row.new.numbers)
-    (own_at g.R.Rank.KEYS g.R.Rank.key c.args.self.now.tree.now c.requires.formed.tree c.args.self.now.nodes.items c.args.node c.args.row c.args.count c.args.place (rank c.args.self.now.tree.now g.R.Rank.KEYS g.R.Rank.key c.args.node c.args.row) c.requires.node (omega arith) known refl)
-    c.add_own_row.ensures.added
-
 pub add_part_rows-add_sum_rows-requires : goal.add_part_rows-add_sum_rows-requires
 add_part_rows-add_sum_rows-requires g t c κs within =
     let at = goal.at.add_part_rows-add_sum_rows-requires g t c in
-    let more : c.args.count - 1 + 1 ≡ c.args.count = omega (arith, c.if-count-eq0.false) in
+    let more = last_is c.args.count c.if-count-eq0.false in
     let fits = subst (AreAddable g.R.Rank.KEYS c.args.numbers.now) (sym (part_is g t at.After-part_cell-cell more)) c.requires.fits in
-    (omega (arith, c.decreases, c.if-count-eq0.false), (within.0, (within.1.0, (within.1.1, (c.requires.formed, (c.requires.tie_free, (c.requires.node, (c.requires.row, (c.requires.number, (omega (arith, c.requires.count, c.if-count-eq0.false), ((c.args.place, c.part_cell-cell.ensures.sum), fits)))))))))))
-
-pub add_part_rows-returns-else-count-eq0-clause-added : goal.add_part_rows-returns-else-count-eq0-clause-added
-add_part_rows-returns-else-count-eq0-clause-added g t c =
-    let at = goal.at.add_part_rows-returns-else-count-eq0-clause-added g t c in
-    let more : c.args.count - 1 + 1 ≡ c.args.count = omega (arith, c.if-count-eq0.false) in
-    subst (λ k. AreAdded g.R.Rank.KEYS c.args.numbers.now k c.add_sum_rows.new.numbers) (part_is g t at.After-part_cell-cell more) c.add_sum_rows.ensures.added
+    (part_smaller _ _ _ _ c.decreases c.if-count-eq0.false, (within.0, (within.1.0, (within.1.1, (c.requires.formed, (c.requires.tie_free, (c.requires.node, (c.requires.row, (c.requires.number, (last_below _ _ c.if-count-eq0.false c.requires.count, ((c.args.place, c.part_cell-cell.ensures.sum), fits)))))))))))
 
 -- # The rows of a sum
 
@@ -232,7 +265,7 @@ add_sum_rows-add_part_rows-requires g t c κs within =
     let x = c.args.cell.now in
     let fits = left_addable d c.args.numbers.now (get_or (part_list d key tree c.args.node c.args.row c.args.child) x.left (key_none d 16))
     (get_or (group_list d key tree (child tree c.args.node c.args.child) (group_named tree c.args.node c.args.row c.args.child)) (place_of es x.right) (key_none d 16)) c.requires.fits in
-    (omega (arith, c.decreases), (within.0, (within.1.0, (within.1.1, (c.requires.formed, (c.requires.tie_free, (c.requires.node, (c.requires.row, (c.requires.number, (omega (arith, c.requires.child), (c.requires.parts.1.left, fits)))))))))))
+    (sum_smaller _ _ _ _ c.decreases, (within.0, (within.1.0, (within.1.1, (c.requires.formed, (c.requires.tie_free, (c.requires.node, (c.requires.row, (c.requires.number, (before_is _ _ c.requires.child, (c.requires.parts.1.left, fits)))))))))))
 
 module _ (g : Over) (t : ℕ) where
   -- the key of the right part, by its entry
@@ -261,33 +294,27 @@ add_sum_rows-add_entry_rows-requires g t c κs within =
     let above = c.requires.formed.tree.shaped.parents_first (child tree c.args.node c.args.child) k.some k.within in
     let fits = right_addable d c.args.numbers.now (get_or (part_list d key tree c.args.node c.args.row c.args.child) x.left (key_none d 16))
     (get_or (group_list d key tree (child tree c.args.node c.args.child) (group_named tree c.args.node c.args.row c.args.child)) (place_of es x.right) (key_none d 16)) c.add_part_rows.new.numbers c.requires.fits c.add_part_rows.ensures.added in
-    (omega (arith, c.decreases, cell.node, above, k.parent_is, k.within, c.requires.node), (within.0, (within.1.0, (within.1.1, (c.requires.formed, (c.requires.tie_free, (cell.right, subst (AreAddable d c.add_part_rows.new.numbers) (sym (right_is g t at.After-add_part_rows)) fits)))))))
+    (below_smaller _ _ _ _ _ _ _ c.decreases cell.node above k.parent_is k.within, (within.0, (within.1.0, (within.1.1, (c.requires.formed, (c.requires.tie_free, (cell.right, subst (AreAddable d c.add_part_rows.new.numbers) (sym (right_is g t at.After-add_part_rows)) fits)))))))
 
-pub add_sum_rows-returns-clause-added : goal.add_sum_rows-returns-clause-added
-add_sum_rows-returns-clause-added g t c =
-    let at = goal.at.add_sum_rows-returns-clause-added g t c in
-    let d = g.R.Rank.KEYS in
-    let key = g.R.Rank.key in
+pub add_sum_rows-returns : goal.add_sum_rows-returns
+add_sum_rows-returns g t c =
     let tree = c.args.self.now.tree.now in
-    let es = c.args.self.now.entries.entries in
-    let x = c.args.cell.now in
-    both_added d c.args.numbers.now (get_or (part_list d key tree c.args.node c.args.row c.args.child) x.left (key_none d 16))
-    (get_or (group_list d key tree (child tree c.args.node c.args.child) (group_named tree c.args.node c.args.row c.args.child)) (place_of es x.right) (key_none d 16)) c.add_part_rows.new.numbers c.add_entry_rows.new.numbers c.add_part_rows.ensures.added
-    (subst (λ k. AreAdded d c.add_part_rows.new.numbers k c.add_entry_rows.new.numbers) (right_is g t at.After-add_part_rows) c.add_entry_rows.ensures.added)
-
-pub add_sum_rows-returns-clause-cost : goal.add_sum_rows-returns-clause-cost
-add_sum_rows-returns-clause-cost g t c =
-    let tree = c.args.self.now.tree.now in
-    let cell = c.requires.parts.1 in
-    let last : suc c.args.child ≡ c.args.child + 1 = omega arith in
-    omega (
-      arith,
-      c.add_part_rows.ensures.cost,
-      c.add_entry_rows.ensures.cost,
-      ap (λ v. subtree_size tree v) cell.node,
-      kids_size_more g.R.Rank.KEYS g.R.Rank.key tree c.requires.formed.tree c.args.node c.args.child,
-      ap (λ k. kids_size tree c.args.node k) last,
-    )
+    record {
+      added =
+          let at = goal.at.add_sum_rows-returns g t c in
+          let d = g.R.Rank.KEYS in
+          let key = g.R.Rank.key in
+          let tree = c.args.self.now.tree.now in
+          let es = c.args.self.now.entries.entries in
+          let x = c.args.cell.now in
+          both_added d c.args.numbers.now (get_or (part_list d key tree c.args.node c.args.row c.args.child) x.left (key_none d 16))
+          (get_or (group_list d key tree (child tree c.args.node c.args.child) (group_named tree c.args.node c.args.row c.args.child)) (place_of es x.right) (key_none d 16)) c.add_part_rows.new.numbers c.add_entry_rows.new.numbers c.add_part_rows.ensures.added
+          (subst (λ k. AreAdded d c.add_part_rows.new.numbers k c.add_entry_rows.new.numbers) (right_is g t at.After-add_part_rows) c.add_entry_rows.ensures.added);
+      cost =
+          let cell = c.requires.parts.1 in
+          both_within _ _ _ _ _ _ _ _ c.add_part_rows.ensures.cost c.add_entry_rows.ensures.cost (ap (λ v. subtree_size tree v) cell.node)
+          (kids_size_more g.R.Rank.KEYS g.R.Rank.key tree c.requires.formed.tree c.args.node c.args.child) (ap (λ k. kids_size tree c.args.node k) (next_is c.args.child));
+    }
 
 pub add_part_rows-part_cell-cell-requires-clause-formed : goal.add_part_rows-part_cell-cell-requires-clause-formed
 add_part_rows-part_cell-cell-requires-clause-formed g t c =
@@ -307,20 +334,20 @@ add_part_rows-part_cell-cell-requires-clause-row g t c =
 
 pub add_part_rows-part_cell-cell-requires-clause-child : goal.add_part_rows-part_cell-cell-requires-clause-child
 add_part_rows-part_cell-cell-requires-clause-child g t c =
-    omega (arith, c.requires.count, c.if-count-eq0.false)
+    last_below _ _ c.if-count-eq0.false c.requires.count
 
 pub add_part_rows-part_cell-cell-requires-clause-place : goal.add_part_rows-part_cell-cell-requires-clause-place
 add_part_rows-part_cell-cell-requires-clause-place g t c =
-    let more : c.args.count ≡ c.args.count - 1 + 1 = omega (arith, c.if-count-eq0.false) in
+    let more : c.args.count ≡ c.args.count - 1 + 1 = sym (last_is _ c.if-count-eq0.false) in
     subst (λ z. IsKnownPart c.args.self.now.nodes.items c.args.node c.args.row z c.args.place) more c.requires.place
 
 pub add_part_rows-overflow_sub-count : goal.add_part_rows-overflow_sub-count
 add_part_rows-overflow_sub-count g t c =
-    omega (arith, c.if-count-eq0.false)
+    some_is _ c.if-count-eq0.false
 
 pub add_part_rows-overflow_sub-count-else-count-eq0 : goal.add_part_rows-overflow_sub-count-else-count-eq0
 add_part_rows-overflow_sub-count-else-count-eq0 g t c =
-    omega (arith, c.if-count-eq0.false)
+    some_is _ c.if-count-eq0.false
 
 pub add_part_rows-add_own_row-requires-clause-formed : goal.add_part_rows-add_own_row-requires-clause-formed
 add_part_rows-add_own_row-requires-clause-formed g t c =
@@ -336,21 +363,30 @@ add_part_rows-add_own_row-requires-clause-row g t c =
 
 pub add_entry_rows-overflow_sub-count : goal.add_entry_rows-overflow_sub-count
 add_entry_rows-overflow_sub-count g t c =
-    omega (arith, c.if-count-eq0.false)
-
-pub add_entry_rows-get-found-requires : goal.add_entry_rows-get-found-requires
-add_entry_rows-get-found-requires g t c =
-    c.requires.entry
+    some_is _ c.if-count-eq0.false
 
 pub add_entry_rows-add_own_row-requires-clause-formed : goal.add_entry_rows-add_own_row-requires-clause-formed
 add_entry_rows-add_own_row-requires-clause-formed g t c =
     c.requires.formed.tree
 
-pub add_part_rows-returns-then-count-eq0-clause-cost : goal.add_part_rows-returns-then-count-eq0-clause-cost
-add_part_rows-returns-then-count-eq0-clause-cost g t c =
-    omega arith
+pub add_part_rows-returns-then-count-eq0 : goal.add_part_rows-returns-then-count-eq0
+add_part_rows-returns-then-count-eq0 g t c =
+    record {
+      added =
+          let known = known_own g.R.Rank.KEYS g.R.Rank.key c.args.self.now.tree.now c.args.self.now.entries.entries c.args.self.now.nodes.items c.requires.formed c.args.node c.args.row c.args.count c.args.place (omega arith) c.requires.place in
+          subst (λ k. AreAdded g.R.Rank.KEYS c.args.numbers.now k c.add_own_row.new.numbers)
+          (own_at g.R.Rank.KEYS g.R.Rank.key c.args.self.now.tree.now c.requires.formed.tree c.args.self.now.nodes.items c.args.node c.args.row c.args.count c.args.place (rank c.args.self.now.tree.now g.R.Rank.KEYS g.R.Rank.key c.args.node c.args.row) c.requires.node (omega arith) known refl)
+          c.add_own_row.ensures.added;
+      cost = none_within _ _;
+    }
 
-pub add_part_rows-returns-else-count-eq0-clause-cost : goal.add_part_rows-returns-else-count-eq0-clause-cost
-add_part_rows-returns-else-count-eq0-clause-cost g t c =
-    let more : c.args.count ≡ c.args.count - 1 + 1 = omega (arith, c.if-count-eq0.false) in
-    omega (arith, c.part_cell-cell.ensures.cost, c.add_sum_rows.ensures.cost, ap (λ z. kids_size c.args.self.now.tree.now c.args.node z) more)
+pub add_part_rows-returns-else-count-eq0 : goal.add_part_rows-returns-else-count-eq0
+add_part_rows-returns-else-count-eq0 g t c =
+    record {
+      cost =
+          part_within _ _ _ _ _ c.part_cell-cell.ensures.cost c.add_sum_rows.ensures.cost (ap (λ z. kids_size c.args.self.now.tree.now c.args.node z) (last_is _ c.if-count-eq0.false));
+      added =
+          let at = goal.at.add_part_rows-returns-else-count-eq0 g t c in
+          let more = last_is c.args.count c.if-count-eq0.false in
+          subst (λ k. AreAdded g.R.Rank.KEYS c.args.numbers.now k c.add_sum_rows.new.numbers) (part_is g t at.After-part_cell-cell more) c.add_sum_rows.ensures.added;
+    }

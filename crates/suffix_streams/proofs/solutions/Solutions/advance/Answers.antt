@@ -1,16 +1,14 @@
 use Rattle.std.proofs.Common.{◌≡◌, ◌≢◌, ℕ, ◌+◌, ◌*◌, ◌<◌, ◌≤◌, None, Some, IfSome, IfNone, is_some, List, [], ◌∷◌, ◌++◌, length, get_or, refl, sym, ap, ◌∙◌, subst, arith}
-use Rattle.take2_heap.specs.Order.{IsLeast}
 use Rattle.tdp_core.specs.TreeView.{number, members, child_count}
 use Rattle.tdp_model.specs.KeyTuple.{key_none}
 use Rattle.stream_store.specs.declared.entry.Linked.{Linked}
 use Rattle.take2_heap.specs.declared.entry.Entry.{Entry}
 use Rattle.suffix_streams.specs.declared.stream.Found.{Found}
 use Rattle.suffix_streams.specs.declared.stream.Solved.{Solved}
-use Rattle.suffix_streams.specs.NodeStreamsView.{NodeStreamsView, stream_at, with_queue}
+use Rattle.suffix_streams.specs.NodeStreamsView.{NodeStreamsView, with_queue}
 use Rattle.suffix_streams.specs.TreeStreams.{IsSumOf, row_known, products_of, IsStreams, node_list, group_list_of, node_of, group_of, stream, lists_of, stream_of}
 use Rattle.suffix_streams.specs.Growing.{IsAnswered}
 use Rattle.suffix_streams.proofs.Changes.{lists_other, lists_same}
-use Rattle.suffix_streams.proofs.Heads.{lists_at}
 use Rattle.suffix_streams.proofs.Kept.{held_itself}
 use Rattle.suffix_streams.proofs.StepCells.{first_of, no_top}
 use Rattle.suffix_streams.proofs.Merging.{queued_products}
@@ -24,7 +22,7 @@ use Rattle.stream_model.specs.Links.{owned, IsLinkedAt}
 use Rattle.suffix_streams.specs.Rankings.{part_list, group_list}
 use Rattle.suffix_streams.proofs.QueuePass.{IsGroupTop, IsQueuePassed, IsEntryLinked, whole_stream, group_top, queue_passed, passed_ends, passed_grows, entry_linked}
 use Rattle.suffix_streams.proofs.solutions.Solutions.advance.Given.{Over}
-use Rattle.suffix_streams.proofs.solutions.Solutions.advance.Goals.{After-as_slice, After-index, After-pass_last, After-push_reserved-next, After-set_next, In_ok-top}
+use Rattle.suffix_streams.proofs.solutions.Solutions.advance.Goals.{After-as_slice, After-pass_last, After-push_reserved-next, After-set_next, In_ok-top}
 use Rattle.suffix_streams.proofs.solutions.Solutions.advance.Goals as goal
 
 -- # What the proofs share
@@ -32,7 +30,7 @@ use Rattle.suffix_streams.proofs.solutions.Solutions.advance.Goals as goal
 module _ (g : Over) where
   top_of : (c : After-as_slice g) → IsGroupTop g.R.Rank.KEYS g.R.Rank.key c.args.self.now.tree.now c.args.self.now.entries.entries c.args.self.now.nodes.items c.args.last c.args.node c.args.group c.args.row
   top_of c =
-      group_top g.R.Rank.KEYS g.R.Rank.key c.args.self.now.tree.now c.args.self.now.entries.entries c.args.self.now.nodes.items c.args.last c.args.node c.args.group c.args.row c.args.member c.requires.formed c.requires.last c.requires.node c.requires.group c.requires.top c.requires.member c.requires.row
+      group_top g.R.Rank.KEYS g.R.Rank.key c.args.self.now.tree.now c.args.self.now.entries.entries c.args.self.now.nodes.items c.args.last c.args.node c.args.group c.args.row c.args.member c.requires.formed c.requires.last.within c.requires.last.node c.requires.last.group c.requires.top.some c.requires.top.member c.requires.row
 
   -- the offer, in terms of the nodes
   offer_of : (c : After-pass_last g) → IfNone c.row_offer-offer.result (row_known c.args.self.now.nodes.items c.args.node c.args.row ≤ c.args.place) × IfSome c.row_offer-offer.result (λ e. (e.tag.member ≡ c.args.member) × (e.tag.place ≡ c.args.place)) × IfSome c.row_offer-offer.result (λ e. c.args.place < row_known c.args.self.now.nodes.items c.args.node c.args.row) × IfSome c.row_offer-offer.result (λ e. (e.tag.row ≡ c.args.row) × (e.tag.number ≡ number c.args.self.now.tree.now c.args.node c.args.row) × ((i : ℕ) → child_count c.args.self.now.tree.now c.args.node ≡ i + 1 → IsSumOf g.R.Rank.KEYS g.R.Rank.key c.args.self.now.tree.now c.args.self.now.entries.entries c.args.self.now.nodes.items c.args.node c.args.row i c.args.place e.tag.cell))
@@ -45,7 +43,7 @@ module _ (g : Over) where
   passed_of : (c : After-pass_last g) → IsGroupTop g.R.Rank.KEYS g.R.Rank.key c.args.self.now.tree.now c.args.self.now.entries.entries c.args.self.now.nodes.items c.args.last c.args.node c.args.group c.args.row → IsQueuePassed g.R.Rank.KEYS g.R.Rank.key c.args.self.now.tree.now c.args.self.now.entries.entries c.args.self.now.nodes.items c.args.node c.args.group (stream_of c.pass_last.new.nodes.items c.args.node c.args.group).queue
   passed_of c o =
       let f = offer_of c in
-      queue_passed o c.requires.tie_free c.args.member c.args.place c.row_offer-offer.result (stream_of c.pass_last.new.nodes.items c.args.node c.args.group).queue c.requires.formed c.pass_last.ensures.moved c.requires.top c.requires.member c.requires.after c.requires.row c.requires.count c.requires.place f.0 f.1 f.2 f.3 f.4 c.pass_last.ensures.least
+      queue_passed o c.requires.tie_free c.args.member c.args.place c.row_offer-offer.result (stream_of c.pass_last.new.nodes.items c.args.node c.args.group).queue c.requires.formed c.pass_last.ensures.moved c.requires.top.some c.requires.top.member c.requires.top.after c.requires.row c.requires.count c.requires.place f.0 f.1 f.2 f.3 f.4 c.pass_last.ensures.least
 
   old_queue : (c : After-pass_last g) → IsGroupTop g.R.Rank.KEYS g.R.Rank.key c.args.self.now.tree.now c.args.self.now.entries.entries c.args.self.now.nodes.items c.args.last c.args.node c.args.group c.args.row → length (stream_of c.args.self.now.nodes.items c.args.node c.args.group).queue ≤ length (members c.args.self.now.tree.now c.args.node c.args.group)
   old_queue c o = (c.requires.formed.streams c.args.node c.args.group o.node o.group).few
@@ -65,18 +63,6 @@ module _ (g : Over) where
         bit_length_rises (length (stream_of c.pass_last.new.nodes.items c.args.node c.args.group).queue) (n + 1) (omega (arith, new)),
       )
 
-  -- the lists of the node that are read then
-  read_of : (c : After-index g) → IsGroupTop g.R.Rank.KEYS g.R.Rank.key c.args.self.now.tree.now c.args.self.now.entries.entries c.args.self.now.nodes.items c.args.last c.args.node c.args.group c.args.row → lists_of c.pass_last.new.nodes.items c.args.node ≡ c.index.result.now
-  read_of c o =
-      let long = set_length c.args.self.now.nodes.items c.args.node (with_queue (lists_of c.args.self.now.nodes.items c.args.node) c.args.group (stream_of c.pass_last.new.nodes.items c.args.node c.args.group).queue (stream_of c.pass_last.new.nodes.items c.args.node c.args.group).room) in
-      lists_at c.pass_last.new.nodes.items c.args.node c.index.result.now c.index.ensures (omega (arith, o.in_nodes, ap length c.pass_last.ensures.changed, long))
-
-  some_of : (c : In_ok-top g) → lists_of c.pass_last.new.nodes.items c.args.node ≡ c.index.result.now → 0 < length (stream_of c.pass_last.new.nodes.items c.args.node c.args.group).queue
-  some_of c read = subst (λ n. 0 < length (stream_at n c.args.group).queue) (sym read) (c.top.ensures.variant.0 (ap is_some c.in_ok-top.was))
-
-  first_is : (c : In_ok-top g) → lists_of c.pass_last.new.nodes.items c.args.node ≡ c.index.result.now → c.in_ok-top.top ≡ get_or (stream_of c.pass_last.new.nodes.items c.args.node c.args.group).queue 0 c.in_ok-top.top
-  first_is c read = c.in_ok-top.ensures.top c.in_ok-top.top ∙ ap (λ n. get_or (stream_at n c.args.group).queue 0 c.in_ok-top.top) (sym read)
-
   -- the nodes but this one are as they were
   others_of : (c : After-pass_last g) (v : ℕ) → v ≢ c.args.node → lists_of c.pass_last.new.nodes.items v ≡ lists_of c.args.self.now.nodes.items v
   others_of c v other =
@@ -91,86 +77,7 @@ module _ (g : Over) where
       omega (arith, ap length c.push_reserved-next.ensures.entries, count_more c.args.self.now.entries.entries e)
 
   linked_of : (c : After-set_next g) → IsGroupTop g.R.Rank.KEYS g.R.Rank.key c.args.self.now.tree.now c.args.self.now.entries.entries c.args.self.now.nodes.items c.args.last c.args.node c.args.group c.args.row → IsEntryLinked c.args.self.now.tree.now c.args.self.now.entries.entries c.set_next.new.self.entries c.args.last (record { node = c.args.node; group = c.args.group; solution = c.kept_solution.result })
-  linked_of c o = entry_linked o c.kept_solution.result c.push_reserved-next.new.self.entries c.set_next.new.self.entries c.push_reserved-next.result c.requires.formed c.requires.last c.requires.node c.requires.group c.requires.none c.push_reserved-next.ensures.id c.push_reserved-next.ensures.entries c.set_next.ensures.entries
-
-pub returns-in_err-top-clause-formed : goal.returns-in_err-top-clause-formed
-returns-in_err-top-clause-formed g c =
-    let at = goal.at.returns-in_err-top-clause-formed g c in
-    let o = top_of g at.After-as_slice in
-    let p = passed_of g at.After-pass_last o in
-    let changed = c.pass_last.ensures.changed in
-    let read = read_of g at.After-index o in
-    let empty : (stream_of c.pass_last.new.nodes.items c.args.node c.args.group).queue ≡ [] = ap (λ n. (stream_at n c.args.group).queue) read ∙ no_top c.top.result (stream_at c.index.result.now c.args.group).queue c.in_err-top.was c.top.ensures.variant in
-    subst (λ (z : List (NodeStreamsView g.row.R.Denot)). IsStreams g.R.Rank.KEYS g.R.Rank.key c.args.self.now.tree.now c.args.self.now.entries.entries z) (sym changed) (passed_ends p (stream_of c.pass_last.new.nodes.items c.args.node c.args.group).room empty)
-
-pub returns-in_err-top-clause-answer : goal.returns-in_err-top-clause-answer
-returns-in_err-top-clause-answer g c =
-    let at = goal.at.returns-in_err-top-clause-answer g c in
-    let o = top_of g at.After-as_slice in
-    let p = passed_of g at.After-pass_last o in
-    let read = read_of g at.After-index o in
-    let empty : (stream_of c.pass_last.new.nodes.items c.args.node c.args.group).queue ≡ [] = ap (λ n. (stream_at n c.args.group).queue) read ∙ no_top c.top.result (stream_at c.index.result.now c.args.group).queue c.in_err-top.was c.top.ensures.variant in
-    let link = subst (λ o. IsLinkedAt (node_list c.args.self.now.entries.entries) (group_list_of c.args.self.now.entries.entries) c.args.last o) c.requires.none (c.requires.formed.linked c.args.last (omega (arith, c.requires.last, node_length c.args.self.now.entries.entries))) in
-    subst (λ o. IsAnswered g.R.Rank.KEYS g.R.Rank.key c.args.self.now.tree.now c.args.self.now.entries.entries c.args.last o) (sym c.from_residual.ensures)
-    (ap (λ z. length (group_list g.R.Rank.KEYS g.R.Rank.key c.args.self.now.tree.now z (group_of c.args.self.now.entries.entries c.args.last))) c.requires.node ∙ ap (λ z. length (group_list g.R.Rank.KEYS g.R.Rank.key c.args.self.now.tree.now c.args.node z)) c.requires.group ∙ sym (whole_stream p empty) ∙ stream_owned c.args.self.now.entries.entries c.args.node c.args.group
-    ∙ ap (λ z. owned (node_list c.args.self.now.entries.entries) (group_list_of c.args.self.now.entries.entries) z c.args.group) (sym c.requires.node) ∙ ap (λ z. owned (node_list c.args.self.now.entries.entries) (group_list_of c.args.self.now.entries.entries) (node_of c.args.self.now.entries.entries c.args.last) z) (sym c.requires.group) ∙ sym link)
-
-pub returns-in_err-top-clause-cost : goal.returns-in_err-top-clause-cost
-returns-in_err-top-clause-cost g c =
-    let at = goal.at.returns-in_err-top-clause-cost g c in
-    let o = top_of g at.After-as_slice in
-    let digits = digits_of g at.After-pass_last o in
-    omega (arith, digits)
-
-pub returns-clause-products : goal.returns-clause-products
-returns-clause-products g c =
-    let at = goal.at.returns-clause-products g c in
-    let o = top_of g at.After-as_slice in
-    let changed = c.pass_last.ensures.changed in
-    ap (λ (z : List (NodeStreamsView g.row.R.Denot)). (lists_of z c.args.node).products) changed ∙ queued_products g.R.Rank.KEYS g.R.Rank.key c.args.self.now.tree.now c.args.self.now.entries.entries c.args.self.now.entries.entries c.args.self.now.nodes.items c.requires.formed (held_itself c.args.self.now.entries.entries) c.args.node c.args.group o.node o.group (stream_of c.pass_last.new.nodes.items c.args.node c.args.group).queue (stream_of c.pass_last.new.nodes.items c.args.node c.args.group).room c.args.node
-
-pub returns-clause-store : goal.returns-clause-store
-returns-clause-store g c =
-    let at = goal.at.returns-clause-store g c in
-    let o = top_of g at.After-as_slice in
-    let e = linked_of g at.After-set_next o in
-    e.store
-
-pub returns-clause-growth : goal.returns-clause-growth
-returns-clause-growth g c v =
-    let at = goal.at.returns-clause-growth g c in
-    let o = top_of g at.After-as_slice in
-    let e = linked_of g at.After-set_next o in
-    e.growth v
-
-pub returns-clause-answer : goal.returns-clause-answer
-returns-clause-answer g c =
-    let at = goal.at.returns-clause-answer g c in
-    let o = top_of g at.After-as_slice in
-    let e = linked_of g at.After-set_next o in
-    e.answer ∙ ap Some (sym c.push_reserved-next.ensures.id)
-
-pub returns-clause-cost : goal.returns-clause-cost
-returns-clause-cost g c =
-    let at = goal.at.returns-clause-cost g c in
-    let o = top_of g at.After-as_slice in
-    let digits = digits_of g at.After-pass_last o in
-    omega (arith, digits, c.push_reserved-next.ensures.cost, c.set_next.ensures.cost)
-
-pub returns-clause-formed : goal.returns-clause-formed
-returns-clause-formed g c =
-    let at = goal.at.returns-clause-formed g c in
-    let o = top_of g at.After-as_slice in
-    let p = passed_of g at.After-pass_last o in
-    let changed = c.pass_last.ensures.changed in
-    let read = read_of g at.After-index o in
-    let some = some_of g at.In_ok-top read in
-    let first = first_is g at.In_ok-top read in
-    let e = linked_of g at.After-set_next o in
-    subst (λ (z : List (NodeStreamsView g.row.R.Denot)). IsStreams g.R.Rank.KEYS g.R.Rank.key c.args.self.now.tree.now c.set_next.new.self.entries z) (sym changed)
-    (passed_grows p (stream_of c.pass_last.new.nodes.items c.args.node c.args.group).room c.set_next.new.self.entries c.in_ok-top.top (entry_held c.args.self.now.entries.entries c.set_next.new.self.entries e.store) e.owners e.linked e.others
-    (e.longer ∙ ap (λ (z : Entry g.row.R.Denot Solved). stream c.args.self.now.entries.entries c.args.node c.args.group ++ (z ∷ [])) c.kept_solution.ensures) some first
-    (subst (λ n. IsLeast g.R.Rank.KEYS g.R.Rank.key c.in_ok-top.top (stream_at n c.args.group).queue) (sym read) c.in_ok-top.ensures.least))
+  linked_of c o = entry_linked o c.kept_solution.result c.push_reserved-next.new.self.entries c.set_next.new.self.entries c.push_reserved-next.result c.requires.formed c.requires.last.within c.requires.last.node c.requires.last.group c.requires.last.none c.push_reserved-next.ensures.id c.push_reserved-next.ensures.entries c.set_next.ensures.entries
 
 pub row_offer-offer-requires-clause-row : goal.row_offer-offer-requires-clause-row
 row_offer-offer-requires-clause-row g c =
@@ -179,27 +86,19 @@ row_offer-offer-requires-clause-row g c =
 
 pub row_offer-offer-requires-clause-place : goal.row_offer-offer-requires-clause-place
 row_offer-offer-requires-clause-place g c =
-    let x = first_of (stream_of c.args.self.now.nodes.items c.args.node c.args.group).queue c.requires.top in
-    let place : x.0.tag.place + 1 ≡ c.args.place = ap (λ e. e.tag.place + 1) x.1 ∙ c.requires.after x.0 in
+    let x = first_of (stream_of c.args.self.now.nodes.items c.args.node c.args.group).queue c.requires.top.some in
+    let place : x.0.tag.place + 1 ≡ c.args.place = ap (λ e. e.tag.place + 1) x.1 ∙ c.requires.top.after x.0 in
     omega (arith, place)
 
-pub top-requires : goal.top-requires
-top-requires g c =
-    let at = goal.at.top-requires g c in
+pub top-requires-clause-group : goal.top-requires-clause-group
+top-requires-clause-group g c =
+    let at = goal.at.top-requires-clause-group g c in
     let o = top_of g at.After-as_slice in
-    let read = read_of g c o in
     let n = c.args.self.now.nodes.items in
     let queued = with_queue (lists_of n c.args.node) c.args.group (stream_of c.pass_last.new.nodes.items c.args.node c.args.group).queue (stream_of c.pass_last.new.nodes.items c.args.node c.args.group).room in
     let streams = ap (λ (z : List (NodeStreamsView g.row.R.Denot)). length (lists_of z c.args.node).streams) c.pass_last.ensures.changed ∙ ap (λ (m : NodeStreamsView g.row.R.Denot). length m.streams) (lists_same n c.args.node queued o.in_nodes)
     ∙ set_length (lists_of n c.args.node).streams c.args.group (record (stream_of n c.args.node c.args.group) { queue = (stream_of c.pass_last.new.nodes.items c.args.node c.args.group).queue; room = (stream_of c.pass_last.new.nodes.items c.args.node c.args.group).room }) in
-    omega (arith, o.group, c.requires.formed.all_streams c.args.node o.node, streams, ap (λ (m : NodeStreamsView g.row.R.Denot). length m.streams) read)
-
-pub returns-in_err-top-clause-products : goal.returns-in_err-top-clause-products
-returns-in_err-top-clause-products g c =
-    let at = goal.at.returns-in_err-top-clause-products g c in
-    let o = top_of g at.After-as_slice in
-    let changed = c.pass_last.ensures.changed in
-    ap (λ (z : List (NodeStreamsView g.row.R.Denot)). (lists_of z c.args.node).products) changed ∙ queued_products g.R.Rank.KEYS g.R.Rank.key c.args.self.now.tree.now c.args.self.now.entries.entries c.args.self.now.entries.entries c.args.self.now.nodes.items c.requires.formed (held_itself c.args.self.now.entries.entries) c.args.node c.args.group o.node o.group (stream_of c.pass_last.new.nodes.items c.args.node c.args.group).queue (stream_of c.pass_last.new.nodes.items c.args.node c.args.group).room c.args.node
+    omega (arith, o.group, c.requires.formed.all_streams c.args.node o.node, streams)
 
 pub pass_last-requires-clause-group : goal.pass_last-requires-clause-group
 pass_last-requires-clause-group g c =
@@ -230,40 +129,47 @@ pass_last-requires-clause-node g c =
     (top_of g at.After-as_slice).node
 
 pub pass_last-requires-clause-top : goal.pass_last-requires-clause-top
-pass_last-requires-clause-top g c = c.requires.top
+pass_last-requires-clause-top g c = c.requires.top.some
 
 pub pass_last-requires-clause-room : goal.pass_last-requires-clause-room
 pass_last-requires-clause-room g c = c.requires.queue_room
 
-pub index-requires : goal.index-requires
-index-requires g c =
-    let at = goal.at.index-requires g c in
+pub top-requires-clause-node : goal.top-requires-clause-node
+top-requires-clause-node g c =
+    let at = goal.at.top-requires-clause-node g c in
     let o = top_of g at.After-as_slice in
     let long = set_length c.args.self.now.nodes.items c.args.node (with_queue (lists_of c.args.self.now.nodes.items c.args.node) c.args.group (stream_of c.pass_last.new.nodes.items c.args.node c.args.group).queue (stream_of c.pass_last.new.nodes.items c.args.node c.args.group).room) in
     omega (arith, o.in_nodes, ap length c.pass_last.ensures.changed, long)
 
-pub returns-in_err-top-clause-tree : goal.returns-in_err-top-clause-tree
-returns-in_err-top-clause-tree g c = refl
-
-pub returns-in_err-top-clause-store : goal.returns-in_err-top-clause-store
-returns-in_err-top-clause-store g c = store_stays c.args.node c.args.self.now.entries.entries
-
-pub returns-in_err-top-clause-above : goal.returns-in_err-top-clause-above
-returns-in_err-top-clause-above g c v other =
-    let at = goal.at.returns-in_err-top-clause-above g c in
-    others_of g at.After-pass_last v other
-
-pub returns-in_err-top-clause-growth : goal.returns-in_err-top-clause-growth
-returns-in_err-top-clause-growth g c v = omega arith
-
-pub push_reserved-next-requires : goal.push_reserved-next-requires
-push_reserved-next-requires g c = c.requires.room
+pub returns-in_err-top : goal.returns-in_err-top
+returns-in_err-top g c =
+    let at = goal.at.returns-in_err-top g c in
+    let o = top_of g at.After-as_slice in
+    let p = passed_of g at.After-pass_last o in
+    let empty : (stream_of c.pass_last.new.nodes.items c.args.node c.args.group).queue ≡ [] = no_top c.top.result (stream_of c.pass_last.new.nodes.items c.args.node c.args.group).queue c.in_err-top.was c.top.ensures.variant in
+    let changed = c.pass_last.ensures.changed in
+    record {
+      answer =
+          let link = subst (λ o. IsLinkedAt (node_list c.args.self.now.entries.entries) (group_list_of c.args.self.now.entries.entries) c.args.last o) c.requires.last.none (c.requires.formed.linked c.args.last (omega (arith, c.requires.last.within, node_length c.args.self.now.entries.entries))) in
+          subst (λ o. IsAnswered g.R.Rank.KEYS g.R.Rank.key c.args.self.now.tree.now c.args.self.now.entries.entries c.args.last o) (sym c.from_residual.ensures)
+          (ap (λ z. length (group_list g.R.Rank.KEYS g.R.Rank.key c.args.self.now.tree.now z (group_of c.args.self.now.entries.entries c.args.last))) c.requires.last.node ∙ ap (λ z. length (group_list g.R.Rank.KEYS g.R.Rank.key c.args.self.now.tree.now c.args.node z)) c.requires.last.group ∙ sym (whole_stream p empty) ∙ stream_owned c.args.self.now.entries.entries c.args.node c.args.group
+          ∙ ap (λ z. owned (node_list c.args.self.now.entries.entries) (group_list_of c.args.self.now.entries.entries) z c.args.group) (sym c.requires.last.node) ∙ ap (λ z. owned (node_list c.args.self.now.entries.entries) (group_list_of c.args.self.now.entries.entries) (node_of c.args.self.now.entries.entries c.args.last) z) (sym c.requires.last.group) ∙ sym link);
+      formed = subst (λ (z : List (NodeStreamsView g.row.R.Denot)). IsStreams g.R.Rank.KEYS g.R.Rank.key c.args.self.now.tree.now c.args.self.now.entries.entries z) (sym changed) (passed_ends p (stream_of c.pass_last.new.nodes.items c.args.node c.args.group).room empty);
+      growth = λ v. omega arith;
+      store = store_stays c.args.node c.args.self.now.entries.entries;
+      products = ap (λ (z : List (NodeStreamsView g.row.R.Denot)). (lists_of z c.args.node).products) changed ∙ queued_products g.R.Rank.KEYS g.R.Rank.key c.args.self.now.tree.now c.args.self.now.entries.entries c.args.self.now.entries.entries c.args.self.now.nodes.items c.requires.formed (held_itself c.args.self.now.entries.entries) c.args.node c.args.group o.node o.group (stream_of c.pass_last.new.nodes.items c.args.node c.args.group).queue (stream_of c.pass_last.new.nodes.items c.args.node c.args.group).room c.args.node;
+      above = λ v other. others_of g at.After-pass_last v other;
+      tree = refl;
+      cost =
+          let digits = digits_of g at.After-pass_last o in
+          omega (arith, digits);
+    }
 
 pub set_next-requires-clause-id : goal.set_next-requires-clause-id
 set_next-requires-clause-id g c =
     let at = goal.at.set_next-requires-clause-id g c in
     let pushed = pushed_of g at.After-push_reserved-next in
-    omega (arith, c.requires.last, pushed)
+    omega (arith, c.requires.last.within, pushed)
 
 pub set_next-requires-clause-to : goal.set_next-requires-clause-to
 set_next-requires-clause-to g c =
@@ -276,13 +182,28 @@ set_next-requires-clause-none g c d =
     let es = c.args.self.now.entries.entries in
     let e : Linked (Found g.row.R.Denot) = record { value = record { node = c.args.node; group = c.args.group; solution = c.kept_solution.result }; next = None } in
     ap (λ (z : List (Linked (Found g.row.R.Denot))). (get_or z c.args.last d).next) c.push_reserved-next.ensures.entries
-    ∙ ap (λ (x : Linked (Found g.row.R.Denot)). x.next) (at_more es e d c.args.last c.requires.last)
-    ∙ sym (next_value es c.args.last d c.requires.last) ∙ c.requires.none
+    ∙ ap (λ (x : Linked (Found g.row.R.Denot)). x.next) (at_more es e d c.args.last c.requires.last.within)
+    ∙ sym (next_value es c.args.last d c.requires.last.within) ∙ c.requires.last.none
 
-pub returns-clause-tree : goal.returns-clause-tree
-returns-clause-tree g c = refl
-
-pub returns-clause-above : goal.returns-clause-above
-returns-clause-above g c v other =
-    let at = goal.at.returns-clause-above g c in
-    others_of g at.After-pass_last v other
+pub returns : goal.returns
+returns g c =
+    let at = goal.at.returns g c in
+    let o = top_of g at.After-as_slice in
+    let e = linked_of g at.After-set_next o in
+    let changed = c.pass_last.ensures.changed in
+    record {
+      cost =
+          let digits = digits_of g at.After-pass_last o in
+          omega (arith, digits, c.push_reserved-next.ensures.cost, c.set_next.ensures.cost);
+      store = e.store;
+      products = ap (λ (z : List (NodeStreamsView g.row.R.Denot)). (lists_of z c.args.node).products) changed ∙ queued_products g.R.Rank.KEYS g.R.Rank.key c.args.self.now.tree.now c.args.self.now.entries.entries c.args.self.now.entries.entries c.args.self.now.nodes.items c.requires.formed (held_itself c.args.self.now.entries.entries) c.args.node c.args.group o.node o.group (stream_of c.pass_last.new.nodes.items c.args.node c.args.group).queue (stream_of c.pass_last.new.nodes.items c.args.node c.args.group).room c.args.node;
+      formed =
+          let p = passed_of g at.After-pass_last o in
+          subst (λ (z : List (NodeStreamsView g.row.R.Denot)). IsStreams g.R.Rank.KEYS g.R.Rank.key c.args.self.now.tree.now c.set_next.new.self.entries z) (sym changed)
+          (passed_grows p (stream_of c.pass_last.new.nodes.items c.args.node c.args.group).room c.set_next.new.self.entries c.in_ok-top.top (entry_held c.args.self.now.entries.entries c.set_next.new.self.entries e.store) e.owners e.linked e.others
+          (e.longer ∙ ap (λ (z : Entry g.row.R.Denot Solved). stream c.args.self.now.entries.entries c.args.node c.args.group ++ (z ∷ [])) c.kept_solution.ensures) (c.top.ensures.variant.0 (ap is_some c.in_ok-top.was)) (c.in_ok-top.ensures.top c.in_ok-top.top) c.in_ok-top.ensures.least);
+      tree = refl;
+      answer = e.answer ∙ ap Some (sym c.push_reserved-next.ensures.id);
+      growth = λ v. e.growth v;
+      above = λ v other. others_of g at.After-pass_last v other;
+    }

@@ -53,38 +53,6 @@ make_products-requires-clause-headed g c =
     subst (λ (z : List (NodeStreamsView g.row.R.Denot)). IsHeaded g.R.Rank.KEYS g.R.Rank.key c.args.self.now.tree.now c.args.self.now.entries.entries z c.args.node c.args.row) (sym c.as_slice.ensures.value)
     (headed_of g.R.Rank.KEYS g.R.Rank.key c.args.self.now.tree.now c.args.self.now.entries.entries c.make_queue_room.new.nodes.items (room_of g at.After-make_queue_room).formed c.args.node c.args.row c.requires.node c.requires.row)
 
-pub returns-in_ok-set_products-clause-formed : goal.returns-in_ok-set_products-clause-formed
-returns-in_ok-set_products-clause-formed g c =
-    let at = goal.at.returns-in_ok-set_products-clause-formed g c in
-    let inside : c.args.node < length c.make_queue_room.new.nodes.items = in_same _ _ _ c.requires.node (room_of g at.After-make_queue_room).formed.all_nodes in
-    let few = row_lacks g.R.Rank.KEYS g.R.Rank.key c.args.self.now.tree.now c.args.self.now.entries.entries c.make_queue_room.new.nodes.items (room_of g at.After-make_queue_room).formed c.args.node c.args.row c.requires.node c.requires.row c.index-lists.result.now c.index-lists.ensures c.product_count.result c.child_count.result c.product_count.ensures c.child_count.ensures c.if-product_count-child_count.true in
-    let fresh = subst (λ (z : List (NodeStreamsView g.row.R.Denot)). AreFreshTo g.R.Rank.KEYS g.R.Rank.key c.args.self.now.tree.now z c.args.node c.args.row (child_count c.args.self.now.tree.now c.args.node) c.make_products.new.products.items) c.as_slice.ensures.value c.in_ok-make_products.ensures.fresh in
-    subst (λ (z : List (NodeStreamsView g.row.R.Denot)). IsStreams g.R.Rank.KEYS g.R.Rank.key c.args.self.now.tree.now c.args.self.now.entries.entries z)
-    (sym (opened_is c.make_queue_room.new.nodes.items c.args.node c.args.row c.index_mut.result.now c.set_products.new.self c.make_products.new.products.items inside c.index_mut.ensures.value c.in_ok-set_products.ensures.set))
-    (row_opened g.R.Rank.KEYS g.R.Rank.key c.args.self.now.tree.now c.args.self.now.entries.entries c.make_queue_room.new.nodes.items (room_of g at.After-make_queue_room).formed c.requires.tie_free c.args.node c.args.row c.requires.node c.requires.row c.make_products.new.products.items fresh few.0 few.1)
-
-pub returns-in_ok-set_products-clause-count : goal.returns-in_ok-set_products-clause-count
-returns-in_ok-set_products-clause-count g c =
-    let at = goal.at.returns-in_ok-set_products-clause-count g c in
-    let inside : c.args.node < length c.make_queue_room.new.nodes.items = in_same _ _ _ c.requires.node (room_of g at.After-make_queue_room).formed.all_nodes in
-    let few = row_lacks g.R.Rank.KEYS g.R.Rank.key c.args.self.now.tree.now c.args.self.now.entries.entries c.make_queue_room.new.nodes.items (room_of g at.After-make_queue_room).formed c.args.node c.args.row c.requires.node c.requires.row c.index-lists.result.now c.index-lists.ensures c.product_count.result c.child_count.result c.product_count.ensures c.child_count.ensures c.if-product_count-child_count.true in
-    let fresh = subst (λ (z : List (NodeStreamsView g.row.R.Denot)). AreFreshTo g.R.Rank.KEYS g.R.Rank.key c.args.self.now.tree.now z c.args.node c.args.row (child_count c.args.self.now.tree.now c.args.node) c.make_products.new.products.items) c.as_slice.ensures.value c.in_ok-make_products.ensures.fresh in
-    ap (λ (z : List (NodeStreamsView g.row.R.Denot)). length (products_of z c.args.node c.args.row))
-    (opened_is c.make_queue_room.new.nodes.items c.args.node c.args.row c.index_mut.result.now c.set_products.new.self c.make_products.new.products.items inside c.index_mut.ensures.value c.in_ok-set_products.ensures.set)
-    ∙ ap length (opened_row g.R.Rank.KEYS g.R.Rank.key c.args.self.now.tree.now c.args.self.now.entries.entries c.make_queue_room.new.nodes.items (room_of g at.After-make_queue_room).formed c.requires.tie_free c.args.node c.args.row c.requires.node c.requires.row c.make_products.new.products.items fresh few.0 few.1)
-    ∙ fresh.count
-
-pub returns-in_ok-set_products-clause-queues : goal.returns-in_ok-set_products-clause-queues
-returns-in_ok-set_products-clause-queues g c =
-    let at = goal.at.returns-in_ok-set_products-clause-queues g c in
-    let inside : c.args.node < length c.make_queue_room.new.nodes.items = in_same _ _ _ c.requires.node (room_of g at.After-make_queue_room).formed.all_nodes in
-    let few = row_lacks g.R.Rank.KEYS g.R.Rank.key c.args.self.now.tree.now c.args.self.now.entries.entries c.make_queue_room.new.nodes.items (room_of g at.After-make_queue_room).formed c.args.node c.args.row c.requires.node c.requires.row c.index-lists.result.now c.index-lists.ensures c.product_count.result c.child_count.result c.product_count.ensures c.child_count.ensures c.if-product_count-child_count.true in
-    let fresh = subst (λ (z : List (NodeStreamsView g.row.R.Denot)). AreFreshTo g.R.Rank.KEYS g.R.Rank.key c.args.self.now.tree.now z c.args.node c.args.row (child_count c.args.self.now.tree.now c.args.node) c.make_products.new.products.items) c.as_slice.ensures.value c.in_ok-make_products.ensures.fresh in
-    λ v r k. subst (λ q. length (product_of (slice_set c.make_queue_room.new.nodes.items c.args.node c.set_products.new.self) v r k).frontier ≤ max 1 q + 0) (room_queues g at.After-make_queue_room v r k) (
-    subst (λ (z : List (NodeStreamsView g.row.R.Denot)). (v r k : ℕ) → length (product_of z v r k).frontier ≤ max 1 (length (product_of c.make_queue_room.new.nodes.items v r k).frontier) + 0)
-    (sym (opened_is c.make_queue_room.new.nodes.items c.args.node c.args.row c.index_mut.result.now c.set_products.new.self c.make_products.new.products.items inside c.index_mut.ensures.value c.in_ok-set_products.ensures.set))
-    (opened_queues g.R.Rank.KEYS g.R.Rank.key c.args.self.now.tree.now c.args.self.now.entries.entries c.make_queue_room.new.nodes.items (room_of g at.After-make_queue_room).formed c.requires.tie_free c.args.node c.args.row c.requires.node c.requires.row c.make_products.new.products.items fresh few.0 few.1) v r k)
-
 pub set_products-requires-clause-row : goal.set_products-requires-clause-row
 set_products-requires-clause-row g c =
     let at = goal.at.set_products-requires-clause-row g c in
@@ -100,69 +68,9 @@ set_products-requires-clause-count g c =
     c.in_ok-make_products.ensures.fresh.count
     ∙ sym (children_count g.R.Rank.KEYS g.R.Rank.key c.args.self.now.tree.now c.args.self.now.entries.entries c.make_queue_room.new.nodes.items c.args.node c.args.row c.index_mut.result.now headed c.requires.node c.index_mut.ensures.value)
 
-pub returns-in_err-make_queue_room-clause-formed : goal.returns-in_err-make_queue_room-clause-formed
-returns-in_err-make_queue_room-clause-formed g c =
-    let at = goal.at.returns-in_err-make_queue_room-clause-formed g c in
-    (room_of g at.After-make_queue_room).formed
-
-pub returns-in_err-make_products-clause-formed : goal.returns-in_err-make_products-clause-formed
-returns-in_err-make_products-clause-formed g c =
-    let at = goal.at.returns-in_err-make_products-clause-formed g c in
-    (room_of g at.After-make_queue_room).formed
-
-pub returns-in_err-make_products-clause-streams : goal.returns-in_err-make_products-clause-streams
-returns-in_err-make_products-clause-streams g c =
-    let at = goal.at.returns-in_err-make_products-clause-streams g c in
-    (room_of g at.After-make_queue_room).streams
-
-pub returns-in_err-make_products-clause-queues : goal.returns-in_err-make_products-clause-queues
-returns-in_err-make_products-clause-queues g c v r k =
-    let at = goal.at.returns-in_err-make_products-clause-queues g c in
-    omega (arith, room_queues g at.After-make_queue_room v r k)
-
 -- the nodes after the products of a row were refused
 refused : (g : Over) (c : After-set_products g) → c.set_products.new.self ≡ c.index_mut.result.now → slice_set c.make_queue_room.new.nodes.items c.args.node c.set_products.new.self ≡ c.make_queue_room.new.nodes.items
 refused g c same = put_back c.make_queue_room.new.nodes.items c.args.node c.index_mut.result.now c.set_products.new.self c.index_mut.ensures.value same
-
-pub returns-in_err-set_products-clause-formed : goal.returns-in_err-set_products-clause-formed
-returns-in_err-set_products-clause-formed g c =
-    let at = goal.at.returns-in_err-set_products-clause-formed g c in
-    subst (λ (z : List (NodeStreamsView g.row.R.Denot)). IsStreams g.R.Rank.KEYS g.R.Rank.key c.args.self.now.tree.now c.args.self.now.entries.entries z) (sym (refused g at.After-set_products c.in_err-set_products.ensures.refused)) (room_of g at.After-make_queue_room).formed
-
-pub returns-in_err-set_products-clause-queues : goal.returns-in_err-set_products-clause-queues
-returns-in_err-set_products-clause-queues g c v r k =
-    let at = goal.at.returns-in_err-set_products-clause-queues g c in
-    subst (λ (z : List (NodeStreamsView g.row.R.Denot)). length (product_of z v r k).frontier ≤ max 1 (length (product_of c.args.self.now.nodes.items v r k).frontier) + 0) (sym (refused g at.After-set_products c.in_err-set_products.ensures.refused))
-    (omega (arith, room_queues g at.After-make_queue_room v r k))
-
-pub returns-else-product_count-child_count-clause-formed : goal.returns-else-product_count-child_count-clause-formed
-returns-else-product_count-child_count-clause-formed g c =
-    let at = goal.at.returns-else-product_count-child_count-clause-formed g c in
-    (room_of g at.After-make_queue_room).formed
-
-pub returns-then-place-gt0-clause-above : goal.returns-then-place-gt0-clause-above
-returns-then-place-gt0-clause-above g c =
-    λ v n. refl
-
-pub returns-then-place-gt0-clause-streams : goal.returns-then-place-gt0-clause-streams
-returns-then-place-gt0-clause-streams g c =
-    sym (set-get_or (lists_of c.args.self.now.nodes.items c.args.node).streams c.args.group (record { head = 0; queue = []; room = 0 }))
-
-pub returns-then-place-gt0-clause-room : goal.returns-then-place-gt0-clause-room
-returns-then-place-gt0-clause-room g c =
-    λ none. absurd (omega (arith, none, c.if-place-gt0.true))
-
-pub returns-then-place-gt0-clause-count : goal.returns-then-place-gt0-clause-count
-returns-then-place-gt0-clause-count g c =
-    c.requires.formed.whole_rows c.args.node c.args.row c.requires.node c.requires.row (products_of_second (lists_of c.args.self.now.nodes.items c.args.node) c.args.row (length (products_of c.args.self.now.nodes.items c.args.node c.args.row)) c.args.place c.if-place-gt0.true c.requires.place)
-
-pub returns-then-place-gt0-clause-queues : goal.returns-then-place-gt0-clause-queues
-returns-then-place-gt0-clause-queues g c =
-    λ v r k. queue_itself _ _
-
-pub returns-then-place-gt0-clause-cost : goal.returns-then-place-gt0-clause-cost
-returns-then-place-gt0-clause-cost g c =
-    omega arith
 
 pub make_queue_room-requires-clause-node : goal.make_queue_room-requires-clause-node
 make_queue_room-requires-clause-node g c =
@@ -175,11 +83,6 @@ make_queue_room-requires-clause-group g c =
 pub make_queue_room-requires-clause-few : goal.make_queue_room-requires-clause-few
 make_queue_room-requires-clause-few g c =
     omega (arith, (c.requires.formed.streams c.args.node c.args.group c.requires.node c.requires.group).few, c.group_len-members.ensures)
-
-pub index-lists-requires : goal.index-lists-requires
-index-lists-requires g c =
-    let at = goal.at.index-lists-requires g c in
-    in_same _ _ _ (in_same _ _ _ c.requires.node (room_of g at.After-make_queue_room).formed.all_nodes) c.make_queue_room.new.nodes.ok.0
 
 pub index_mut-requires : goal.index_mut-requires
 index_mut-requires g c =
@@ -202,161 +105,114 @@ pub make_products-requires-clause-row : goal.make_products-requires-clause-row
 make_products-requires-clause-row g c =
     c.requires.row
 
-pub returns-in_err-make_queue_room-clause-above : goal.returns-in_err-make_queue_room-clause-above
-returns-in_err-make_queue_room-clause-above g c =
-    let at = goal.at.returns-in_err-make_queue_room-clause-above g c in
-    (room_of g at.After-make_queue_room).above
+pub returns-in_err-set_products : goal.returns-in_err-set_products
+returns-in_err-set_products g c =
+    let at = goal.at.returns-in_err-set_products g c in
+    record {
+      entries = refl;
+      room = on_ok c.from_residual-in_err-set_products.result (λ none. subst (λ (z : List (NodeStreamsView g.row.R.Denot)). can_enter (length (members c.args.self.now.tree.now c.args.node c.args.group)) ≤ (stream_of z c.args.node c.args.group).room) (sym (refused g at.After-set_products c.in_err-set_products.ensures.refused)) (roomy g at.In_ok-make_queue_room));
+      queues =
+          λ v r k.
+          subst (λ (z : List (NodeStreamsView g.row.R.Denot)). length (product_of z v r k).frontier ≤ max 1 (length (product_of c.args.self.now.nodes.items v r k).frontier) + 0) (sym (refused g at.After-set_products c.in_err-set_products.ensures.refused))
+          (omega (arith, room_queues g at.After-make_queue_room v r k));
+      count = none_done _ c.from_residual-in_err-set_products.result c.from_residual-in_err-set_products.ensures.0;
+      formed = subst (λ (z : List (NodeStreamsView g.row.R.Denot)). IsStreams g.R.Rank.KEYS g.R.Rank.key c.args.self.now.tree.now c.args.self.now.entries.entries z) (sym (refused g at.After-set_products c.in_err-set_products.ensures.refused)) (room_of g at.After-make_queue_room).formed;
+      tree = refl;
+      streams = subst (λ (z : List (NodeStreamsView g.row.R.Denot)). (lists_of z c.args.node).streams ≡ (with_queue (lists_of c.args.self.now.nodes.items c.args.node) c.args.group (stream_of c.args.self.now.nodes.items c.args.node c.args.group).queue (stream_of z c.args.node c.args.group).room).streams) (sym (refused g at.After-set_products c.in_err-set_products.ensures.refused)) (room_of g at.After-make_queue_room).streams;
+      above = λ v n. ap (λ z. lists_of z v) (refused g at.After-set_products c.in_err-set_products.ensures.refused) ∙ (room_of g at.After-make_queue_room).above v n;
+      cost = omega (arith, c.make_products.ensures.cost);
+    }
 
-pub returns-in_err-make_queue_room-clause-streams : goal.returns-in_err-make_queue_room-clause-streams
-returns-in_err-make_queue_room-clause-streams g c =
-    let at = goal.at.returns-in_err-make_queue_room-clause-streams g c in
-    (room_of g at.After-make_queue_room).streams
+pub returns-in_err-make_products : goal.returns-in_err-make_products
+returns-in_err-make_products g c =
+    let at = goal.at.returns-in_err-make_products g c in
+    record {
+      entries = refl;
+      count = none_done _ c.from_residual-in_err-make_products.result c.from_residual-in_err-make_products.ensures.0;
+      queues = λ v r k. omega (arith, room_queues g at.After-make_queue_room v r k);
+      room = on_ok c.from_residual-in_err-make_products.result (λ none. roomy g at.In_ok-make_queue_room);
+      above = (room_of g at.After-make_queue_room).above;
+      cost = omega (arith, c.make_products.ensures.cost);
+      tree = refl;
+      formed = (room_of g at.After-make_queue_room).formed;
+      streams = (room_of g at.After-make_queue_room).streams;
+    }
 
-pub returns-in_err-make_queue_room-clause-queues : goal.returns-in_err-make_queue_room-clause-queues
-returns-in_err-make_queue_room-clause-queues g c =
-    let at = goal.at.returns-in_err-make_queue_room-clause-queues g c in
-    λ v r k. omega (arith, room_queues g at.After-make_queue_room v r k)
-
-pub returns-in_err-make_queue_room-clause-cost : goal.returns-in_err-make_queue_room-clause-cost
-returns-in_err-make_queue_room-clause-cost g c =
-    omega arith
-
-pub returns-else-product_count-child_count-clause-above : goal.returns-else-product_count-child_count-clause-above
-returns-else-product_count-child_count-clause-above g c =
-    let at = goal.at.returns-else-product_count-child_count-clause-above g c in
-    (room_of g at.After-make_queue_room).above
-
-pub returns-else-product_count-child_count-clause-streams : goal.returns-else-product_count-child_count-clause-streams
-returns-else-product_count-child_count-clause-streams g c =
-    let at = goal.at.returns-else-product_count-child_count-clause-streams g c in
-    (room_of g at.After-make_queue_room).streams
-
-pub returns-else-product_count-child_count-clause-queues : goal.returns-else-product_count-child_count-clause-queues
-returns-else-product_count-child_count-clause-queues g c =
-    let at = goal.at.returns-else-product_count-child_count-clause-queues g c in
-    λ v r k. omega (arith, room_queues g at.After-make_queue_room v r k)
-
-pub returns-else-product_count-child_count-clause-cost : goal.returns-else-product_count-child_count-clause-cost
-returns-else-product_count-child_count-clause-cost g c =
-    omega arith
-
-pub returns-else-product_count-child_count-clause-room : goal.returns-else-product_count-child_count-clause-room
-returns-else-product_count-child_count-clause-room g c =
-    let at = goal.at.returns-else-product_count-child_count-clause-room g c in
-    λ none. roomy g at.In_ok-make_queue_room
-
-pub returns-else-product_count-child_count-clause-count : goal.returns-else-product_count-child_count-clause-count
-returns-else-product_count-child_count-clause-count g c =
-    let at = goal.at.returns-else-product_count-child_count-clause-count g c in
-    row_whole g.R.Rank.KEYS g.R.Rank.key c.args.self.now.tree.now c.args.self.now.entries.entries c.make_queue_room.new.nodes.items (room_of g at.After-make_queue_room).formed c.args.node c.args.row c.requires.node c.requires.row c.index-lists.result.now c.index-lists.ensures c.product_count.result c.child_count.result c.product_count.ensures c.child_count.ensures c.if-product_count-child_count.false
-
-pub returns-in_err-make_products-clause-above : goal.returns-in_err-make_products-clause-above
-returns-in_err-make_products-clause-above g c =
-    let at = goal.at.returns-in_err-make_products-clause-above g c in
-    (room_of g at.After-make_queue_room).above
-
-pub returns-in_err-make_products-clause-room : goal.returns-in_err-make_products-clause-room
-returns-in_err-make_products-clause-room g c =
-    let at = goal.at.returns-in_err-make_products-clause-room g c in
-    on_ok c.from_residual-in_err-make_products.result (λ none. roomy g at.In_ok-make_queue_room)
-
-pub returns-in_err-make_products-clause-cost : goal.returns-in_err-make_products-clause-cost
-returns-in_err-make_products-clause-cost g c =
-    omega (arith, c.make_products.ensures.cost)
-
-pub returns-in_err-set_products-clause-above : goal.returns-in_err-set_products-clause-above
-returns-in_err-set_products-clause-above g c =
-    let at = goal.at.returns-in_err-set_products-clause-above g c in
-    λ v n. ap (λ z. lists_of z v) (refused g at.After-set_products c.in_err-set_products.ensures.refused) ∙ (room_of g at.After-make_queue_room).above v n
-
-pub returns-in_err-set_products-clause-streams : goal.returns-in_err-set_products-clause-streams
-returns-in_err-set_products-clause-streams g c =
-    let at = goal.at.returns-in_err-set_products-clause-streams g c in
-    subst (λ (z : List (NodeStreamsView g.row.R.Denot)). (lists_of z c.args.node).streams ≡ (with_queue (lists_of c.args.self.now.nodes.items c.args.node) c.args.group (stream_of c.args.self.now.nodes.items c.args.node c.args.group).queue (stream_of z c.args.node c.args.group).room).streams) (sym (refused g at.After-set_products c.in_err-set_products.ensures.refused)) (room_of g at.After-make_queue_room).streams
-
-pub returns-in_err-set_products-clause-room : goal.returns-in_err-set_products-clause-room
-returns-in_err-set_products-clause-room g c =
-    let at = goal.at.returns-in_err-set_products-clause-room g c in
-    on_ok c.from_residual-in_err-set_products.result (λ none. subst (λ (z : List (NodeStreamsView g.row.R.Denot)). can_enter (length (members c.args.self.now.tree.now c.args.node c.args.group)) ≤ (stream_of z c.args.node c.args.group).room) (sym (refused g at.After-set_products c.in_err-set_products.ensures.refused)) (roomy g at.In_ok-make_queue_room))
-
-pub returns-in_err-set_products-clause-cost : goal.returns-in_err-set_products-clause-cost
-returns-in_err-set_products-clause-cost g c =
-    omega (arith, c.make_products.ensures.cost)
-
-pub returns-in_ok-set_products-clause-above : goal.returns-in_ok-set_products-clause-above
-returns-in_ok-set_products-clause-above g c =
-    let at = goal.at.returns-in_ok-set_products-clause-above g c in
-    λ v n. lists_other c.make_queue_room.new.nodes.items c.args.node v c.set_products.new.self n ∙ (room_of g at.After-make_queue_room).above v n
-
-pub returns-in_ok-set_products-clause-streams : goal.returns-in_ok-set_products-clause-streams
-returns-in_ok-set_products-clause-streams g c =
-    let at = goal.at.returns-in_ok-set_products-clause-streams g c in
+pub returns-in_ok-set_products : goal.returns-in_ok-set_products
+returns-in_ok-set_products g c =
+    let at = goal.at.returns-in_ok-set_products g c in
     let inside : c.args.node < length c.make_queue_room.new.nodes.items = in_same _ _ _ c.requires.node (room_of g at.After-make_queue_room).formed.all_nodes in
     let stay = streams_stay c.make_queue_room.new.nodes.items c.args.node c.args.row c.index_mut.result.now c.set_products.new.self c.make_products.new.products.items inside c.index_mut.ensures.value c.in_ok-set_products.ensures.set in
-    stay ∙ (room_of g at.After-make_queue_room).streams
-    ∙ ap (λ (z : List (StreamView g.row.R.Denot)). (with_queue (lists_of c.args.self.now.nodes.items c.args.node) c.args.group (stream_of c.args.self.now.nodes.items c.args.node c.args.group).queue (get_or z c.args.group (record { head = 0; queue = []; room = 0 })).room).streams) (sym stay)
+    let few = row_lacks g.R.Rank.KEYS g.R.Rank.key c.args.self.now.tree.now c.args.self.now.entries.entries c.make_queue_room.new.nodes.items (room_of g at.After-make_queue_room).formed c.args.node c.args.row c.requires.node c.requires.row c.index-lists.result.now c.index-lists.ensures c.product_count.result c.child_count.result c.product_count.ensures c.child_count.ensures c.if-product_count-child_count.true in
+    let fresh = subst (λ (z : List (NodeStreamsView g.row.R.Denot)). AreFreshTo g.R.Rank.KEYS g.R.Rank.key c.args.self.now.tree.now z c.args.node c.args.row (child_count c.args.self.now.tree.now c.args.node) c.make_products.new.products.items) c.as_slice.ensures.value c.in_ok-make_products.ensures.fresh in
+    record {
+      cost = omega (arith, c.make_products.ensures.cost);
+      streams =
+          stay ∙ (room_of g at.After-make_queue_room).streams
+          ∙ ap (λ (z : List (StreamView g.row.R.Denot)). (with_queue (lists_of c.args.self.now.nodes.items c.args.node) c.args.group (stream_of c.args.self.now.nodes.items c.args.node c.args.group).queue (get_or z c.args.group (record { head = 0; queue = []; room = 0 })).room).streams) (sym stay);
+      tree = refl;
+      entries = refl;
+      formed =
+          subst (λ (z : List (NodeStreamsView g.row.R.Denot)). IsStreams g.R.Rank.KEYS g.R.Rank.key c.args.self.now.tree.now c.args.self.now.entries.entries z)
+          (sym (opened_is c.make_queue_room.new.nodes.items c.args.node c.args.row c.index_mut.result.now c.set_products.new.self c.make_products.new.products.items inside c.index_mut.ensures.value c.in_ok-set_products.ensures.set))
+          (row_opened g.R.Rank.KEYS g.R.Rank.key c.args.self.now.tree.now c.args.self.now.entries.entries c.make_queue_room.new.nodes.items (room_of g at.After-make_queue_room).formed c.requires.tie_free c.args.node c.args.row c.requires.node c.requires.row c.make_products.new.products.items fresh few.0 few.1);
+      queues =
+          λ v r k. subst (λ q. length (product_of (slice_set c.make_queue_room.new.nodes.items c.args.node c.set_products.new.self) v r k).frontier ≤ max 1 q + 0) (room_queues g at.After-make_queue_room v r k) (
+          subst (λ (z : List (NodeStreamsView g.row.R.Denot)). (v r k : ℕ) → length (product_of z v r k).frontier ≤ max 1 (length (product_of c.make_queue_room.new.nodes.items v r k).frontier) + 0)
+          (sym (opened_is c.make_queue_room.new.nodes.items c.args.node c.args.row c.index_mut.result.now c.set_products.new.self c.make_products.new.products.items inside c.index_mut.ensures.value c.in_ok-set_products.ensures.set))
+          (opened_queues g.R.Rank.KEYS g.R.Rank.key c.args.self.now.tree.now c.args.self.now.entries.entries c.make_queue_room.new.nodes.items (room_of g at.After-make_queue_room).formed c.requires.tie_free c.args.node c.args.row c.requires.node c.requires.row c.make_products.new.products.items fresh few.0 few.1) v r k);
+      above = λ v n. lists_other c.make_queue_room.new.nodes.items c.args.node v c.set_products.new.self n ∙ (room_of g at.After-make_queue_room).above v n;
+      room = λ none. subst (λ (z : List (StreamView g.row.R.Denot)). can_enter (length (members c.args.self.now.tree.now c.args.node c.args.group)) ≤ (get_or z c.args.group (record { head = 0; queue = []; room = 0 })).room) (sym stay) (roomy g at.In_ok-make_queue_room);
+      count =
+          ap (λ (z : List (NodeStreamsView g.row.R.Denot)). length (products_of z c.args.node c.args.row))
+          (opened_is c.make_queue_room.new.nodes.items c.args.node c.args.row c.index_mut.result.now c.set_products.new.self c.make_products.new.products.items inside c.index_mut.ensures.value c.in_ok-set_products.ensures.set)
+          ∙ ap length (opened_row g.R.Rank.KEYS g.R.Rank.key c.args.self.now.tree.now c.args.self.now.entries.entries c.make_queue_room.new.nodes.items (room_of g at.After-make_queue_room).formed c.requires.tie_free c.args.node c.args.row c.requires.node c.requires.row c.make_products.new.products.items fresh few.0 few.1)
+          ∙ fresh.count;
+    }
 
-pub returns-in_ok-set_products-clause-room : goal.returns-in_ok-set_products-clause-room
-returns-in_ok-set_products-clause-room g c =
-    let at = goal.at.returns-in_ok-set_products-clause-room g c in
-    let inside : c.args.node < length c.make_queue_room.new.nodes.items = in_same _ _ _ c.requires.node (room_of g at.After-make_queue_room).formed.all_nodes in
-    let stay = streams_stay c.make_queue_room.new.nodes.items c.args.node c.args.row c.index_mut.result.now c.set_products.new.self c.make_products.new.products.items inside c.index_mut.ensures.value c.in_ok-set_products.ensures.set in
-    λ none. subst (λ (z : List (StreamView g.row.R.Denot)). can_enter (length (members c.args.self.now.tree.now c.args.node c.args.group)) ≤ (get_or z c.args.group (record { head = 0; queue = []; room = 0 })).room) (sym stay) (roomy g at.In_ok-make_queue_room)
+pub returns-else-product_count-child_count : goal.returns-else-product_count-child_count
+returns-else-product_count-child_count g c =
+    let at = goal.at.returns-else-product_count-child_count g c in
+    record {
+      room = λ none. roomy g at.In_ok-make_queue_room;
+      above = (room_of g at.After-make_queue_room).above;
+      tree = refl;
+      count = row_whole g.R.Rank.KEYS g.R.Rank.key c.args.self.now.tree.now c.args.self.now.entries.entries c.make_queue_room.new.nodes.items (room_of g at.After-make_queue_room).formed c.args.node c.args.row c.requires.node c.requires.row c.index-lists.result.now c.index-lists.ensures c.product_count.result c.child_count.result c.product_count.ensures c.child_count.ensures c.if-product_count-child_count.false;
+      streams = (room_of g at.After-make_queue_room).streams;
+      queues = λ v r k. omega (arith, room_queues g at.After-make_queue_room v r k);
+      entries = refl;
+      formed = (room_of g at.After-make_queue_room).formed;
+      cost = omega arith;
+    }
 
-pub returns-in_ok-set_products-clause-cost : goal.returns-in_ok-set_products-clause-cost
-returns-in_ok-set_products-clause-cost g c =
-    omega (arith, c.make_products.ensures.cost)
+pub returns-in_err-make_queue_room : goal.returns-in_err-make_queue_room
+returns-in_err-make_queue_room g c =
+    let at = goal.at.returns-in_err-make_queue_room g c in
+    record {
+      room = none_done _ c.from_residual.result c.from_residual.ensures.0;
+      formed = (room_of g at.After-make_queue_room).formed;
+      count = none_done _ c.from_residual.result c.from_residual.ensures.0;
+      cost = omega arith;
+      queues = λ v r k. omega (arith, room_queues g at.After-make_queue_room v r k);
+      entries = refl;
+      above = (room_of g at.After-make_queue_room).above;
+      streams = (room_of g at.After-make_queue_room).streams;
+      tree = refl;
+    }
 
-pub returns-in_err-set_products-clause-tree : goal.returns-in_err-set_products-clause-tree
-returns-in_err-set_products-clause-tree g c = refl
-
-pub returns-in_err-set_products-clause-entries : goal.returns-in_err-set_products-clause-entries
-returns-in_err-set_products-clause-entries g c = refl
-
-pub returns-in_err-set_products-clause-count : goal.returns-in_err-set_products-clause-count
-returns-in_err-set_products-clause-count g c = none_done _ c.from_residual-in_err-set_products.result c.from_residual-in_err-set_products.ensures.0
-
-pub returns-in_err-make_products-clause-tree : goal.returns-in_err-make_products-clause-tree
-returns-in_err-make_products-clause-tree g c = refl
-
-pub returns-in_err-make_products-clause-entries : goal.returns-in_err-make_products-clause-entries
-returns-in_err-make_products-clause-entries g c = refl
-
-pub returns-in_err-make_products-clause-count : goal.returns-in_err-make_products-clause-count
-returns-in_err-make_products-clause-count g c = none_done _ c.from_residual-in_err-make_products.result c.from_residual-in_err-make_products.ensures.0
-
-pub returns-in_err-make_queue_room-clause-tree : goal.returns-in_err-make_queue_room-clause-tree
-returns-in_err-make_queue_room-clause-tree g c = refl
-
-pub returns-in_err-make_queue_room-clause-entries : goal.returns-in_err-make_queue_room-clause-entries
-returns-in_err-make_queue_room-clause-entries g c = refl
-
-pub returns-in_err-make_queue_room-clause-count : goal.returns-in_err-make_queue_room-clause-count
-returns-in_err-make_queue_room-clause-count g c = none_done _ c.from_residual.result c.from_residual.ensures.0
-
-pub returns-then-place-gt0-clause-tree : goal.returns-then-place-gt0-clause-tree
-returns-then-place-gt0-clause-tree g c = refl
-
-pub returns-then-place-gt0-clause-entries : goal.returns-then-place-gt0-clause-entries
-returns-then-place-gt0-clause-entries g c = refl
-
-pub returns-in_ok-set_products-clause-tree : goal.returns-in_ok-set_products-clause-tree
-returns-in_ok-set_products-clause-tree g c = refl
-
-pub returns-in_ok-set_products-clause-entries : goal.returns-in_ok-set_products-clause-entries
-returns-in_ok-set_products-clause-entries g c = refl
-
-pub returns-else-product_count-child_count-clause-tree : goal.returns-else-product_count-child_count-clause-tree
-returns-else-product_count-child_count-clause-tree g c = refl
-
-pub returns-else-product_count-child_count-clause-entries : goal.returns-else-product_count-child_count-clause-entries
-returns-else-product_count-child_count-clause-entries g c = refl
-
-pub returns-in_err-make_queue_room-clause-room : goal.returns-in_err-make_queue_room-clause-room
-returns-in_err-make_queue_room-clause-room g c = none_done _ c.from_residual.result c.from_residual.ensures.0
-
-pub returns-then-place-gt0-clause-formed : goal.returns-then-place-gt0-clause-formed
-returns-then-place-gt0-clause-formed g c = c.requires.formed
+pub returns-then-place-gt0 : goal.returns-then-place-gt0
+returns-then-place-gt0 g c =
+    record {
+      count = c.requires.formed.whole_rows c.args.node c.args.row c.requires.node c.requires.row (products_of_second (lists_of c.args.self.now.nodes.items c.args.node) c.args.row (length (products_of c.args.self.now.nodes.items c.args.node c.args.row)) c.args.place c.if-place-gt0.true c.requires.place);
+      cost = omega arith;
+      tree = refl;
+      queues = λ v r k. queue_itself _ _;
+      above = λ v n. refl;
+      formed = c.requires.formed;
+      room = λ none. absurd (omega (arith, none, c.if-place-gt0.true));
+      streams = sym (set-get_or (lists_of c.args.self.now.nodes.items c.args.node).streams c.args.group (record { head = 0; queue = []; room = 0 }));
+      entries = refl;
+    }
 
 pub group_len-members-requires-clause-node : goal.group_len-members-requires-clause-node
 group_len-members-requires-clause-node g c = c.requires.node

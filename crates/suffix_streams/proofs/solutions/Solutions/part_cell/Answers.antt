@@ -16,15 +16,6 @@ child_head-right-requires-clause-headed g c =
     subst (λ (z : List (NodeStreamsView g.row.R.Denot)). IsHeaded g.R.Rank.KEYS g.R.Rank.key c.args.self.now.tree.now c.args.self.now.entries.entries z c.args.node c.args.row) (sym c.as_slice.ensures.value)
     (headed_of g.R.Rank.KEYS g.R.Rank.key c.args.self.now.tree.now c.args.self.now.entries.entries c.args.self.now.nodes.items c.requires.formed c.args.node c.args.row c.requires.node c.requires.row)
 
-pub returns-then-product_count-eq0-clause-sum : goal.returns-then-product_count-eq0-clause-sum
-returns-then-product_count-eq0-clause-sum g c =
-    let n = c.args.self.now.nodes.items in
-    let inside : c.args.node < length n = omega (arith, c.requires.formed.all_nodes, c.requires.node) in
-    let lists = lists_at n c.args.node c.index-lists.result.now c.index-lists.ensures inside in
-    let none : length (products_of n c.args.node c.args.row) ≡ 0 = omega (arith, c.product_count.ensures, ap (λ m. length (get_or m.products c.args.row [])) lists, c.if-product_count-eq0.true) in
-    first_cell g.R.Rank.KEYS g.R.Rank.key c.args.self.now.tree.now c.args.self.now.entries.entries n c.requires.formed c.requires.tie_free c.args.node c.args.row c.args.child c.args.place c.child_head-right.result c.requires.node c.requires.row c.requires.child none c.requires.place
-    (c.child_head-right.ensures.head ∙ ap (λ (z : List (NodeStreamsView g.row.R.Denot)). (stream_of z (child c.args.self.now.tree.now c.args.node c.args.child) (group_named c.args.self.now.tree.now c.args.node c.args.row c.args.child)).head) c.as_slice.ensures.value)
-
 pub returns-else-product_count-eq0-clause-sum : goal.returns-else-product_count-eq0-clause-sum
 returns-else-product_count-eq0-clause-sum g c =
     let n = c.args.self.now.nodes.items in
@@ -46,5 +37,15 @@ child_head-right-requires-clause-row g c = c.requires.row
 pub child_head-right-requires-clause-child : goal.child_head-right-requires-clause-child
 child_head-right-requires-clause-child g c = c.requires.child
 
-pub returns-then-product_count-eq0-clause-cost : goal.returns-then-product_count-eq0-clause-cost
-returns-then-product_count-eq0-clause-cost g c = same_few _ _ c.child_head-right.ensures.cost
+pub returns-then-product_count-eq0 : goal.returns-then-product_count-eq0
+returns-then-product_count-eq0 g c =
+    record {
+      cost = same_few _ _ c.child_head-right.ensures.cost;
+      sum =
+          let n = c.args.self.now.nodes.items in
+          let inside : c.args.node < length n = omega (arith, c.requires.formed.all_nodes, c.requires.node) in
+          let lists = lists_at n c.args.node c.index-lists.result.now c.index-lists.ensures inside in
+          let none : length (products_of n c.args.node c.args.row) ≡ 0 = omega (arith, c.product_count.ensures, ap (λ m. length (get_or m.products c.args.row [])) lists, c.if-product_count-eq0.true) in
+          first_cell g.R.Rank.KEYS g.R.Rank.key c.args.self.now.tree.now c.args.self.now.entries.entries n c.requires.formed c.requires.tie_free c.args.node c.args.row c.args.child c.args.place c.child_head-right.result c.requires.node c.requires.row c.requires.child none c.requires.place
+          (c.child_head-right.ensures.head ∙ ap (λ (z : List (NodeStreamsView g.row.R.Denot)). (stream_of z (child c.args.self.now.tree.now c.args.node c.args.child) (group_named c.args.self.now.tree.now c.args.node c.args.row c.args.child)).head) c.as_slice.ensures.value);
+    }

@@ -56,7 +56,7 @@ module _ (g : Over) where
   passed_of : (c : After-step_product g) → IsProductPassed g.R.Rank.KEYS g.R.Rank.key c.args.self.now.tree.now c.args.self.now.entries.entries c.args.self.now.nodes.items c.args.node c.args.row c.args.child (passed c)
   passed_of c =
       product_passed g.R.Rank.KEYS g.R.Rank.key c.args.self.now.tree.now c.args.self.now.entries.entries c.args.self.now.nodes.items c.args.node c.args.row c.args.child (passed c) c.index.result.now c.index_mut.result.now c.known-known.result c.args.top.now.tag c.args.below (head_of c.args.self.now.tree.now c.args.self.now.nodes.items c.args.node c.args.row c.args.child) (cell_down c.args.top.now.tag c.args.below) c.cell_beside-across.result c.offer_below-down.result c.offered-across.result
-      c.requires.formed c.requires.node c.requires.row c.requires.child c.requires.top (λ x. ap (λ e. e.tag) (c.requires.first x)) refl c.requires.below (ready_of c) c.index.ensures c.index_mut.ensures.value c.known-known.ensures refl (at_head c.args.child c.known-known.result (head_of c.args.self.now.tree.now c.args.self.now.nodes.items c.args.node c.args.row c.args.child) c.args.top.now.tag c.args.beside c.requires.beside (λ none. c.known-known.ensures ∙ ap (λ k. known_of c.index.result.now c.args.row k) none) c.cell_beside-across.result c.cell_beside-across.ensures) (exchanged_offer g.R.Rank.KEYS g.R.Rank.key c.args.self.now.tree.now c.args.self.now.entries.entries c.args.self.now.nodes.items c.requires.formed c.args.node c.args.row c.args.child c.requires.node c.requires.row c.requires.child c.args.top.now c.requires.top c.requires.first c.args.below c.offer_below-down.result c.requires.below c.offer_below-down.ensures.offer) c.offered-across.ensures.offer refl refl c.step_product.ensures.moved c.step_product.ensures.least
+      c.requires.formed c.requires.node c.requires.row c.requires.child c.requires.top.some (λ x. ap (λ e. e.tag) (c.requires.top.first x)) refl c.requires.below (ready_of c) c.index.ensures c.index_mut.ensures.value c.known-known.ensures refl (at_head c.args.child c.known-known.result (head_of c.args.self.now.tree.now c.args.self.now.nodes.items c.args.node c.args.row c.args.child) c.args.top.now.tag c.args.beside c.requires.beside (λ none. c.known-known.ensures ∙ ap (λ k. known_of c.index.result.now c.args.row k) none) c.cell_beside-across.result c.cell_beside-across.ensures) (exchanged_offer g.R.Rank.KEYS g.R.Rank.key c.args.self.now.tree.now c.args.self.now.entries.entries c.args.self.now.nodes.items c.requires.formed c.args.node c.args.row c.args.child c.requires.node c.requires.row c.requires.child c.args.top.now c.requires.top.some c.requires.top.first c.args.below c.offer_below-down.result c.requires.below c.offer_below-down.ensures.offer) c.offered-across.ensures.offer refl refl c.step_product.ensures.moved c.step_product.ensures.least
 
   -- the nodes then
   changed_of : (c : After-step_product g) → slice_set c.args.self.now.nodes.items c.args.node c.step_product.new.self ≡ slice_set c.args.self.now.nodes.items c.args.node (with_product (lists_of c.args.self.now.nodes.items c.args.node) c.args.row c.args.child (product_at c.step_product.new.self c.args.row c.args.child))
@@ -66,19 +66,19 @@ module _ (g : Over) where
   product_is c = ap (λ (m : NodeStreamsView g.row.R.Denot). product_at m c.args.row c.args.child) (lists_same c.args.self.now.nodes.items c.args.node c.step_product.new.self (in_same _ _ _ c.requires.node c.requires.formed.all_nodes))
 
 pub offer_below-down-requires-clause-right : goal.offer_below-down-requires-clause-right
-offer_below-down-requires-clause-right g c = top_right g.R.Rank.KEYS g.R.Rank.key c.args.self.now.tree.now c.args.self.now.entries.entries c.args.self.now.nodes.items c.requires.formed c.args.node c.args.row c.args.child c.requires.node c.requires.row c.requires.child c.args.top.now c.requires.top c.requires.first
+offer_below-down-requires-clause-right g c = top_right g.R.Rank.KEYS g.R.Rank.key c.args.self.now.tree.now c.args.self.now.entries.entries c.args.self.now.nodes.items c.requires.formed c.args.node c.args.row c.args.child c.requires.node c.requires.row c.requires.child c.args.top.now c.requires.top.some c.requires.top.first
 
 pub offer_below-down-requires-clause-below : goal.offer_below-down-requires-clause-below
-offer_below-down-requires-clause-below g c = below_right g.R.Rank.KEYS g.R.Rank.key c.args.self.now.tree.now c.args.self.now.entries.entries c.args.self.now.nodes.items c.requires.formed c.args.node c.args.row c.args.child c.requires.node c.requires.row c.requires.child c.args.top.now c.requires.top c.requires.first c.args.below c.requires.below
+offer_below-down-requires-clause-below g c = below_right g.R.Rank.KEYS g.R.Rank.key c.args.self.now.tree.now c.args.self.now.entries.entries c.args.self.now.nodes.items c.requires.formed c.args.node c.args.row c.args.child c.requires.node c.requires.row c.requires.child c.args.top.now c.requires.top.some c.requires.top.first c.args.below c.requires.below
 
 pub offer_below-down-requires-clause-exchange : goal.offer_below-down-requires-clause-exchange
-offer_below-down-requires-clause-exchange g c = can_exchange g.R.Rank.KEYS g.R.Rank.key c.args.self.now.tree.now c.args.self.now.entries.entries c.args.self.now.nodes.items c.requires.formed c.args.node c.args.row c.args.child c.requires.node c.requires.row c.requires.child c.args.top.now c.requires.top c.requires.first c.args.below c.requires.below
+offer_below-down-requires-clause-exchange g c = can_exchange g.R.Rank.KEYS g.R.Rank.key c.args.self.now.tree.now c.args.self.now.entries.entries c.args.self.now.nodes.items c.requires.formed c.args.node c.args.row c.args.child c.requires.node c.requires.row c.requires.child c.args.top.now c.requires.top.some c.requires.top.first c.args.below c.requires.below
 
 pub cell_beside-across-requires : goal.cell_beside-across-requires
 cell_beside-across-requires g c =
     let at = goal.at.cell_beside-across-requires g c in
     let known = known_is g at.After-known-known in
-    omega (arith, known, (cell_known g.R.Rank.KEYS g.R.Rank.key c.args.self.now.tree.now c.args.self.now.entries.entries c.args.self.now.nodes.items c.requires.formed c.args.node c.args.row c.args.child c.requires.node c.requires.row c.requires.child c.args.top.now.tag c.requires.top (λ x. ap (λ e. e.tag) (c.requires.first x))).left)
+    omega (arith, known, (cell_known g.R.Rank.KEYS g.R.Rank.key c.args.self.now.tree.now c.args.self.now.entries.entries c.args.self.now.nodes.items c.requires.formed c.args.node c.args.row c.args.child c.requires.node c.requires.row c.requires.child c.args.top.now.tag c.requires.top.some (λ x. ap (λ e. e.tag) (c.requires.top.first x))).left)
 
 pub offered-across-requires-clause-parts : goal.offered-across-requires-clause-parts
 offered-across-requires-clause-parts g c = subst (λ (z : List (NodeStreamsView g.row.R.Denot)). HasParts g.R.Rank.KEYS g.R.Rank.key c.args.self.now.tree.now c.args.self.now.entries.entries z c.args.node c.args.row c.args.child) (sym c.as_slice.ensures.value) (parts_of g.R.Rank.KEYS g.R.Rank.key c.args.self.now.tree.now c.args.self.now.entries.entries c.args.self.now.nodes.items c.requires.formed c.args.node c.args.row c.args.child c.requires.node c.requires.row c.requires.child)
@@ -91,16 +91,7 @@ offered-across-requires-clause-cell g c =
     let beside = subst (λ k. MatchOption c.cell_beside-across.result (c.args.top.now.tag.right ≡ head → k ≤ c.args.top.now.tag.left + 1) (λ x. (c.args.top.now.tag.right ≡ head) × (c.args.top.now.tag.left + 1 < k) × (x ≡ record { left = c.args.top.now.tag.left + 1; right = head }))) known
     (at_head c.args.child c.known-known.result head c.args.top.now.tag c.args.beside c.requires.beside (λ none. c.known-known.ensures ∙ ap (λ k. known_of c.index.result.now c.args.row k) none) c.cell_beside-across.result c.cell_beside-across.ensures) in
     subst (λ (z : List (NodeStreamsView g.row.R.Denot)). IfSome c.cell_beside-across.result (IsCell g.R.Rank.KEYS g.R.Rank.key c.args.self.now.tree.now c.args.self.now.entries.entries z c.args.node c.args.row c.args.child)) (sym c.as_slice.ensures.value)
-    (beside_cell_known g.R.Rank.KEYS g.R.Rank.key c.args.self.now.tree.now c.args.self.now.entries.entries c.args.self.now.nodes.items c.requires.formed c.args.node c.args.row c.args.child c.requires.node c.requires.row c.requires.child c.args.top.now.tag c.requires.top (λ x. ap (λ e. e.tag) (c.requires.first x)) (head_of c.args.self.now.tree.now c.args.self.now.nodes.items c.args.node c.args.row c.args.child) refl c.cell_beside-across.result beside)
-
-pub index-requires : goal.index-requires
-index-requires g c =
-    in_same _ _ _ (in_same _ _ _ c.requires.node c.requires.formed.all_nodes) c.args.self.now.nodes.ok.0
-
-pub known-known-requires : goal.known-known-requires
-known-known-requires g c =
-    let inside : c.args.node < length c.args.self.now.nodes.items = in_same _ _ _ c.requires.node c.requires.formed.all_nodes in
-    omega (arith, c.requires.child, ap (λ n. length (get_or n.products c.args.row [])) (lists_at c.args.self.now.nodes.items c.args.node c.index.result.now c.index.ensures inside))
+    (beside_cell_known g.R.Rank.KEYS g.R.Rank.key c.args.self.now.tree.now c.args.self.now.entries.entries c.args.self.now.nodes.items c.requires.formed c.args.node c.args.row c.args.child c.requires.node c.requires.row c.requires.child c.args.top.now.tag c.requires.top.some (λ x. ap (λ e. e.tag) (c.requires.top.first x)) (head_of c.args.self.now.tree.now c.args.self.now.nodes.items c.args.node c.args.row c.args.child) refl c.cell_beside-across.result beside)
 
 pub offered-across-requires-clause-formed : goal.offered-across-requires-clause-formed
 offered-across-requires-clause-formed g c =
@@ -122,7 +113,7 @@ pub step_product-requires-clause-frontier_room : goal.step_product-requires-clau
 step_product-requires-clause-frontier_room g c _ across =
     let lists = lists_at c.args.self.now.nodes.items c.args.node c.index_mut.result.now c.index_mut.ensures.value (in_same _ _ _ c.requires.node c.requires.formed.all_nodes) in
     elim (cases_lt 0 c.args.child) [
-      | inl l ↦ subst (λ n. 0 < (product_at n c.args.row c.args.child).frontier_room) lists (c.requires.frontier_room l)
+      | inl l ↦ subst (λ n. 0 < (product_at n c.args.row c.args.child).frontier_room) lists (c.requires.top.frontier_room l)
       | inr l ↦
           let first : c.args.child ≡ 0 = omega (arith, l) in
           let one : c.known-known.result ≡ 1 = c.known-known.ensures ∙ ap (λ k. known_of c.index.result.now c.args.row k) first in
@@ -137,48 +128,34 @@ step_product-requires-clause-child g c =
 pub step_product-requires-clause-top : goal.step_product-requires-clause-top
 step_product-requires-clause-top g c =
     let inside : c.args.node < length c.args.self.now.nodes.items = in_same _ _ _ c.requires.node c.requires.formed.all_nodes in
-    subst (λ n. 0 < length (product_at n c.args.row c.args.child).frontier) (lists_at c.args.self.now.nodes.items c.args.node c.index_mut.result.now c.index_mut.ensures.value inside) c.requires.top
+    subst (λ n. 0 < length (product_at n c.args.row c.args.child).frontier) (lists_at c.args.self.now.nodes.items c.args.node c.index_mut.result.now c.index_mut.ensures.value inside) c.requires.top.some
 
 pub step_product-requires-clause-room : goal.step_product-requires-clause-room
 step_product-requires-clause-room g c =
     let inside : c.args.node < length c.args.self.now.nodes.items = in_same _ _ _ c.requires.node c.requires.formed.all_nodes in
-    subst (λ n. 0 < (product_at n c.args.row c.args.child).room) (lists_at c.args.self.now.nodes.items c.args.node c.index_mut.result.now c.index_mut.ensures.value inside) c.requires.room
+    subst (λ n. 0 < (product_at n c.args.row c.args.child).room) (lists_at c.args.self.now.nodes.items c.args.node c.index_mut.result.now c.index_mut.ensures.value inside) c.requires.top.room
 
-pub returns-clause-formed : goal.returns-clause-formed
-returns-clause-formed g c =
-    let at = goal.at.returns-clause-formed g c in
-    subst (λ (z : List (NodeStreamsView g.row.R.Denot)). IsStreams g.R.Rank.KEYS g.R.Rank.key c.args.self.now.tree.now c.args.self.now.entries.entries z) (sym (changed_of g at.After-step_product))
-    (stepped_holds (passed g at.After-step_product) (product_at c.step_product.new.self c.args.row c.args.child) (passed_of g at.After-step_product) refl c.step_product.ensures.limit c.step_product.ensures.ended c.step_product.ensures.found c.step_product.ensures.ranks c.step_product.ensures.next)
-
-pub returns-clause-tree : goal.returns-clause-tree
-returns-clause-tree g c = refl
-
-pub returns-clause-entries : goal.returns-clause-entries
-returns-clause-entries g c = refl
-
-pub returns-clause-changed : goal.returns-clause-changed
-returns-clause-changed g c =
-    let at = goal.at.returns-clause-changed g c in
-    changed_of g at.After-step_product ∙ ap (λ z. slice_set c.args.self.now.nodes.items c.args.node (with_product (lists_of c.args.self.now.nodes.items c.args.node) c.args.row c.args.child z)) (sym (product_is g at.After-step_product))
-
-pub returns-clause-reached : goal.returns-clause-reached
-returns-clause-reached g c =
-    let at = goal.at.returns-clause-reached g c in
-    let next : suc c.args.child ≡ c.args.child + 1 = omega arith in
-    let known = product_is g at.After-step_product in
-    subst (λ k. IsReached g.R.Rank.KEYS g.R.Rank.key c.args.self.now.tree.now (slice_set c.args.self.now.nodes.items c.args.node c.step_product.new.self) c.args.node c.args.row k (part_known c.args.self.now.nodes.items c.args.node c.args.row k)) next
-    (elim (stepped_reaches (passed g at.After-step_product) (product_at c.step_product.new.self c.args.row c.args.child) (passed_of g at.After-step_product) refl c.step_product.ensures.limit c.step_product.ensures.ended c.step_product.ensures.found c.step_product.ensures.ranks c.step_product.ensures.next) [
-      | inl more ↦ inl (omega (arith, more, ap (λ q. length q.found) known))
-      | inr all ↦ inr (omega (arith, all))
-    ])
-
-pub returns-clause-queue : goal.returns-clause-queue
-returns-clause-queue g c =
-    let at = goal.at.returns-clause-queue g c in
-    omega (arith, ap (λ q. length q.frontier) (product_is g at.After-step_product), (passed_of g at.After-step_product).longer)
-
-pub returns-clause-cost : goal.returns-clause-cost
-returns-clause-cost g c =
-    let old = ap (λ n. product_at n c.args.row c.args.child) (sym (lists_at c.args.self.now.nodes.items c.args.node c.index_mut.result.now c.index_mut.ensures.value (in_same _ _ _ c.requires.node c.requires.formed.all_nodes))) in
-    let fewer : bit_length (length (product_of c.args.self.now.nodes.items c.args.node c.args.row c.args.child).frontier) ≤ bit_length (length (product_of c.args.self.now.nodes.items c.args.node c.args.row c.args.child).frontier + 1) = bit_length_rises (length (product_of c.args.self.now.nodes.items c.args.node c.args.row c.args.child).frontier) (length (product_of c.args.self.now.nodes.items c.args.node c.args.row c.args.child).frontier + 1) (omega arith) in
-    omega (arith, fewer, c.offer_below-down.ensures.cost, c.offered-across.ensures.cost, c.step_product.ensures.cost, ap (λ q. bit_length (length q.frontier)) old, ap (λ q. bit_length (length q.frontier + 1)) old)
+pub returns : goal.returns
+returns g c =
+    let at = goal.at.returns g c in
+    record {
+      cost =
+          let old = ap (λ n. product_at n c.args.row c.args.child) (sym (lists_at c.args.self.now.nodes.items c.args.node c.index_mut.result.now c.index_mut.ensures.value (in_same _ _ _ c.requires.node c.requires.formed.all_nodes))) in
+          let fewer : bit_length (length (product_of c.args.self.now.nodes.items c.args.node c.args.row c.args.child).frontier) ≤ bit_length (length (product_of c.args.self.now.nodes.items c.args.node c.args.row c.args.child).frontier + 1) = bit_length_rises (length (product_of c.args.self.now.nodes.items c.args.node c.args.row c.args.child).frontier) (length (product_of c.args.self.now.nodes.items c.args.node c.args.row c.args.child).frontier + 1) (omega arith) in
+          omega (arith, fewer, c.offer_below-down.ensures.cost, c.offered-across.ensures.cost, c.step_product.ensures.cost, ap (λ q. bit_length (length q.frontier)) old, ap (λ q. bit_length (length q.frontier + 1)) old);
+      reached =
+          let next : suc c.args.child ≡ c.args.child + 1 = omega arith in
+          let known = product_is g at.After-step_product in
+          subst (λ k. IsReached g.R.Rank.KEYS g.R.Rank.key c.args.self.now.tree.now (slice_set c.args.self.now.nodes.items c.args.node c.step_product.new.self) c.args.node c.args.row k (part_known c.args.self.now.nodes.items c.args.node c.args.row k)) next
+          (elim (stepped_reaches (passed g at.After-step_product) (product_at c.step_product.new.self c.args.row c.args.child) (passed_of g at.After-step_product) refl c.step_product.ensures.limit c.step_product.ensures.ended c.step_product.ensures.found c.step_product.ensures.ranks c.step_product.ensures.next) [
+            | inl more ↦ inl (omega (arith, more, ap (λ q. length q.found) known))
+            | inr all ↦ inr (omega (arith, all))
+          ]);
+      formed =
+          subst (λ (z : List (NodeStreamsView g.row.R.Denot)). IsStreams g.R.Rank.KEYS g.R.Rank.key c.args.self.now.tree.now c.args.self.now.entries.entries z) (sym (changed_of g at.After-step_product))
+          (stepped_holds (passed g at.After-step_product) (product_at c.step_product.new.self c.args.row c.args.child) (passed_of g at.After-step_product) refl c.step_product.ensures.limit c.step_product.ensures.ended c.step_product.ensures.found c.step_product.ensures.ranks c.step_product.ensures.next);
+      changed = changed_of g at.After-step_product ∙ ap (λ z. slice_set c.args.self.now.nodes.items c.args.node (with_product (lists_of c.args.self.now.nodes.items c.args.node) c.args.row c.args.child z)) (sym (product_is g at.After-step_product));
+      entries = refl;
+      tree = refl;
+      queue = omega (arith, ap (λ q. length q.frontier) (product_is g at.After-step_product), (passed_of g at.After-step_product).longer);
+    }

@@ -22,18 +22,19 @@ add_entry_rows-requires-clause-fits g c =
     let fits = solution_fits d key t c.self.invariant.formed (node_of es e) (group_of es e) (place_of es e) (c.self.invariant.streams.owners e within).0 (entry_inside d key t es n c.self.invariant.streams e within) in
     none_addable d (get_or (group_list d key t (node_of es e) (group_of es e)) (place_of es e) (key_none d 16)) fits.1
 
-pub returns-clause-rows : goal.returns-clause-rows
-returns-clause-rows g c =
-    let d = g.R.Rank.KEYS in
-    let key = g.R.Rank.key in
+pub returns : goal.returns
+returns g c =
     let t = c.self.inside.solutions.tree.now in
-    let es = c.self.inside.solutions.entries.entries in
-    let e = c.args.entry in
-    subst (λ (s : StreamsView g.row.R.Denot). c.add_entry_rows.new.numbers ≡ rows_of_key d 16 (entry_key d key s e)) c.self.view_is
-    (none_added d (get_or (group_list d key t (node_of es e) (group_of es e)) (place_of es e) (key_none d 16)) c.add_entry_rows.new.numbers c.add_entry_rows.array_long c.add_entry_rows.ensures.added)
-
-pub returns-clause-cost : goal.returns-clause-cost
-returns-clause-cost g c =
-    let t = c.self.inside.solutions.tree.now in
-    let same : length t ≡ length c.args.self.now.tree = ap (λ (s : StreamsView g.row.R.Denot). length s.tree) c.self.view_is in
-    omega (arith, c.add_entry_rows.ensures.cost, subtree_few g.R.Rank.KEYS g.R.Rank.key t c.self.invariant.formed (node_of c.self.inside.solutions.entries.entries c.args.entry), same)
+    record {
+      cost =
+          let same : length t ≡ length c.args.self.now.tree = ap (λ (s : StreamsView g.row.R.Denot). length s.tree) c.self.view_is in
+          omega (arith, c.add_entry_rows.ensures.cost, subtree_few g.R.Rank.KEYS g.R.Rank.key t c.self.invariant.formed (node_of c.self.inside.solutions.entries.entries c.args.entry), same);
+      rows =
+          let d = g.R.Rank.KEYS in
+          let key = g.R.Rank.key in
+          let t = c.self.inside.solutions.tree.now in
+          let es = c.self.inside.solutions.entries.entries in
+          let e = c.args.entry in
+          subst (λ (s : StreamsView g.row.R.Denot). c.add_entry_rows.new.numbers ≡ rows_of_key d 16 (entry_key d key s e)) c.self.view_is
+          (none_added d (get_or (group_list d key t (node_of es e) (group_of es e)) (place_of es e) (key_none d 16)) c.add_entry_rows.new.numbers c.add_entry_rows.array_long c.add_entry_rows.ensures.added);
+    }
