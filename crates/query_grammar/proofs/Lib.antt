@@ -9,6 +9,7 @@ pub mod Stepping
 pub mod Handed
 pub mod Adding
 pub mod Examples
+pub mod SameKinds
 pub mod Decimal
 pub mod Limited
 pub mod Answered

@@ -276,7 +276,7 @@ impl Listed for Term {
 impl Part for KeyRef {
     ghost one_at = { key_at };
 
-    #[tactic(auto, using(crate::proofs::Stepping::term_steps), unfolding(crate::specs::Reading::key_at, crate::specs::Reading::terms_at))]
+    #[tactic(auto, unfolding(crate::specs::Reading::key_at, crate::specs::Reading::terms_at))]
     fn read<'a, 't>(
         alloc: Global,
         tokens: &'t [Token<'a>],
@@ -339,7 +339,7 @@ impl Listed for Select {
 }
 
 /// Reads what is selected: `*`, or column references.
-#[tactic(auto, using(crate::proofs::Stepping::column_steps), unfolding(crate::specs::Reading::list_at, crate::specs::Reading::columns_at))]
+#[tactic(auto, unfolding(crate::specs::Reading::list_at, crate::specs::Reading::columns_at))]
 fn list<'a, 't>(
     alloc: Global,
     tokens: &'t [Token<'a>],
@@ -502,7 +502,7 @@ fn plain_item<'a, 't>(
 }
 
 /// Reads an item, `on` and its conditions.
-#[tactic(auto, using(crate::proofs::Stepping::condition_steps), unfolding(crate::specs::Reading::joined_item_at, crate::specs::Reading::conditions_at))]
+#[tactic(auto, unfolding(crate::specs::Reading::joined_item_at, crate::specs::Reading::conditions_at))]
 fn joined_item<'a, 't>(
     alloc: Global,
     tokens: &'t [Token<'a>],
@@ -615,7 +615,7 @@ fn items<'a, 't>(
 }
 
 /// Reads `where` and its conditions, if there is a `where`.
-#[tactic(auto, using(crate::proofs::Stepping::condition_steps), unfolding(crate::specs::Reading::where_at, crate::specs::Reading::conditions_at))]
+#[tactic(auto, unfolding(crate::specs::Reading::where_at, crate::specs::Reading::conditions_at))]
 fn where_clause<'a, 't>(
     alloc: Global,
     tokens: &'t [Token<'a>],
@@ -671,7 +671,7 @@ fn direction<'a, 't>(tokens: &'t [Token<'a>]) -> (bool, &'t [Token<'a>])
 }
 
 /// Reads `order by` and its keys, if there is an `order`.
-#[tactic(auto, using(crate::proofs::Stepping::key_steps), unfolding(crate::specs::Reading::order_at, crate::specs::Reading::keys_at))]
+#[tactic(auto, unfolding(crate::specs::Reading::order_at, crate::specs::Reading::keys_at))]
 fn order_clause<'a, 't>(
     alloc: Global,
     tokens: &'t [Token<'a>],
@@ -775,7 +775,7 @@ pub(crate) fn query<'a>(
 }
 
 /// The branches without their limit, and the limit's digits.
-#[tactic(auto, using(crate::proofs::Stepping::branch_steps), unfolding(crate::specs::Reading::queries_at, crate::specs::Reading::branches_at))]
+#[tactic(auto, unfolding(crate::specs::Reading::queries_at, crate::specs::Reading::branches_at))]
 pub(crate) fn queries<'a>(
     alloc: Global,
     tokens: &[Token<'a>],
