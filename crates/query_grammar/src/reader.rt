@@ -64,12 +64,13 @@ fn add<'a, 't, T: Drop>(
 ) -> Result<Option<&'t [Token<'a>]>, ParseFault>
     ensures { Added list.old.items list.new.items next.entry result }
 {
-    match next? {
-        None => Ok(None),
-        Some((thing, rest)) => {
+    match next {
+        Ok(None) => Ok(None),
+        Ok(Some((thing, rest))) => {
             list.push(thing)?;
             Ok(Some(rest))
         }
+        Err(fault) => Err(fault),
     }
 }
 
@@ -109,8 +110,10 @@ fn qualified_column(
 fn found<T>(read: Result<T, ParseFault>) -> Result<Option<T>, ParseFault>
     ensures { result ≡ found read }
 {
-    let thing = read?;
-    Ok(Some(thing))
+    match read {
+        Ok(thing) => Ok(Some(thing)),
+        Err(fault) => Err(fault),
+    }
 }
 
 /// A part of a query that is read by itself.
@@ -246,13 +249,16 @@ impl Listed for Equality {
 impl Part for Term {
     ghost one_at = { first_term_at };
 
+    #[tactic(auto, unfolding(crate::specs::Reading::term_at))]
     fn read<'a, 't>(
         alloc: Global,
         tokens: &'t [Token<'a>],
         end: u32,
     ) -> Result<(Term, &'t [Token<'a>]), ParseFault> {
         let (minus, rest) = sign(tokens);
-        term(alloc, minus.unwrap_or(false), rest, end)
+        let minus = minus.unwrap_or(false);
+        let (column, rest) = ColumnRef::read(alloc, rest, end)?;
+        Ok((Term { minus, column }, rest))
     }
 }
 
@@ -266,8 +272,8 @@ impl Listed for Term {
         tokens: &'t [Token<'a>],
         end: u32,
     ) -> Result<Option<(Term, &'t [Token<'a>])>, ParseFault> {
-        if let (Some(minus), rest) = sign(tokens) {
-            return found(term(alloc, minus, rest, end));
+        if let (Some(_), _) = sign(tokens) {
+            return found(Term::read(alloc, tokens, end));
         }
         Ok(None)
     }
@@ -336,23 +342,6 @@ impl Listed for Select {
         let (_, rest) = expect(rest, end, Kind::All)?;
         found(Select::read(alloc, rest, end))
     }
-}
-
-/// Reads what is selected: `*`, or column references.
-#[tactic(auto, unfolding(crate::specs::Reading::list_at, crate::specs::Reading::columns_at))]
-fn list<'a, 't>(
-    alloc: Global,
-    tokens: &'t [Token<'a>],
-    end: u32,
-) -> Result<(SelectList, &'t [Token<'a>]), ParseFault>
-    ensures { Gives end (λ x. (x.0, lexemes x.1.now)) result (list_at (lexemes tokens.now)) }
-{
-    let (star, rest) = optional(tokens, Kind::Star);
-    if star.is_some() {
-        return Ok((SelectList::Star, rest));
-    }
-    let (columns, rest) = several(alloc, tokens, end)?;
-    Ok((SelectList::Columns(Sequence::from_vec(columns)), rest))
 }
 
 /// Copies a byte of a string, except for the second quote of two. Returns whether the byte is the
@@ -432,15 +421,17 @@ fn with_left<'a, 't>(
         (with_left left (lexemes tokens.now)) }
 {
     match left {
-        Side::Column(left) => {
-            let (right, rest) = side(alloc, tokens, end)?;
-            Ok((Equality { left, right }, rest))
-        }
-        Side::Constant(bytes) => {
-            let (left, rest) = ColumnRef::read(alloc, tokens, end)?;
-            let right = Side::Constant(bytes);
-            Ok((Equality { left, right }, rest))
-        }
+        Side::Column(left) => match side(alloc, tokens, end) {
+            Ok((right, rest)) => Ok((Equality { left, right }, rest)),
+            Err(fault) => Err(fault),
+        },
+        Side::Constant(bytes) => match ColumnRef::read(alloc, tokens, end) {
+            Ok((left, rest)) => {
+                let right = Side::Constant(bytes);
+                Ok((Equality { left, right }, rest))
+            }
+            Err(fault) => Err(fault),
+        },
     }
 }
 
@@ -517,22 +508,8 @@ fn joined_item<'a, 't>(
     Ok((Joined { item, on }, rest))
 }
 
-/// Reads `join` and an item with its conditions.
-#[tactic(auto, unfolding(crate::specs::Reading::inner_item_at))]
-fn inner_item<'a, 't>(
-    alloc: Global,
-    tokens: &'t [Token<'a>],
-    end: u32,
-) -> Result<(Joined, &'t [Token<'a>]), ParseFault>
-    ensures { Gives end (λ x. ((x.0.item, x.0.on.items), lexemes x.1.now)) result
-        (inner_item_at (lexemes tokens.now)) }
-{
-    let (_, rest) = expect(tokens, end, Kind::Join)?;
-    joined_item(alloc, rest, end)
-}
-
 /// Reads a further item, if a comma or a `join` comes before it.
-#[tactic(auto, using(crate::proofs::Handed::found_gives), unfolding(crate::specs::Reading::next_item_at))]
+#[tactic(auto, using(crate::proofs::Handed::found_gives), unfolding(crate::specs::Reading::next_item_at, crate::specs::Reading::inner_item_at))]
 fn next_item<'a, 't>(
     alloc: Global,
     tokens: &'t [Token<'a>],
@@ -545,7 +522,8 @@ fn next_item<'a, 't>(
         return found(plain_item(alloc, rest, end));
     }
     if let (Some(_), rest) = optional(tokens, Kind::Inner) {
-        return found(inner_item(alloc, rest, end));
+        let (_, rest) = expect(rest, end, Kind::Join)?;
+        return found(joined_item(alloc, rest, end));
     }
     if let (Some(_), rest) = optional(tokens, Kind::Join) {
         return found(joined_item(alloc, rest, end));
@@ -561,17 +539,6 @@ struct FromItems {
 }
 
 impl FromItems {
-    /// One item, without conditions.
-    fn of(alloc: Global, item: ItemRef) -> Result<FromItems, AllocError>
-        ensures items { IfOk result (λ f. f.items.items ≡ item ∷ []) }
-        ensures on { IfOk result (λ f. f.on.items ≡ []) }
-    {
-        let mut items = Vec::new(alloc);
-        items.push(item)?;
-        let on = Vec::new(alloc);
-        Ok(FromItems { items, on })
-    }
-
     /// Puts an item after the others, and its conditions after theirs.
     fn push(&mut self, joined: Joined) -> Result<(), AllocError>
         ensures items { OnOk result
@@ -581,16 +548,6 @@ impl FromItems {
         let Joined { item, mut on } = joined;
         self.items.push(item)?;
         self.on.append(&mut on)?;
-        Ok(())
-    }
-
-    /// Puts further conditions after the others.
-    fn filter(&mut self, conditions: Vec<Equality>) -> Result<(), AllocError>
-        ensures items { self.new.items.items ≡ self.old.items.items }
-        ensures on { OnOk result (self.new.on.items ≡ self.old.on.items ++ conditions.items) }
-    {
-        let mut conditions = conditions;
-        self.on.append(&mut conditions)?;
         Ok(())
     }
 }
@@ -606,7 +563,10 @@ fn items<'a, 't>(
         (items_at (lexemes tokens.now)) }
 {
     let (first, mut rest) = item(alloc, tokens, end)?;
-    let mut found = FromItems::of(alloc, first)?;
+    let mut items = Vec::new(alloc);
+    items.push(first)?;
+    let on = Vec::new(alloc);
+    let mut found = FromItems { items, on };
     while let Some((joined, after)) = next_item(alloc, rest, end)? {
         found.push(joined)?;
         rest = after;
@@ -642,20 +602,6 @@ fn sign<'a, 't>(tokens: &'t [Token<'a>]) -> (Option<bool>, &'t [Token<'a>])
         return (Some(false), rest);
     }
     (None, tokens)
-}
-
-/// Reads a column that an order key adds, or subtracts if there is a minus.
-#[tactic(auto, unfolding(crate::specs::Reading::term_at))]
-fn term<'a, 't>(
-    alloc: Global,
-    minus: bool,
-    tokens: &'t [Token<'a>],
-    end: u32,
-) -> Result<(Term, &'t [Token<'a>]), ParseFault>
-    ensures { Gives end (λ x. (x.0, lexemes x.1.now)) result (term_at minus (lexemes tokens.now)) }
-{
-    let (column, rest) = ColumnRef::read(alloc, tokens, end)?;
-    Ok((Term { minus, column }, rest))
 }
 
 /// Whether there is a DESC. An ASC is read too.
@@ -704,21 +650,8 @@ fn limit_clause<'a, 't>(
     Ok((Some(digits), rest))
 }
 
-/// Tests that nothing is left except an optional `;`.
-#[tactic(auto, unfolding(crate::specs::Reading::finish_at))]
-fn finish(tokens: &[Token<'_>], end: u32) -> Result<(), ParseFault>
-    ensures { Gives end (λ _. tt) result (finish_at (lexemes tokens.now)) }
-{
-    let (_, rest) = optional(tokens, Kind::Semicolon);
-    if rest.is_empty() {
-        Ok(())
-    } else {
-        Err(ParseFault::Syntax(place(rest, end)))
-    }
-}
-
-/// Reads `select`, and what is selected.
-#[tactic(auto, unfolding(crate::specs::Reading::selection_at))]
+/// Reads `select`, and what is selected: `*`, or column references.
+#[tactic(auto, unfolding(crate::specs::Reading::selection_at, crate::specs::Reading::list_at, crate::specs::Reading::columns_at))]
 fn selection<'a, 't>(
     alloc: Global,
     tokens: &'t [Token<'a>],
@@ -726,8 +659,13 @@ fn selection<'a, 't>(
 ) -> Result<(SelectList, &'t [Token<'a>]), ParseFault>
     ensures { Gives end (λ x. (x.0, lexemes x.1.now)) result (selection_at (lexemes tokens.now)) }
 {
-    let (_, rest) = expect(tokens, end, Kind::Select)?;
-    list(alloc, rest, end)
+    let (_, tokens) = expect(tokens, end, Kind::Select)?;
+    let (star, rest) = optional(tokens, Kind::Star);
+    if star.is_some() {
+        return Ok((SelectList::Star, rest));
+    }
+    let (columns, rest) = several(alloc, tokens, end)?;
+    Ok((SelectList::Columns(Sequence::from_vec(columns)), rest))
 }
 
 /// Reads `from` and items, and puts the conditions of the `where` after those of their joins.
@@ -742,12 +680,13 @@ fn sources<'a, 't>(
 {
     let (_, rest) = expect(tokens, end, Kind::From)?;
     let (mut found, rest) = items(alloc, rest, end)?;
-    let (conditions, rest) = where_clause(alloc, rest, end)?;
-    found.filter(conditions)?;
+    let (mut conditions, rest) = where_clause(alloc, rest, end)?;
+    found.on.append(&mut conditions)?;
     Ok((found, rest))
 }
 
 /// What was read, with the limit's digits after it. Nothing but a `;` may be left after them.
+#[tactic(auto, unfolding(crate::specs::Reading::finish_at))]
 fn ended<'a, T: Drop>(
     read: T,
     tokens: &[Token<'a>],
@@ -757,8 +696,12 @@ fn ended<'a, T: Drop>(
         (ended_at read (lexemes tokens.now)) }
 {
     let (digits, rest) = limit_clause(tokens, end)?;
-    finish(rest, end)?;
-    Ok((read, digits))
+    let (_, rest) = optional(rest, Kind::Semicolon);
+    if rest.is_empty() {
+        Ok((read, digits))
+    } else {
+        Err(ParseFault::Syntax(place(rest, end)))
+    }
 }
 
 /// A query without its limit, and the limit's digits.

@@ -15,7 +15,7 @@ loop-found-smaller c = fewer item_steps c.loop-found.rest.now c.in-Some.after.no
 
 pub loop-found-preserved : goal.loop-found-preserved
 loop-found-preserved c =
-    rw (c.in_ok-push.ensures.items, c.in_ok-push.ensures.on) (items_go_on item_steps c.loop-found.found.items.items c.loop-found.found.on.items (c.in-Some.joined.item, c.in-Some.joined.on.items) (lexemes c.loop-found.rest.now) (lexemes c.in-Some.after.now) (items_at (lexemes c.args.tokens.now)) (rw c.in-Some.is at c.in_ok-joined.ensures) c.loop-found.invariant)
+    rw (c.in_ok-push-2.ensures.items, c.in_ok-push-2.ensures.on) (items_go_on item_steps c.loop-found.found.items.items c.loop-found.found.on.items (c.in-Some.joined.item, c.in-Some.joined.on.items) (lexemes c.loop-found.rest.now) (lexemes c.in-Some.after.now) (items_at (lexemes c.args.tokens.now)) (rw c.in-Some.is at c.in_ok-joined.ensures) c.loop-found.invariant)
 
 pub returns : goal.returns
 returns c = items_done item_steps c.loop-found.found.items.items c.loop-found.found.on.items (lexemes c.loop-found.rest.now) (items_at (lexemes c.args.tokens.now)) (rw c.in_default.is at c.in_ok-joined.ensures) c.loop-found.invariant
