@@ -17,7 +17,13 @@ at_found : {A R : Type 0} (next was : Result (Option (A × R)) ParseFault) (toke
 at_found next was tokens_of end read e h = subst (λ (n : Result (Option (_ × _)) ParseFault). Finds n tokens_of end read) e h
 
 at_fault : {A R : Type 0} (next : Result (Option (A × R)) ParseFault) (tokens_of : R → List Token) (end : ℕ) (read : Next A) (e : ParseFault) → (fault.NoMemory ≢ e → next ≡ Err e) → Finds next tokens_of end read → Fails end e read
-at_fault next tokens_of end read e is h = λ q. at_found next (Err e) tokens_of end read (is q) h q
+at_fault next tokens_of end read fault.NoMemory is h = tt
+at_fault next tokens_of end read (fault.Syntax at) is h = at_found next (Err (fault.Syntax at)) tokens_of end read (is (λ q. absurd cc)) h
+at_fault next tokens_of end read fault.TooLong is h = at_found next (Err fault.TooLong) tokens_of end read (is (λ q. absurd cc)) h
+at_fault next tokens_of end read fault.TooManyBranches is h = at_found next (Err fault.TooManyBranches) tokens_of end read (is (λ q. absurd cc)) h
+at_fault next tokens_of end read fault.TooManyItems is h = at_found next (Err fault.TooManyItems) tokens_of end read (is (λ q. absurd cc)) h
+at_fault next tokens_of end read fault.TooManyKeys is h = at_found next (Err fault.TooManyKeys) tokens_of end read (is (λ q. absurd cc)) h
+at_fault next tokens_of end read (fault.LimitRange at) is h = at_found next (Err (fault.LimitRange at)) tokens_of end read (is (λ q. absurd cc)) h
 
 pub adding_goes_on : {A R : Type 0} {next_at : List Lexeme → Next A} → Steps next_at → (next : Result (Option (A × R)) ParseFault) (rest : R) (tokens_of : R → List Token) (end : ℕ) (old new : List A) (ts : List Lexeme) (total : Read (List A))
     → Finds next tokens_of end (next_at ts) → Added old new next (Ok (Some rest)) → with_front old (all_at next_at ts) ≡ total → with_front new (all_at next_at (lexemes (tokens_of rest))) ≡ total

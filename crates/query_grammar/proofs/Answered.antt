@@ -1,27 +1,22 @@
 -- What each step of parsing says about the bytes.
-use Rattle.std.proofs.Common.{◌≡◌, ℕ, ◌≤◌, List, length, Option, Result, Ok, Err, true, sym, ap, ◌∙◌}
+use Rattle.std.proofs.Common.{◌≡◌, ℕ, ◌≤◌, List, length, Option, Ok, Err, true, sym, ap, ◌∙◌}
 use Rattle.query_grammar.specs.declared.fault.ParseFault.{ParseFault}
 use Rattle.query_grammar.specs.declared.fault.ParseFault.TheVariants as fault
 use Rattle.query_tokens.specs.Lexeme.{Lexeme}
-use Rattle.query_grammar.specs.Reading.{Clauses, Branches, Fails, place_of, query_at, queries_at}
+use Rattle.query_grammar.specs.Reading.{Clauses, Branches, Fails, query_at, queries_at}
 use Rattle.query_tokens.specs.Tokens.{tokens_of}
 use Rattle.query_grammar.specs.Parse.{Says, SaysAll, Faults, FaultsAll, IsParsed, IsParsedAll, Limits, LimitsAll}
 use Rattle.query_grammar.proofs.Stuck.{queries_found, first_fault_of}
 use Rattle.query_grammar.proofs.OneQuery.{query_found, first_fault}
 
-syntax_at : {Y : Type 0} {read : Result Y (List Lexeme)} (end at : ℕ) → Fails end (fault.Syntax at) read → (left : List Lexeme) × (read ≡ Err left) × (at ≡ place_of end left)
-syntax_at end at h = let stopped = h (λ q. absurd cc) in (stopped.0, stopped.1, (let same = stopped.2 in cc))
-
 pub fails_faults : (bytes : List ℕ) (e : ParseFault) (ts : List Lexeme) → length bytes ≤ 65536 → ts ≡ tokens_of bytes → Fails (length bytes) e (query_at ts) → Faults bytes e
 fails_faults bytes fault.NoMemory ts short is h = tt
-fails_faults bytes (fault.Syntax at) ts short is h =
-    let stopped = syntax_at (length bytes) at h in
-    (short, stopped.0, first_fault (tokens_of bytes) stopped.0 (ap query_at (sym is) ∙ stopped.1), stopped.2)
-fails_faults bytes fault.TooLong ts short is h = let stopped = h (λ q. absurd cc) in absurd cc
-fails_faults bytes fault.TooManyBranches ts short is h = let stopped = h (λ q. absurd cc) in absurd cc
-fails_faults bytes fault.TooManyItems ts short is h = let stopped = h (λ q. absurd cc) in absurd cc
-fails_faults bytes fault.TooManyKeys ts short is h = let stopped = h (λ q. absurd cc) in absurd cc
-fails_faults bytes (fault.LimitRange at) ts short is h = let stopped = h (λ q. absurd cc) in absurd cc
+fails_faults bytes (fault.Syntax at) ts short is h = (short, h.0, first_fault (tokens_of bytes) h.0 (ap query_at (sym is) ∙ h.1), h.2)
+fails_faults bytes fault.TooLong ts short is h = absurd h
+fails_faults bytes fault.TooManyBranches ts short is h = absurd h
+fails_faults bytes fault.TooManyItems ts short is h = absurd h
+fails_faults bytes fault.TooManyKeys ts short is h = absurd h
+fails_faults bytes (fault.LimitRange at) ts short is h = absurd h
 
 pub says_read : (bytes : List ℕ) (ts : List Lexeme) (x : Clauses) → length bytes ≤ 65536 → ts ≡ tokens_of bytes → query_at ts ≡ Ok x → Says bytes x
 says_read bytes ts x short is e = record { short = short; query = query_found (tokens_of bytes) x (ap query_at (sym is) ∙ e) }
@@ -44,13 +39,12 @@ pub fails_faults_all : (bytes : List ℕ) (e : ParseFault) (ts : List Lexeme)
     → length bytes ≤ 65536 → ts ≡ tokens_of bytes → Fails (length bytes) e (queries_at true ts) → FaultsAll bytes e
 fails_faults_all bytes fault.NoMemory ts short is h = tt
 fails_faults_all bytes (fault.Syntax at) ts short is h =
-    let stopped = syntax_at (length bytes) at h in
-    (short, stopped.0, first_fault_of true (tokens_of bytes) stopped.0 (ap (queries_at true) (sym is) ∙ stopped.1), stopped.2)
-fails_faults_all bytes fault.TooLong ts short is h = let stopped = h (λ q. absurd cc) in absurd cc
-fails_faults_all bytes fault.TooManyBranches ts short is h = let stopped = h (λ q. absurd cc) in absurd cc
-fails_faults_all bytes fault.TooManyItems ts short is h = let stopped = h (λ q. absurd cc) in absurd cc
-fails_faults_all bytes fault.TooManyKeys ts short is h = let stopped = h (λ q. absurd cc) in absurd cc
-fails_faults_all bytes (fault.LimitRange at) ts short is h = let stopped = h (λ q. absurd cc) in absurd cc
+    (short, h.0, first_fault_of true (tokens_of bytes) h.0 (ap (queries_at true) (sym is) ∙ h.1), h.2)
+fails_faults_all bytes fault.TooLong ts short is h = absurd h
+fails_faults_all bytes fault.TooManyBranches ts short is h = absurd h
+fails_faults_all bytes fault.TooManyItems ts short is h = absurd h
+fails_faults_all bytes fault.TooManyKeys ts short is h = absurd h
+fails_faults_all bytes (fault.LimitRange at) ts short is h = absurd h
 
 pub says_all_read : (bytes : List ℕ) (ts : List Lexeme) (x : Branches)
     → length bytes ≤ 65536 → ts ≡ tokens_of bytes → queries_at true ts ≡ Ok x → SaysAll bytes x

@@ -2,6 +2,7 @@
 use Rattle.std.proofs.Common.{◌≡◌, ℕ, zero, suc, ◌≤◌, ◌<◌, List, [], ◌∷◌, ◌++◌, length, map, Some, None, Ok, Err, refl, sym, ap, ◌∙◌, append_assoc, arith, subst, Bool}
 use Rattle.std.proofs.lemmas.List.{append-nil}
 use Rattle.query_grammar.specs.declared.fault.ParseFault.{ParseFault}
+use Rattle.query_grammar.specs.declared.fault.ParseFault.TheVariants as fault
 use Rattle.std.specs.List.{flat_map}
 use Rattle.query_select.specs.declared.select.ItemRef.{ItemRef}
 use Rattle.query_select.specs.declared.select.Equality.{Equality}
@@ -55,10 +56,16 @@ goes_on {next = next} s front x ts rest total h so_far =
 
 pub ends : {A : Type 0} {next : List Lexeme → Next A} → Steps next → (end : ℕ) (e : ParseFault) (front : List A) (ts : List Lexeme) (total : Read (List A)) → Fails end e (next ts)
     → with_front front (all_at next ts) ≡ total → Fails end e total
-ends {next = next} s end e front ts total h so_far = λ q.
-    let stopped = h q in
-    let one : with_front front (all_at next ts) ≡ Err stopped.0 = rw (all_more next s ts, stopped.1) refl in
-    (stopped.0, sym so_far ∙ one, stopped.2)
+ends s end fault.NoMemory front ts total h so_far = tt
+ends {next = next} s end (fault.Syntax at) front ts total h so_far =
+    let stopped : next ts ≡ Err h.0 = h.1 in
+    let one : with_front front (all_at next ts) ≡ Err h.0 = rw (all_more next s ts, stopped) refl in
+    (h.0, sym so_far ∙ one, h.2)
+ends s end fault.TooLong front ts total h so_far = h
+ends s end fault.TooManyBranches front ts total h so_far = h
+ends s end fault.TooManyItems front ts total h so_far = h
+ends s end fault.TooManyKeys front ts total h so_far = h
+ends s end (fault.LimitRange at) front ts total h so_far = h
 
 pub is_done : {A : Type 0} {next : List Lexeme → Next A} → Steps next → (front : List A) (ts : List Lexeme) (total : Read (List A)) → next ts ≡ Ok None
     → with_front front (all_at next ts) ≡ total → total ≡ Ok (front, ts)
@@ -87,10 +94,16 @@ items_go_on s is on j ts rest total h so_far =
 
 pub items_end : Steps next_item_at → (end : ℕ) (e : ParseFault) (is : List ItemRef) (on : List Equality) (ts : List Lexeme) (total : Read (List ItemRef × List Equality)) → Fails end e (next_item_at ts)
     → with_items is on (all_at next_item_at ts) ≡ total → Fails end e total
-items_end s end e is on ts total h so_far = λ q.
-    let stopped = h q in
-    let one : with_items is on (all_at next_item_at ts) ≡ Err stopped.0 = rw (all_more next_item_at s ts, stopped.1) refl in
-    (stopped.0, sym so_far ∙ one, stopped.2)
+items_end s end fault.NoMemory is on ts total h so_far = tt
+items_end s end (fault.Syntax at) is on ts total h so_far =
+    let stopped : next_item_at ts ≡ Err h.0 = h.1 in
+    let one : with_items is on (all_at next_item_at ts) ≡ Err h.0 = rw (all_more next_item_at s ts, stopped) refl in
+    (h.0, sym so_far ∙ one, h.2)
+items_end s end fault.TooLong is on ts total h so_far = h
+items_end s end fault.TooManyBranches is on ts total h so_far = h
+items_end s end fault.TooManyItems is on ts total h so_far = h
+items_end s end fault.TooManyKeys is on ts total h so_far = h
+items_end s end (fault.LimitRange at) is on ts total h so_far = h
 
 pub items_done : Steps next_item_at → (is : List ItemRef) (on : List Equality) (ts : List Lexeme) (total : Read (List ItemRef × List Equality)) → next_item_at ts ≡ Ok None
     → with_items is on (all_at next_item_at ts) ≡ total → total ≡ Ok ((is, on), ts)

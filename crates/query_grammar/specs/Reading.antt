@@ -39,8 +39,14 @@ place_of end (t ∷ ts) = t.at
 
 -- The result of a function, as `view` sees it, is what reading gives, unless memory ran out.
 abbrev pub Fails : {Y : Type 0} → ℕ → ParseFault → Result Y (List Lexeme) → Type 0
-Fails end e read = fault.NoMemory ≢ e → (left : List Lexeme) × (read ≡ Err left)
-    × (e ≡ fault.Syntax (place_of end left))
+Fails end fault.NoMemory read = Unit {0}
+Fails end (fault.Syntax at) read = (left : List Lexeme) × (read ≡ Err left)
+    × (at ≡ place_of end left)
+Fails end fault.TooLong read = ⊥
+Fails end fault.TooManyBranches read = ⊥
+Fails end fault.TooManyItems read = ⊥
+Fails end fault.TooManyKeys read = ⊥
+Fails end (fault.LimitRange at) read = ⊥
 
 abbrev pub Gives : {X Y : Type 0} → ℕ → (X → Y) → Result X ParseFault → Result Y (List Lexeme)
     → Type 0
