@@ -8,6 +8,7 @@ pub mod Loops
 pub mod Stepping
 pub mod Handed
 pub mod Adding
+pub mod Putting
 pub mod Examples
 pub mod SameKinds
 pub mod Decimal

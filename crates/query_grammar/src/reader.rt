@@ -3,7 +3,7 @@
 ghost use Rattle.std.specs.Prelude.{◌≡◌, length, ◌≤◌, ◌++◌, ◌∷◌, [], MatchOption, Some, None, true, IfOk, OnOk, option_copied, Option, Bool, List, ℕ};
 ghost use Rattle.std.specs.Option.{option_map};
 ghost use Rattle.query_tokens.specs.Lexeme.{Lexeme, lexeme, lexemes};
-ghost use Rattle.query_grammar.specs.Reading.{Gives, Added, found, expect_at, optional_at, place_of, column_at, next_column_at, list_at, undoubled, undoubled_from, side_at, condition_at, next_condition_at, alias_at, item_at, plain_item_at, joined_item_at, inner_item_at, next_item_at, items_at, where_at, sign_at, term_at, next_term_at, direction_at, key_at, next_key_at, order_at, limit_at, finish_at, selection_at, sources_at, branch_at, ended_at, query_at, next_branch_at, queries_at, some_lexeme, with_left, Read, Next, Steps, behind, several_at, first_term_at};
+ghost use Rattle.query_grammar.specs.Reading.{Gives, Added, found, expect_at, optional_at, place_of, column_at, next_column_at, list_at, undoubled, undoubled_from, side_at, condition_at, next_condition_at, alias_at, item_at, plain_item_at, joined_item_at, inner_item_at, next_item_at, items_at, put_after, put_next, where_at, sign_at, term_at, next_term_at, direction_at, key_at, next_key_at, order_at, limit_at, finish_at, selection_at, sources_at, branch_at, ended_at, query_at, next_branch_at, queries_at, some_lexeme, with_left, Read, Next, Steps, behind, several_at, first_term_at};
 ghost use Rattle.query_tokens.specs.Kinds.{same};
 
 use crate::fault::ParseFault;
@@ -470,67 +470,6 @@ fn alias<'a, 't>(
     Ok((table, tokens))
 }
 
-/// An item with the equalities of its ON.
-#[derive(Drop)]
-struct Joined {
-    item: ItemRef,
-    on: Vec<Equality>,
-}
-
-/// Reads an item that has no conditions of its own.
-#[tactic(auto, unfolding(crate::specs::Reading::plain_item_at))]
-fn plain_item<'a, 't>(
-    alloc: Global,
-    tokens: &'t [Token<'a>],
-    end: u32,
-) -> Result<(Joined, &'t [Token<'a>]), ParseFault>
-    ensures { Gives end (λ x. ((x.0.item, x.0.on.items), lexemes x.1.now)) result
-        (plain_item_at (lexemes tokens.now)) }
-{
-    let (item, rest) = item(alloc, tokens, end)?;
-    let on = Vec::new(alloc);
-    Ok((Joined { item, on }, rest))
-}
-
-/// Reads an item, `on` and its conditions.
-#[tactic(auto, unfolding(crate::specs::Reading::joined_item_at, crate::specs::Reading::conditions_at))]
-fn joined_item<'a, 't>(
-    alloc: Global,
-    tokens: &'t [Token<'a>],
-    end: u32,
-) -> Result<(Joined, &'t [Token<'a>]), ParseFault>
-    ensures { Gives end (λ x. ((x.0.item, x.0.on.items), lexemes x.1.now)) result
-        (joined_item_at (lexemes tokens.now)) }
-{
-    let (item, rest) = item(alloc, tokens, end)?;
-    let (_, rest) = expect(rest, end, Kind::On)?;
-    let (on, rest) = several(alloc, rest, end)?;
-    Ok((Joined { item, on }, rest))
-}
-
-/// Reads a further item, if a comma or a `join` comes before it.
-#[tactic(auto, using(crate::proofs::Handed::found_gives), unfolding(crate::specs::Reading::next_item_at, crate::specs::Reading::inner_item_at))]
-fn next_item<'a, 't>(
-    alloc: Global,
-    tokens: &'t [Token<'a>],
-    end: u32,
-) -> Result<Option<(Joined, &'t [Token<'a>])>, ParseFault>
-    ensures { Gives end (option_map (λ x. ((x.0.item, x.0.on.items), lexemes x.1.now))) result
-        (next_item_at (lexemes tokens.now)) }
-{
-    if let (Some(_), rest) = optional(tokens, Kind::Comma) {
-        return found(plain_item(alloc, rest, end));
-    }
-    if let (Some(_), rest) = optional(tokens, Kind::Inner) {
-        let (_, rest) = expect(rest, end, Kind::Join)?;
-        return found(joined_item(alloc, rest, end));
-    }
-    if let (Some(_), rest) = optional(tokens, Kind::Join) {
-        return found(joined_item(alloc, rest, end));
-    }
-    Ok(None)
-}
-
 /// The from-items, and the equalities of their ON.
 #[derive(Drop)]
 struct FromItems {
@@ -539,16 +478,68 @@ struct FromItems {
 }
 
 impl FromItems {
-    /// Puts an item after the others, and its conditions after theirs.
-    fn push(&mut self, joined: Joined) -> Result<(), AllocError>
-        ensures items { OnOk result
-            (self.new.items.items ≡ self.old.items.items ++ joined.item ∷ []) }
-        ensures on { OnOk result (self.new.on.items ≡ self.old.on.items ++ joined.on.items) }
+    /// Reads an item that has no conditions of its own, and puts it after the others.
+    #[tactic(auto, using(crate::proofs::Putting::plain_put), unfolding(crate::specs::Reading::plain_item_at))]
+    fn read_plain<'a, 't>(
+        &mut self,
+        alloc: Global,
+        tokens: &'t [Token<'a>],
+        end: u32,
+    ) -> Result<&'t [Token<'a>], ParseFault>
+        ensures { Gives end (λ x. ((self.new.items.items, self.new.on.items), lexemes x.now)) result
+            (put_after (self.old.items.items, self.old.on.items)
+            (plain_item_at (lexemes tokens.now))) }
     {
-        let Joined { item, mut on } = joined;
+        let (item, rest) = item(alloc, tokens, end)?;
         self.items.push(item)?;
+        Ok(rest)
+    }
+
+    /// Reads an item, `on` and its conditions, and puts them after the others.
+    #[tactic(auto, unfolding(crate::specs::Reading::joined_item_at, crate::specs::Reading::conditions_at))]
+    fn read_joined<'a, 't>(
+        &mut self,
+        alloc: Global,
+        tokens: &'t [Token<'a>],
+        end: u32,
+    ) -> Result<&'t [Token<'a>], ParseFault>
+        ensures { Gives end (λ x. ((self.new.items.items, self.new.on.items), lexemes x.now)) result
+            (put_after (self.old.items.items, self.old.on.items)
+            (joined_item_at (lexemes tokens.now))) }
+    {
+        let (item, rest) = item(alloc, tokens, end)?;
+        self.items.push(item)?;
+        let (_, rest) = expect(rest, end, Kind::On)?;
+        let (mut on, rest) = several(alloc, rest, end)?;
         self.on.append(&mut on)?;
-        Ok(())
+        Ok(rest)
+    }
+
+    /// Reads a further item, if a comma or a `join` comes before it, and puts it after the others.
+    #[tactic(auto, using(crate::proofs::Putting::found_put), unfolding(crate::specs::Reading::next_item_at, crate::specs::Reading::inner_item_at))]
+    fn read_next<'a, 't>(
+        &mut self,
+        alloc: Global,
+        tokens: &'t [Token<'a>],
+        end: u32,
+    ) -> Result<Option<&'t [Token<'a>]>, ParseFault>
+        ensures { Gives end
+            (λ x. ((self.new.items.items, self.new.on.items), option_map (λ r. lexemes r.now) x))
+            result
+            (put_next (self.old.items.items, self.old.on.items)
+            (next_item_at (lexemes tokens.now))) }
+    {
+        if let (Some(_), rest) = optional(tokens, Kind::Comma) {
+            return found(self.read_plain(alloc, rest, end));
+        }
+        if let (Some(_), rest) = optional(tokens, Kind::Inner) {
+            let (_, rest) = expect(rest, end, Kind::Join)?;
+            return found(self.read_joined(alloc, rest, end));
+        }
+        if let (Some(_), rest) = optional(tokens, Kind::Join) {
+            return found(self.read_joined(alloc, rest, end));
+        }
+        Ok(None)
     }
 }
 
@@ -562,13 +553,11 @@ fn items<'a, 't>(
     ensures { Gives end (λ x. ((x.0.items.items, x.0.on.items), lexemes x.1.now)) result
         (items_at (lexemes tokens.now)) }
 {
-    let (first, mut rest) = item(alloc, tokens, end)?;
-    let mut items = Vec::new(alloc);
-    items.push(first)?;
+    let items = Vec::new(alloc);
     let on = Vec::new(alloc);
     let mut found = FromItems { items, on };
-    while let Some((joined, after)) = next_item(alloc, rest, end)? {
-        found.push(joined)?;
+    let mut rest = found.read_plain(alloc, tokens, end)?;
+    while let Some(after) = found.read_next(alloc, rest, end)? {
         rest = after;
     }
     Ok((found, rest))
