@@ -1,9 +1,9 @@
 //! Reading the grammar, token by token.
 
-ghost use Rattle.std.specs.Prelude.{◌≡◌, length, ◌≤◌, ◌++◌, ◌∷◌, [], MatchOption, Some, None, true, IfOk, OnOk, option_copied, Option, Bool, List, ℕ};
+ghost use Rattle.std.specs.Prelude.{◌≡◌, length, ◌≤◌, ◌++◌, ◌∷◌, [], MatchOption, Some, None, true, IfOk, option_copied, Option, Bool, List, ℕ};
 ghost use Rattle.std.specs.Option.{option_map};
 ghost use Rattle.query_tokens.specs.Lexeme.{Lexeme, lexeme, lexemes};
-ghost use Rattle.query_grammar.specs.Reading.{Gives, Added, found, expect_at, optional_at, place_of, column_at, next_column_at, list_at, undoubled, undoubled_from, side_at, condition_at, next_condition_at, alias_at, item_at, plain_item_at, joined_item_at, inner_item_at, next_item_at, items_at, put_after, put_next, where_at, sign_at, term_at, next_term_at, direction_at, key_at, next_key_at, order_at, limit_at, finish_at, selection_at, sources_at, branch_at, ended_at, query_at, next_branch_at, queries_at, some_lexeme, with_left, Read, Next, Steps, behind, several_at, first_term_at};
+ghost use Rattle.query_grammar.specs.Reading.{Gives, Added, found, expect_at, optional_at, place_of, column_at, next_column_at, undoubled, undoubled_from, side_at, condition_at, next_condition_at, alias_at, item_at, plain_item_at, joined_item_at, next_item_at, items_at, put_after, put_next, where_at, sign_at, next_term_at, direction_at, key_at, next_key_at, order_at, limit_at, selection_at, sources_at, branch_at, ended_at, query_at, next_branch_at, queries_at, some_lexeme, with_left, Read, Next, Steps, behind, several_at, first_term_at};
 ghost use Rattle.query_tokens.specs.Kinds.{same};
 
 use crate::fault::ParseFault;
