@@ -1,5 +1,6 @@
 -- What a writer of records has written: the fields of a record one after another, and its end.
 use Rattle.std.proofs.Common.{◌≡◌, ◌==◌, ◌&&◌, ◌||◌, ◌≤◌, ◌+◌, ◌-◌, ◌^◌, ℕ, zero, suc, Bool, true, false, not, if◌then◌else◌, min, List, [], ◌∷◌, ◌++◌, drop, length, Result, Ok, Err, OnOk, append-nil, refl, sym, ap, ◌∙◌, arith}
+use Rattle.std.specs.Result.{is_err}
 use Rattle.std.proofs.lemmas.List.{drop-append-le, drop_all, length-append}
 use Rattle.csv.specs.Writing.{default_writer, escaped, field_text, fields_text, is_blank, next_sep, row_body, row_text, tail_text}
 use Rattle.csv.proofs.WriteFacts.{blank-more, row-more}
@@ -80,3 +81,7 @@ begun_at under pending start count shows none all nothing hidden = record {
 pub on_ok_four : {E A B C D F : Type 0} (r : Result (Unit {0}) E) → (A → B → C → D → F) → OnOk r A → OnOk r B → OnOk r C → OnOk r D → OnOk r F
 on_ok_four (Ok _) f a b c d = f a b c d
 on_ok_four (Err _) f a b c d = tt
+
+pub on_ok_of_err : {T E : Type 0} (P : Type 0) (r : Result T E) → is_err r ≡ true → OnOk r P
+on_ok_of_err P (Ok x) e = absurd cc
+on_ok_of_err P (Err e) h = tt

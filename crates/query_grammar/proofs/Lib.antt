@@ -8,7 +8,9 @@ pub mod Loops
 pub mod Stepping
 pub mod Handed
 pub mod Adding
+pub mod Putting
 pub mod Examples
+pub mod SameKinds
 pub mod Decimal
 pub mod Limited
 pub mod Answered

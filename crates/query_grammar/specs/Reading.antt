@@ -242,6 +242,18 @@ with_comma tokens (None, rest) = with_inner tokens (optional_at kind.Inner token
 unfoldable pub next_item_at : List Lexeme → Next Joined
 next_item_at tokens = with_comma tokens (optional_at kind.Comma tokens)
 
+-- an item put after others, and its equalities after theirs
+abbrev pub put_after : List ItemRef × List Equality → Read Joined
+    → Read (List ItemRef × List Equality)
+put_after had read = read >>= λ x. Ok ((had.0 ++ x.0.0 ∷ [], had.1 ++ x.0.1), x.1)
+
+-- the same if one was found
+abbrev pub put_next : List ItemRef × List Equality → Next Joined
+    → Result ((List ItemRef × List Equality) × Option (List Lexeme)) (List Lexeme)
+put_next had (Ok None) = Ok (had, None)
+put_next had (Ok (Some x)) = Ok ((had.0 ++ x.0.0 ∷ [], had.1 ++ x.0.1), Some x.1)
+put_next had (Err left) = Err left
+
 unfoldable pub items_at : List Lexeme → Read (List ItemRef × List Equality)
 items_at tokens = do
   first ← item_at tokens

@@ -82,18 +82,16 @@ fn have_many_items(branches: &[Select]) -> bool
     false
 }
 
-/// Whether a branch has more order keys than a query may have.
-fn has_many_keys(branch: &Select) -> bool
-    ensures { result ≡ nat_lt 8 (length branch.now.keys) }
-{
-    branch.keys.as_slice().len() > MAX_KEYS
-}
-
 /// Whether some branch has too many order keys.
 fn have_many_keys(branches: &[Select]) -> bool
     ensures { result ≡ list_any (λ (s : Select). nat_lt 8 (length s.keys)) branches.now }
 {
-    branches.iter().any(|branch| has_many_keys(branch))
+    for branch in branches {
+        if branch.keys.as_slice().len() > MAX_KEYS {
+            return true;
+        }
+    }
+    false
 }
 
 /// The limit of several queries. The error is the first of the limits on them that is passed.

@@ -1,9 +1,9 @@
 //! Reading the grammar, token by token.
 
-ghost use Rattle.std.specs.Prelude.{◌≡◌, length, ◌≤◌, ◌++◌, ◌∷◌, [], MatchOption, Some, None, true, IfOk, OnOk, option_copied, Option, Bool, List, ℕ};
+ghost use Rattle.std.specs.Prelude.{◌≡◌, length, ◌≤◌, ◌++◌, ◌∷◌, [], MatchOption, Some, None, true, IfOk, option_copied, Option, Bool, List, ℕ};
 ghost use Rattle.std.specs.Option.{option_map};
 ghost use Rattle.query_tokens.specs.Lexeme.{Lexeme, lexeme, lexemes};
-ghost use Rattle.query_grammar.specs.Reading.{Gives, Added, found, expect_at, optional_at, place_of, column_at, next_column_at, list_at, undoubled, undoubled_from, side_at, condition_at, next_condition_at, alias_at, item_at, plain_item_at, joined_item_at, inner_item_at, next_item_at, items_at, where_at, sign_at, term_at, next_term_at, direction_at, key_at, next_key_at, order_at, limit_at, finish_at, selection_at, sources_at, branch_at, ended_at, query_at, next_branch_at, queries_at, some_lexeme, with_left, Read, Next, Steps, behind, several_at, first_term_at};
+ghost use Rattle.query_grammar.specs.Reading.{Gives, Added, found, expect_at, optional_at, place_of, column_at, next_column_at, undoubled, undoubled_from, side_at, condition_at, next_condition_at, alias_at, item_at, plain_item_at, joined_item_at, next_item_at, items_at, put_after, put_next, where_at, sign_at, next_term_at, direction_at, key_at, next_key_at, order_at, limit_at, selection_at, sources_at, branch_at, ended_at, query_at, next_branch_at, queries_at, some_lexeme, with_left, Read, Next, Steps, behind, several_at, first_term_at};
 ghost use Rattle.query_tokens.specs.Kinds.{same};
 
 use crate::fault::ParseFault;
@@ -64,12 +64,13 @@ fn add<'a, 't, T: Drop>(
 ) -> Result<Option<&'t [Token<'a>]>, ParseFault>
     ensures { Added list.old.items list.new.items next.entry result }
 {
-    match next? {
-        None => Ok(None),
-        Some((thing, rest)) => {
+    match next {
+        Ok(None) => Ok(None),
+        Ok(Some((thing, rest))) => {
             list.push(thing)?;
             Ok(Some(rest))
         }
+        Err(fault) => Err(fault),
     }
 }
 
@@ -109,8 +110,10 @@ fn qualified_column(
 fn found<T>(read: Result<T, ParseFault>) -> Result<Option<T>, ParseFault>
     ensures { result ≡ found read }
 {
-    let thing = read?;
-    Ok(Some(thing))
+    match read {
+        Ok(thing) => Ok(Some(thing)),
+        Err(fault) => Err(fault),
+    }
 }
 
 /// A part of a query that is read by itself.
@@ -246,13 +249,16 @@ impl Listed for Equality {
 impl Part for Term {
     ghost one_at = { first_term_at };
 
+    #[tactic(auto, unfolding(crate::specs::Reading::term_at))]
     fn read<'a, 't>(
         alloc: Global,
         tokens: &'t [Token<'a>],
         end: u32,
     ) -> Result<(Term, &'t [Token<'a>]), ParseFault> {
         let (minus, rest) = sign(tokens);
-        term(alloc, minus.unwrap_or(false), rest, end)
+        let minus = minus.unwrap_or(false);
+        let (column, rest) = ColumnRef::read(alloc, rest, end)?;
+        Ok((Term { minus, column }, rest))
     }
 }
 
@@ -266,8 +272,8 @@ impl Listed for Term {
         tokens: &'t [Token<'a>],
         end: u32,
     ) -> Result<Option<(Term, &'t [Token<'a>])>, ParseFault> {
-        if let (Some(minus), rest) = sign(tokens) {
-            return found(term(alloc, minus, rest, end));
+        if let (Some(_), _) = sign(tokens) {
+            return found(Term::read(alloc, tokens, end));
         }
         Ok(None)
     }
@@ -276,7 +282,7 @@ impl Listed for Term {
 impl Part for KeyRef {
     ghost one_at = { key_at };
 
-    #[tactic(auto, using(crate::proofs::Stepping::term_steps), unfolding(crate::specs::Reading::key_at, crate::specs::Reading::terms_at))]
+    #[tactic(auto, unfolding(crate::specs::Reading::key_at, crate::specs::Reading::terms_at))]
     fn read<'a, 't>(
         alloc: Global,
         tokens: &'t [Token<'a>],
@@ -336,23 +342,6 @@ impl Listed for Select {
         let (_, rest) = expect(rest, end, Kind::All)?;
         found(Select::read(alloc, rest, end))
     }
-}
-
-/// Reads what is selected: `*`, or column references.
-#[tactic(auto, using(crate::proofs::Stepping::column_steps), unfolding(crate::specs::Reading::list_at, crate::specs::Reading::columns_at))]
-fn list<'a, 't>(
-    alloc: Global,
-    tokens: &'t [Token<'a>],
-    end: u32,
-) -> Result<(SelectList, &'t [Token<'a>]), ParseFault>
-    ensures { Gives end (λ x. (x.0, lexemes x.1.now)) result (list_at (lexemes tokens.now)) }
-{
-    let (star, rest) = optional(tokens, Kind::Star);
-    if star.is_some() {
-        return Ok((SelectList::Star, rest));
-    }
-    let (columns, rest) = several(alloc, tokens, end)?;
-    Ok((SelectList::Columns(Sequence::from_vec(columns)), rest))
 }
 
 /// Copies a byte of a string, except for the second quote of two. Returns whether the byte is the
@@ -432,15 +421,17 @@ fn with_left<'a, 't>(
         (with_left left (lexemes tokens.now)) }
 {
     match left {
-        Side::Column(left) => {
-            let (right, rest) = side(alloc, tokens, end)?;
-            Ok((Equality { left, right }, rest))
-        }
-        Side::Constant(bytes) => {
-            let (left, rest) = ColumnRef::read(alloc, tokens, end)?;
-            let right = Side::Constant(bytes);
-            Ok((Equality { left, right }, rest))
-        }
+        Side::Column(left) => match side(alloc, tokens, end) {
+            Ok((right, rest)) => Ok((Equality { left, right }, rest)),
+            Err(fault) => Err(fault),
+        },
+        Side::Constant(bytes) => match ColumnRef::read(alloc, tokens, end) {
+            Ok((left, rest)) => {
+                let right = Side::Constant(bytes);
+                Ok((Equality { left, right }, rest))
+            }
+            Err(fault) => Err(fault),
+        },
     }
 }
 
@@ -479,80 +470,6 @@ fn alias<'a, 't>(
     Ok((table, tokens))
 }
 
-/// An item with the equalities of its ON.
-#[derive(Drop)]
-struct Joined {
-    item: ItemRef,
-    on: Vec<Equality>,
-}
-
-/// Reads an item that has no conditions of its own.
-#[tactic(auto, unfolding(crate::specs::Reading::plain_item_at))]
-fn plain_item<'a, 't>(
-    alloc: Global,
-    tokens: &'t [Token<'a>],
-    end: u32,
-) -> Result<(Joined, &'t [Token<'a>]), ParseFault>
-    ensures { Gives end (λ x. ((x.0.item, x.0.on.items), lexemes x.1.now)) result
-        (plain_item_at (lexemes tokens.now)) }
-{
-    let (item, rest) = item(alloc, tokens, end)?;
-    let on = Vec::new(alloc);
-    Ok((Joined { item, on }, rest))
-}
-
-/// Reads an item, `on` and its conditions.
-#[tactic(auto, using(crate::proofs::Stepping::condition_steps), unfolding(crate::specs::Reading::joined_item_at, crate::specs::Reading::conditions_at))]
-fn joined_item<'a, 't>(
-    alloc: Global,
-    tokens: &'t [Token<'a>],
-    end: u32,
-) -> Result<(Joined, &'t [Token<'a>]), ParseFault>
-    ensures { Gives end (λ x. ((x.0.item, x.0.on.items), lexemes x.1.now)) result
-        (joined_item_at (lexemes tokens.now)) }
-{
-    let (item, rest) = item(alloc, tokens, end)?;
-    let (_, rest) = expect(rest, end, Kind::On)?;
-    let (on, rest) = several(alloc, rest, end)?;
-    Ok((Joined { item, on }, rest))
-}
-
-/// Reads `join` and an item with its conditions.
-#[tactic(auto, unfolding(crate::specs::Reading::inner_item_at))]
-fn inner_item<'a, 't>(
-    alloc: Global,
-    tokens: &'t [Token<'a>],
-    end: u32,
-) -> Result<(Joined, &'t [Token<'a>]), ParseFault>
-    ensures { Gives end (λ x. ((x.0.item, x.0.on.items), lexemes x.1.now)) result
-        (inner_item_at (lexemes tokens.now)) }
-{
-    let (_, rest) = expect(tokens, end, Kind::Join)?;
-    joined_item(alloc, rest, end)
-}
-
-/// Reads a further item, if a comma or a `join` comes before it.
-#[tactic(auto, using(crate::proofs::Handed::found_gives), unfolding(crate::specs::Reading::next_item_at))]
-fn next_item<'a, 't>(
-    alloc: Global,
-    tokens: &'t [Token<'a>],
-    end: u32,
-) -> Result<Option<(Joined, &'t [Token<'a>])>, ParseFault>
-    ensures { Gives end (option_map (λ x. ((x.0.item, x.0.on.items), lexemes x.1.now))) result
-        (next_item_at (lexemes tokens.now)) }
-{
-    if let (Some(_), rest) = optional(tokens, Kind::Comma) {
-        return found(plain_item(alloc, rest, end));
-    }
-    if let (Some(_), rest) = optional(tokens, Kind::Inner) {
-        return found(inner_item(alloc, rest, end));
-    }
-    if let (Some(_), rest) = optional(tokens, Kind::Join) {
-        return found(joined_item(alloc, rest, end));
-    }
-    Ok(None)
-}
-
 /// The from-items, and the equalities of their ON.
 #[derive(Drop)]
 struct FromItems {
@@ -561,37 +478,68 @@ struct FromItems {
 }
 
 impl FromItems {
-    /// One item, without conditions.
-    fn of(alloc: Global, item: ItemRef) -> Result<FromItems, AllocError>
-        ensures items { IfOk result (λ f. f.items.items ≡ item ∷ []) }
-        ensures on { IfOk result (λ f. f.on.items ≡ []) }
+    /// Reads an item that has no conditions of its own, and puts it after the others.
+    #[tactic(auto, using(crate::proofs::Putting::plain_put), unfolding(crate::specs::Reading::plain_item_at))]
+    fn read_plain<'a, 't>(
+        &mut self,
+        alloc: Global,
+        tokens: &'t [Token<'a>],
+        end: u32,
+    ) -> Result<&'t [Token<'a>], ParseFault>
+        ensures { Gives end (λ x. ((self.new.items.items, self.new.on.items), lexemes x.now)) result
+            (put_after (self.old.items.items, self.old.on.items)
+            (plain_item_at (lexemes tokens.now))) }
     {
-        let mut items = Vec::new(alloc);
-        items.push(item)?;
-        let on = Vec::new(alloc);
-        Ok(FromItems { items, on })
-    }
-
-    /// Puts an item after the others, and its conditions after theirs.
-    fn push(&mut self, joined: Joined) -> Result<(), AllocError>
-        ensures items { OnOk result
-            (self.new.items.items ≡ self.old.items.items ++ joined.item ∷ []) }
-        ensures on { OnOk result (self.new.on.items ≡ self.old.on.items ++ joined.on.items) }
-    {
-        let Joined { item, mut on } = joined;
+        let (item, rest) = item(alloc, tokens, end)?;
         self.items.push(item)?;
-        self.on.append(&mut on)?;
-        Ok(())
+        Ok(rest)
     }
 
-    /// Puts further conditions after the others.
-    fn filter(&mut self, conditions: Vec<Equality>) -> Result<(), AllocError>
-        ensures items { self.new.items.items ≡ self.old.items.items }
-        ensures on { OnOk result (self.new.on.items ≡ self.old.on.items ++ conditions.items) }
+    /// Reads an item, `on` and its conditions, and puts them after the others.
+    #[tactic(auto, unfolding(crate::specs::Reading::joined_item_at, crate::specs::Reading::conditions_at))]
+    fn read_joined<'a, 't>(
+        &mut self,
+        alloc: Global,
+        tokens: &'t [Token<'a>],
+        end: u32,
+    ) -> Result<&'t [Token<'a>], ParseFault>
+        ensures { Gives end (λ x. ((self.new.items.items, self.new.on.items), lexemes x.now)) result
+            (put_after (self.old.items.items, self.old.on.items)
+            (joined_item_at (lexemes tokens.now))) }
     {
-        let mut conditions = conditions;
-        self.on.append(&mut conditions)?;
-        Ok(())
+        let (item, rest) = item(alloc, tokens, end)?;
+        self.items.push(item)?;
+        let (_, rest) = expect(rest, end, Kind::On)?;
+        let (mut on, rest) = several(alloc, rest, end)?;
+        self.on.append(&mut on)?;
+        Ok(rest)
+    }
+
+    /// Reads a further item, if a comma or a `join` comes before it, and puts it after the others.
+    #[tactic(auto, using(crate::proofs::Putting::found_put), unfolding(crate::specs::Reading::next_item_at, crate::specs::Reading::inner_item_at))]
+    fn read_next<'a, 't>(
+        &mut self,
+        alloc: Global,
+        tokens: &'t [Token<'a>],
+        end: u32,
+    ) -> Result<Option<&'t [Token<'a>]>, ParseFault>
+        ensures { Gives end
+            (λ x. ((self.new.items.items, self.new.on.items), option_map (λ r. lexemes r.now) x))
+            result
+            (put_next (self.old.items.items, self.old.on.items)
+            (next_item_at (lexemes tokens.now))) }
+    {
+        if let (Some(_), rest) = optional(tokens, Kind::Comma) {
+            return found(self.read_plain(alloc, rest, end));
+        }
+        if let (Some(_), rest) = optional(tokens, Kind::Inner) {
+            let (_, rest) = expect(rest, end, Kind::Join)?;
+            return found(self.read_joined(alloc, rest, end));
+        }
+        if let (Some(_), rest) = optional(tokens, Kind::Join) {
+            return found(self.read_joined(alloc, rest, end));
+        }
+        Ok(None)
     }
 }
 
@@ -605,17 +553,18 @@ fn items<'a, 't>(
     ensures { Gives end (λ x. ((x.0.items.items, x.0.on.items), lexemes x.1.now)) result
         (items_at (lexemes tokens.now)) }
 {
-    let (first, mut rest) = item(alloc, tokens, end)?;
-    let mut found = FromItems::of(alloc, first)?;
-    while let Some((joined, after)) = next_item(alloc, rest, end)? {
-        found.push(joined)?;
+    let items = Vec::new(alloc);
+    let on = Vec::new(alloc);
+    let mut found = FromItems { items, on };
+    let mut rest = found.read_plain(alloc, tokens, end)?;
+    while let Some(after) = found.read_next(alloc, rest, end)? {
         rest = after;
     }
     Ok((found, rest))
 }
 
 /// Reads `where` and its conditions, if there is a `where`.
-#[tactic(auto, using(crate::proofs::Stepping::condition_steps), unfolding(crate::specs::Reading::where_at, crate::specs::Reading::conditions_at))]
+#[tactic(auto, unfolding(crate::specs::Reading::where_at, crate::specs::Reading::conditions_at))]
 fn where_clause<'a, 't>(
     alloc: Global,
     tokens: &'t [Token<'a>],
@@ -644,20 +593,6 @@ fn sign<'a, 't>(tokens: &'t [Token<'a>]) -> (Option<bool>, &'t [Token<'a>])
     (None, tokens)
 }
 
-/// Reads a column that an order key adds, or subtracts if there is a minus.
-#[tactic(auto, unfolding(crate::specs::Reading::term_at))]
-fn term<'a, 't>(
-    alloc: Global,
-    minus: bool,
-    tokens: &'t [Token<'a>],
-    end: u32,
-) -> Result<(Term, &'t [Token<'a>]), ParseFault>
-    ensures { Gives end (λ x. (x.0, lexemes x.1.now)) result (term_at minus (lexemes tokens.now)) }
-{
-    let (column, rest) = ColumnRef::read(alloc, tokens, end)?;
-    Ok((Term { minus, column }, rest))
-}
-
 /// Whether there is a DESC. An ASC is read too.
 #[tactic(auto, unfolding(crate::specs::Reading::direction_at))]
 fn direction<'a, 't>(tokens: &'t [Token<'a>]) -> (bool, &'t [Token<'a>])
@@ -671,7 +606,7 @@ fn direction<'a, 't>(tokens: &'t [Token<'a>]) -> (bool, &'t [Token<'a>])
 }
 
 /// Reads `order by` and its keys, if there is an `order`.
-#[tactic(auto, using(crate::proofs::Stepping::key_steps), unfolding(crate::specs::Reading::order_at, crate::specs::Reading::keys_at))]
+#[tactic(auto, unfolding(crate::specs::Reading::order_at, crate::specs::Reading::keys_at))]
 fn order_clause<'a, 't>(
     alloc: Global,
     tokens: &'t [Token<'a>],
@@ -704,21 +639,8 @@ fn limit_clause<'a, 't>(
     Ok((Some(digits), rest))
 }
 
-/// Tests that nothing is left except an optional `;`.
-#[tactic(auto, unfolding(crate::specs::Reading::finish_at))]
-fn finish(tokens: &[Token<'_>], end: u32) -> Result<(), ParseFault>
-    ensures { Gives end (λ _. tt) result (finish_at (lexemes tokens.now)) }
-{
-    let (_, rest) = optional(tokens, Kind::Semicolon);
-    if rest.is_empty() {
-        Ok(())
-    } else {
-        Err(ParseFault::Syntax(place(rest, end)))
-    }
-}
-
-/// Reads `select`, and what is selected.
-#[tactic(auto, unfolding(crate::specs::Reading::selection_at))]
+/// Reads `select`, and what is selected: `*`, or column references.
+#[tactic(auto, unfolding(crate::specs::Reading::selection_at, crate::specs::Reading::list_at, crate::specs::Reading::columns_at))]
 fn selection<'a, 't>(
     alloc: Global,
     tokens: &'t [Token<'a>],
@@ -726,8 +648,13 @@ fn selection<'a, 't>(
 ) -> Result<(SelectList, &'t [Token<'a>]), ParseFault>
     ensures { Gives end (λ x. (x.0, lexemes x.1.now)) result (selection_at (lexemes tokens.now)) }
 {
-    let (_, rest) = expect(tokens, end, Kind::Select)?;
-    list(alloc, rest, end)
+    let (_, tokens) = expect(tokens, end, Kind::Select)?;
+    let (star, rest) = optional(tokens, Kind::Star);
+    if star.is_some() {
+        return Ok((SelectList::Star, rest));
+    }
+    let (columns, rest) = several(alloc, tokens, end)?;
+    Ok((SelectList::Columns(Sequence::from_vec(columns)), rest))
 }
 
 /// Reads `from` and items, and puts the conditions of the `where` after those of their joins.
@@ -742,12 +669,13 @@ fn sources<'a, 't>(
 {
     let (_, rest) = expect(tokens, end, Kind::From)?;
     let (mut found, rest) = items(alloc, rest, end)?;
-    let (conditions, rest) = where_clause(alloc, rest, end)?;
-    found.filter(conditions)?;
+    let (mut conditions, rest) = where_clause(alloc, rest, end)?;
+    found.on.append(&mut conditions)?;
     Ok((found, rest))
 }
 
 /// What was read, with the limit's digits after it. Nothing but a `;` may be left after them.
+#[tactic(auto, unfolding(crate::specs::Reading::finish_at))]
 fn ended<'a, T: Drop>(
     read: T,
     tokens: &[Token<'a>],
@@ -757,8 +685,12 @@ fn ended<'a, T: Drop>(
         (ended_at read (lexemes tokens.now)) }
 {
     let (digits, rest) = limit_clause(tokens, end)?;
-    finish(rest, end)?;
-    Ok((read, digits))
+    let (_, rest) = optional(rest, Kind::Semicolon);
+    if rest.is_empty() {
+        Ok((read, digits))
+    } else {
+        Err(ParseFault::Syntax(place(rest, end)))
+    }
 }
 
 /// A query without its limit, and the limit's digits.
@@ -775,7 +707,7 @@ pub(crate) fn query<'a>(
 }
 
 /// The branches without their limit, and the limit's digits.
-#[tactic(auto, using(crate::proofs::Stepping::branch_steps), unfolding(crate::specs::Reading::queries_at, crate::specs::Reading::branches_at))]
+#[tactic(auto, unfolding(crate::specs::Reading::queries_at, crate::specs::Reading::branches_at))]
 pub(crate) fn queries<'a>(
     alloc: Global,
     tokens: &[Token<'a>],

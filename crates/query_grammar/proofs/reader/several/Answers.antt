@@ -1,3 +1,4 @@
+use Rattle.std.proofs.Common.{refl}
 use Rattle.std.proofs.lemmas.Result.{err_from_is_err_and}
 use Rattle.query_tokens.specs.Lexeme.{lexemes}
 use Rattle.query_grammar.specs.Reading.{several_at}
@@ -19,3 +20,6 @@ loop-list-preserved g c =
 
 pub returns : goal.returns
 returns g c = adding_done c.requires c.next.result (λ r. r.now) c.args.end c.loop-list.list.items c.add.new.list.items (lexemes c.loop-list.rest.now) (several_at g.T.Part.one_at g.T.Listed.next_at (lexemes c.args.tokens.now)) c.next.ensures (rw c.in_default.is at c.in_ok-after.ensures) c.loop-list.invariant
+
+pub loop-list-init : goal.loop-list-init
+loop-list-init g c = rw (c.in_ok-push.ensures.items, c.new-list.ensures.items, c.in_ok-first.ensures) refl

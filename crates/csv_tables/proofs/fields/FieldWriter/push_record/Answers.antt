@@ -1,5 +1,5 @@
 use Rattle.std.proofs.Common.{◌≡◌, ◌<◌, ◌+◌, ◌∷◌, ◌++◌, [], ◌∙◌, ℕ, List, sym, ap, take, length, append_assoc, arith}
-use Rattle.std.proofs.lemmas.List.{take_more}
+use Rattle.std.proofs.lemmas.List.{take_all, take_more}
 use Rattle.std.proofs.Math.Seq.{take-append_seam}
 use Rattle.csv.specs.Records.{fields_of}
 use Rattle.csv.proofs.RecordFacts.{cut-length, field-get, field-there}
@@ -29,3 +29,7 @@ loop-i-preserved c =
     take_more row c.loop-i.i [] inside ∙ ap (λ (f : List ℕ). fields ++ f ∷ []) (field-get row c.loop-i.i field (sym c.in-Some.ensures.value)) in
     c.in_default-push.ensures.added ∙ ap (λ (l : Fields). l ++ field ∷ []) c.loop-i.invariant
     ∙ append_assoc c.args.self.now fields (field ∷ []) ∙ ap (λ (l : Fields). c.args.self.now ++ l) (sym step)
+
+pub returns-clause-added : goal.returns-clause-added
+returns-clause-added c =
+    c.loop-i.invariant ∙ ap (λ (fields : List (List ℕ)). c.args.self.now ++ fields) (take_all c.loop-i.i (fields_of c.args.row.now) (rw c.len-i-end.ensures at c.loop-i-test.false))

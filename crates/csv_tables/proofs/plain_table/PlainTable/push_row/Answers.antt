@@ -1,5 +1,5 @@
 use Rattle.std.proofs.Common.{◌≡◌, ◌+◌, ◌∙◌, Vec, Global, ℕ, suc, length, ap, arith}
-use Rattle.std.proofs.lemmas.List.{length-map}
+use Rattle.std.proofs.lemmas.List.{length-append, length-map}
 use Rattle.csv.specs.Records.{fields_of}
 use Rattle.anyk_model.specs.Table.{Table}
 use Rattle.csv_tables.specs.PlainTables.{with_row}
@@ -24,3 +24,12 @@ returns-clause-added c =
     let next : inside.count + 1 ≡ suc inside.count = omega arith in
     let rows = (λ i. cut_rows width (next i) (c.in_ok-push_record.ensures.added i)) ∙ cut_rows_push width inside.count inside.fields row c.self.invariant.size wide in
     (λ i. record { names = lists_of inside.names.items; rows = rows i }) ∙ ap (λ (t : Table). with_row t row) c.self.view_is
+
+pub invariant_of-self-2 : goal.invariant_of-self-2
+invariant_of-self-2 c =
+    let inside = c.self.inside in
+    let row = fields_of c.args.row.now in
+    let wide : length row ≡ length inside.names.items =
+    omega (arith, c.requires.width, ap (λ (t : Table). length t.names) c.self.view_is, length-map inside.names.items (λ (v : Vec ℕ Global). v.items)) in
+    let longer : length c.push_record.new.self ≡ length inside.fields + length row = ap length c.in_ok-push_record.ensures.added ∙ length-append inside.fields row in
+    record { size = omega (arith, longer, wide, c.self.invariant.size) }

@@ -29,3 +29,8 @@ invariant_of-self-in_default c =
     let cut = c.truncate-in_default.ensures ∙ ap (λ (k : ℕ). take k c.store.new.texts) c.len-known.ensures in
     let back = texts_back old c.store.new.texts c.truncate-in_default.new.self (more.0, c.in-Ok.ensures.texts ∙ more.1) cut in
     record { known = back ∙ c.self.invariant.known ∙ ap (with_tables []) (sym c.in_default.ensures.err) }
+
+pub invariant_of-self : goal.invariant_of-self
+invariant_of-self c =
+    let cut = c.truncate.ensures ∙ ap (λ (k : ℕ). take k c.store.new.texts) c.len-known.ensures in
+    record { known = texts_back c.self.inside.texts c.store.new.texts c.truncate.new.self c.in-Err.ensures.err cut ∙ c.self.invariant.known }

@@ -1,7 +1,7 @@
-use Rattle.std.proofs.Common.{sym, subst}
+use Rattle.std.proofs.Common.{sym, subst, ◌∙◌}
 use Rattle.csv_tables.specs.RecordWriters.{RecordView}
 use Rattle.csv_tables.specs.WrittenRecords.{HasFields}
-use Rattle.csv_tables.proofs.Written.{field_more, on_ok_four}
+use Rattle.csv_tables.proofs.Written.{field_more, on_ok_four, on_ok_of_err}
 use Rattle.csv_tables.proofs.writing.RecordWriter.push.Goals as goal
 
 pub returns-else-is_err : goal.returns-else-is_err
@@ -11,3 +11,6 @@ returns-else-is_err c = λ fields has.
     on_ok_four c.write_field-written.result
     (λ bytes counted first stays. field_more fields c.self.inside.start _ _ _ _ c.self.invariant.start own c.args.field.now _ _ bytes counted first stays)
     put.bytes put.fields put.first put.stays
+
+pub returns-then-is_err : goal.returns-then-is_err
+returns-then-is_err c = λ fields has. on_ok_of_err _ c.write_field-written.result (sym c.is_err.ensures.value ∙ c.if-is_err.true)
