@@ -4,7 +4,7 @@ use Rattle.std.proofs.Math.ListN.{get_or-append, set}
 use Rattle.std.proofs.lemmas.List.{get_or_at, length-append}
 use Rattle.stream_store.specs.declared.entry.Linked.{Linked}
 use Rattle.anyk_part.specs.declared.candidate.Link.{Link}
-use Rattle.tdp_model.proofs.Sums.{length_end}
+use Rattle.rankings.proofs.Sums.{length_end}
 use Rattle.anyk_part.specs.Chains.{link_at, chain, IsChain}
 
 pub chain_length : (links : List (Linked Link)) (n last : ℕ) → IsChain links n last → length (chain links n last) ≡ n

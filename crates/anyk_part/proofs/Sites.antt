@@ -8,10 +8,10 @@ use Rattle.std.proofs.lemmas.List.Elements.{All-cons, All-tail}
 use Rattle.stream_store.specs.declared.entry.Linked.{Linked}
 use Rattle.take2_heap.specs.declared.entry.Entry.{Entry}
 use Rattle.rank_key.specs.Keys.{CanSwap}
-use Rattle.tdp_model.specs.KeyTuple.{KeyOf, key_below, key_add, key_none}
-use Rattle.tdp_model.specs.Regions.{in_region, opening}
-use Rattle.tdp_model.proofs.KeyTuples.{tuple_keys}
-use Rattle.tdp_model.proofs.TreeStaged.{bound_parts}
+use Rattle.rankings.specs.KeyTuple.{KeyOf, key_below, key_add, key_none}
+use Rattle.rankings.specs.Regions.{in_region, opening}
+use Rattle.rankings.proofs.KeyTuples.{tuple_keys}
+use Rattle.rankings.proofs.TreeStaged.{bound_parts}
 use Rattle.tdp_core.specs.TreeView.{NodeView, parent, rows, members, group, rank, best}
 use Rattle.tdp_core.proofs.TreeFacts as facts
 use Rattle.anyk_part.specs.declared.candidate.Link.{Link}

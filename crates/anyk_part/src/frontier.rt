@@ -4,7 +4,7 @@ ghost use Rattle.std.specs.List.{All};
 ghost use Rattle.std.specs.List.Sorted.{IsPermutation};
 ghost use Rattle.take2_heap.specs.Order.{IsLeast};
 ghost use Rattle.rank_key.specs.Bits.{bit_length};
-ghost use Rattle.tdp_model.specs.Regions.{in_region, in_regions, best_of, divided};
+ghost use Rattle.rankings.specs.Regions.{in_region, in_regions, best_of, divided};
 ghost use Rattle.tdp_core.specs.TreeView.{members};
 ghost use Rattle.anyk_part.specs.Chains.{chain, IsChain};
 ghost use Rattle.anyk_part.specs.Places.{ArePlaces};

@@ -3,7 +3,7 @@
 ghost use Rattle.std.specs.Prelude.{◌≡◌, ℕ, ◌+◌, ◌-◌, ◌*◌, ◌<◌, ◌≤◌, List, [], length, IfOk};
 ghost use Rattle.stream_store.specs.declared.entry.Linked.{Linked};
 ghost use Rattle.std.specs.List.{All};
-ghost use Rattle.tdp_model.specs.KeyTuple.{KeyOf};
+ghost use Rattle.rankings.specs.KeyTuple.{KeyOf};
 ghost use Rattle.tdp_core.specs.TreeView.{group_count, row_count};
 ghost use Rattle.tdp_core.specs.WellFormed.{IsTieFreeTree};
 ghost use Rattle.tdp_core.specs.Solutions.{IsTreeRanking};

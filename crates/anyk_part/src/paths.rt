@@ -1,7 +1,7 @@
 //! The rows of one solution: the group at each node, and the row numbers by item.
 ghost use Rattle.std.specs.Prelude.{◌≡◌, ℕ, ◌+◌, ◌<◌, ◌≤◌, length, take, slice_index};
-ghost use Rattle.tdp_model.specs.KeyTuple.{key_add, key_none};
-ghost use Rattle.tdp_model.specs.TreeProblem.{rows_key};
+ghost use Rattle.rankings.specs.KeyTuple.{key_add, key_none};
+ghost use Rattle.rankings.specs.TreeProblem.{rows_key};
 ghost use Rattle.tdp_core.specs.AnswerView.{rows_of_key};
 ghost use Rattle.tdp_core.specs.TreeView.{parent, rows, rank, group_number};
 ghost use Rattle.tdp_core.specs.WellFormed.{IsFormed, IsTieFreeTree};

@@ -3,7 +3,7 @@ use Rattle.std.specs.Prelude.{◌≡◌, ℕ, ◌+◌, ◌<◌, ◌≤◌, Bool,
 use Rattle.tdp_core.specs.AnswerView.{AnswerView, answers_of}
 use Rattle.tdp_core.specs.TreeView.{group_count}
 use Rattle.tdp_core.specs.WellFormed.{IsFormed}
-use Rattle.tdp_model.specs.KeyTuple.{KeyOf}
+use Rattle.rankings.specs.KeyTuple.{KeyOf}
 use Rattle.suffix_streams.specs.Rankings.{group_list}
 use Rattle.suffix_streams.specs.StreamsView.{StreamsView, entry_node, entry_group, entry_place}
 

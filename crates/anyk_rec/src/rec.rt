@@ -1,8 +1,8 @@
 //! The engine by recursion: `next` asks the root's stream for its next member.
 ghost use Rattle.std.specs.Prelude.{◌≡◌, ℕ, ◌+◌, ◌*◌, ◌^◌, ◌<◌, ◌≤◌, List, [], ◌∷◌, length, IfOk, IfSome, IfNone, OnErr};
 ghost use Rattle.rank_key.specs.Bits.{bit_length};
-ghost use Rattle.tdp_model.specs.KeyTuple.{KeyOf};
-ghost use Rattle.tdp_model.specs.KeyNumbers.{numbers};
+ghost use Rattle.rankings.specs.KeyTuple.{KeyOf};
+ghost use Rattle.rankings.specs.KeyNumbers.{numbers};
 ghost use Rattle.tdp_core.specs.AnswerView.{answers_of, counted};
 ghost use Rattle.tdp_core.specs.Shares.{size_of, share_of};
 ghost use Rattle.tdp_core.specs.RisingShares.{shares_rise, at_most_itself};

@@ -7,10 +7,10 @@ use Rattle.std.proofs.lemmas.List.Elements.{All-head, All-tail}
 use Rattle.std.proofs.lemmas.List.Sums.{sum_by-cons}
 use Rattle.rankings.specs.Order.{IsOrder}
 use Rattle.take2_heap.specs.declared.entry.Entry.{Entry}
-use Rattle.tdp_model.specs.Heap.{under}
-use Rattle.tdp_model.specs.Remains.{AtMost}
-use Rattle.tdp_model.proofs.Keys.{at_most_trans}
-use Rattle.tdp_model.proofs.Subtrees.{same, same_not, climbs_split, climbs_all, climbs_ordered, climbs_above}
+use Rattle.rankings.specs.Heap.{under}
+use Rattle.rankings.specs.Remains.{AtMost}
+use Rattle.rankings.proofs.Keys.{at_most_trans}
+use Rattle.rankings.proofs.Subtrees.{same, same_not, climbs_split, climbs_all, climbs_ordered, climbs_above}
 use Rattle.best_per.specs.RootHeap.{holds, held_by}
 
 out : (n i x : ℕ) → n ≤ i → cond (nat_lt i n) x 0 ≡ 0

@@ -7,12 +7,12 @@ use Rattle.std.proofs.lemmas.List.Sorted.{All-permutation, length_permutation, s
 use Rattle.take2_heap.specs.declared.entry.Entry.{Entry}
 use Rattle.take2_heap.specs.Order as heaps
 use Rattle.rankings.specs.Order.{IsMember}
-use Rattle.tdp_model.specs.KeyTuple.{KeyOf, key_below}
-use Rattle.tdp_model.specs.Remains.{AtMost, Remains}
-use Rattle.tdp_model.proofs.KeyTuples.{tuple_keys}
-use Rattle.tdp_model.proofs.KeyNumbers.{not_less_at_most}
-use Rattle.tdp_model.proofs.Removal.{take_least}
-use Rattle.tdp_model.proofs.Subtrees.{same, same_at}
+use Rattle.rankings.specs.KeyTuple.{KeyOf, key_below}
+use Rattle.rankings.specs.Remains.{AtMost, Remains}
+use Rattle.rankings.proofs.KeyTuples.{tuple_keys}
+use Rattle.rankings.proofs.KeyNumbers.{not_less_at_most}
+use Rattle.rankings.proofs.Removal.{take_least}
+use Rattle.rankings.proofs.Subtrees.{same, same_at}
 use Rattle.tdp_core.specs.TreeView.{NodeView, node_at, group_count, rows, row_count}
 use Rattle.tdp_core.specs.WellFormed.{IsFormed, IsTieFreeTree}
 use Rattle.tdp_core.proofs.TreeFacts.{group_rows_within, rows_within, term_within}

@@ -10,12 +10,12 @@ use Rattle.take2_heap.specs.declared.entry.Entry.{Entry}
 use Rattle.rankings.specs.Order.{IsMember, IsRanking}
 use Rattle.rankings.proofs.Members.{member_map, member_unmap, contains_member}
 use Rattle.rankings.proofs.Unique.{ranking_unique}
-use Rattle.tdp_model.specs.KeyTuple.{KeyOf, key_below, key_add, key_none, slot_of}
-use Rattle.tdp_model.specs.Remains.{Remains}
-use Rattle.tdp_model.specs.TreeProblem.{RowHas}
-use Rattle.tdp_model.proofs.KeyTuples.{tuple_keys}
-use Rattle.tdp_model.proofs.Sorting.{ranked_is_ranking}
-use Rattle.tdp_model.proofs.SubtreeTies.{rows_apart}
+use Rattle.rankings.specs.KeyTuple.{KeyOf, key_below, key_add, key_none, slot_of}
+use Rattle.rankings.specs.Remains.{Remains}
+use Rattle.rankings.specs.TreeProblem.{RowHas}
+use Rattle.rankings.proofs.KeyTuples.{tuple_keys}
+use Rattle.rankings.proofs.Sorting.{ranked_is_ranking}
+use Rattle.rankings.proofs.SubtreeTies.{rows_apart}
 use Rattle.tdp_core.specs.TreeView.{NodeView, parent, item, number, members, group, rank, best}
 use Rattle.tdp_core.specs.WellFormed.{IsFormed, IsTieFreeTree}
 use Rattle.tdp_core.proofs.TreeFacts.{member_is_row, members_apart, best_had, tie_free_of}

@@ -4,10 +4,10 @@ use Rattle.std.specs.Prelude.{◌≡◌, ℕ, ◌+◌, ◌<◌, ◌≤◌, cond,
 use Rattle.std.specs.List.{All, sum_by, range_with_len}
 use Rattle.rankings.specs.Order.{ranked}
 use Rattle.take2_heap.specs.declared.entry.Entry.{Entry}
-use Rattle.tdp_model.specs.Heap.{under}
-use Rattle.tdp_model.specs.KeyTuple.{KeyOf, key_below}
-use Rattle.tdp_model.specs.Remains.{Remains}
-use Rattle.tdp_model.proofs.KeyTuples.{tuple_keys}
+use Rattle.rankings.specs.Heap.{under}
+use Rattle.rankings.specs.KeyTuple.{KeyOf, key_below}
+use Rattle.rankings.specs.Remains.{Remains}
+use Rattle.rankings.proofs.KeyTuples.{tuple_keys}
 use Rattle.tdp_core.specs.AnswerView.{AnswerView}
 use Rattle.tdp_core.specs.TreeView.{NodeView, members, best}
 use Rattle.tdp_core.specs.WellFormed.{IsFormed, IsTieFreeTree}

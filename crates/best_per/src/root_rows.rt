@@ -1,7 +1,7 @@
 //! The best answer of each row of the root, one after another.
 ghost use Rattle.std.specs.Prelude.{◌≡◌, ℕ, ◌+◌, ◌*◌, ◌≤◌, List, [], ◌∷◌, length, IfOk, IfSome, IfNone, IsOk, OnErr};
-ghost use Rattle.tdp_model.specs.KeyTuple.{KeyOf};
-ghost use Rattle.tdp_model.specs.KeyNumbers.{numbers};
+ghost use Rattle.rankings.specs.KeyTuple.{KeyOf};
+ghost use Rattle.rankings.specs.KeyNumbers.{numbers};
 ghost use Rattle.tdp_core.specs.TreeView.{row_count};
 ghost use Rattle.tdp_core.specs.WellFormed.{IsTieFreeTree};
 ghost use Rattle.tdp_core.specs.AnswerView.{AnswerView, answers_of, counted};

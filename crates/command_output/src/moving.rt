@@ -5,7 +5,7 @@ ghost use Rattle.cursor_set.specs.CursorSet.{place_of, with_place};
 ghost use Rattle.bound_query.specs.WeighedQuery.{Fits};
 ghost use Rattle.refusal_lines.specs.Printing.{Printed};
 ghost use Rattle.refusal_lines.specs.SinkState.{state_of};
-ghost use Rattle.tdp_model.specs.KeyNumbers.{numbers};
+ghost use Rattle.rankings.specs.KeyNumbers.{numbers};
 ghost use Rattle.verdict.specs.Session.{next_text};
 ghost use Rattle.verdict.specs.SessionCalls.{calls_among};
 ghost use Rattle.witness_key.specs.WitnessKey.{AreCombinations};

@@ -1,6 +1,6 @@
 //! The set of cursors: opening, moving, forking, rewinding and closing.
 ghost use Rattle.std.specs.Prelude.{◌≡◌, ℕ, ◌+◌, ◌≤◌, ◌<◌, Some, None, Ok, Err, false, true, replicate, IfOk, IfErr, IfSome, IfNone, OnErr, slice_get, length, position, is_none, IsSome, IsSomeAnd};
-ghost use Rattle.tdp_model.specs.KeyNumbers.{numbers};
+ghost use Rattle.rankings.specs.KeyNumbers.{numbers};
 ghost use Rattle.cursor_set.specs.CursorSet.{CursorSet, Keeps, IsKnownAt, ArePlacesKnown, place_of, first_free, seen_of, with_place};
 ghost use Rattle.cursor_set.specs.Faults.{RefusesNext, RefusesFork, refused_after};
 
@@ -29,7 +29,7 @@ pub struct Cursors<E: Ranked> {
 
 impl<E: Ranked> Model for Cursors<E> {
     ghost use Rattle.std.specs.Prelude.{◌≡◌, ℕ, ◌≤◌, List, [], ◌++◌, length, map, All, IfSome, true, vec_len};
-    ghost use Rattle.tdp_model.specs.KeyNumbers.{numbers};
+    ghost use Rattle.rankings.specs.KeyNumbers.{numbers};
     ghost use Rattle.cursor_set.specs.CursorSet.{CursorSet};
 
     ghost Value = { CursorSet };

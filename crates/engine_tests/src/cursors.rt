@@ -1,7 +1,7 @@
 //! Cursors over answers in memory.
 ghost use Rattle.std.specs.Prelude.{◌≡◌, ◌≤◌, ℕ, ◌<◌, [], map, drop};
 ghost use Rattle.std.proofs.Common.{rules};
-ghost use Rattle.tdp_model.specs.KeyNumbers.{numbers};
+ghost use Rattle.rankings.specs.KeyNumbers.{numbers};
 
 use cursor_set::laws::{Driven, drive};
 use cursor_set::{CursorFault, CursorId, Cursors, MAX_OPEN};

@@ -1,7 +1,7 @@
 -- Links: one number for the values that a row has in some columns.
 use Rattle.std.specs.Prelude.{◌≡◌, ◌<◌, ◌-◌, ℕ, List, [], ◌∷◌, map, length, slice_index, slice_index_or, slice_get, Some}
 use Rattle.rank_key.specs.Keys.{row_key}
-use Rattle.tdp_model.specs.KeyTuple.{KeyOf}
+use Rattle.rankings.specs.KeyTuple.{KeyOf}
 use Rattle.tdp_core.specs.TreeView.{kids_below}
 use Rattle.tdp_core.specs.RawView.{RawRowView}
 use Rattle.join_tree.specs.declared.tree.JoinTree.{JoinTree}

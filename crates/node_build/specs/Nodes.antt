@@ -5,7 +5,7 @@ use Rattle.rankings.specs.Order.{IsMember, IsAscending}
 use Rattle.hyper_graph.specs.Graph.{Hypergraph}
 use Rattle.hyper_graph.specs.JoinTrees.{IsJoinTree}
 use Rattle.join_tree.specs.declared.tree.JoinTree.{JoinTree}
-use Rattle.tdp_model.specs.KeyTuple.{KeyOf}
+use Rattle.rankings.specs.KeyTuple.{KeyOf}
 use Rattle.rank_key.specs.Keys.{row_key}
 use Rattle.tdp_core.specs.RawView.{RawView, child_link, own_link, raw_len, raw_number, raw_rank, rows_at, shape_cap, shape_child_place, shape_item, shape_parent}
 use Rattle.anyk_model.specs.Table.{Table}

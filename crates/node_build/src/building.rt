@@ -1,6 +1,6 @@
 //! Building the raw tree of a query.
 ghost use Rattle.std.specs.Prelude.{◌≡◌, ◌<◌, ◌≤◌, ◌+◌, ◌*◌, ◌^◌, length, map, sum, IfErr, IfOk};
-ghost use Rattle.tdp_model.specs.NodeRows.{most_node_rows};
+ghost use Rattle.rankings.specs.NodeRows.{most_node_rows};
 ghost use Rattle.tdp_core.specs.RawView.{row_total};
 ghost use Rattle.tdp_core.specs.Solutions.{IsTieFreeRaw};
 ghost use Rattle.anyk_model.specs.Query.{row_counts};

@@ -1,6 +1,6 @@
 //! Filling the raw tree, one node after another.
 ghost use Rattle.std.specs.Prelude.{◌≡◌, ◌<◌, ◌≤◌, ◌+◌, ◌*◌, length, IfOk, OnOk};
-ghost use Rattle.tdp_model.specs.NodeRows.{most_node_rows};
+ghost use Rattle.rankings.specs.NodeRows.{most_node_rows};
 ghost use Rattle.std.specs.List.{sum_by};
 ghost use Rattle.bound_query.specs.WeighedQuery.{Fits};
 ghost use Rattle.counted_index.specs.Pairs.{AreNumbers};

@@ -1,6 +1,6 @@
 //! The rows of one node.
 ghost use Rattle.std.specs.Prelude.{◌≡◌, ◌<◌, ◌≤◌, ◌+◌, ◌*◌, ℕ, [], length, IfOk, OnOk};
-ghost use Rattle.tdp_model.specs.NodeRows.{most_node_rows};
+ghost use Rattle.rankings.specs.NodeRows.{most_node_rows};
 ghost use Rattle.rankings.specs.Order.{IsMember};
 ghost use Rattle.tdp_core.specs.RawView.{RawRowView, row_total, rows_at, with_row};
 ghost use Rattle.tdp_core.specs.TreeView.{kids_below};

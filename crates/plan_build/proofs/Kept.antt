@@ -1,8 +1,8 @@
 -- The number of rows that stay in a reduction.
 use Rattle.std.proofs.Common.{◌≡◌, ℕ, ◌+◌, ◌<◌, ◌≤◌, List, length, slice_index, Some, sym, ap, ◌∙◌, arith}
 use Rattle.std.proofs.lemmas.List.{get_or_default, length-map}
-use Rattle.tdp_model.specs.KeyTuple.{KeyOf}
-use Rattle.tdp_model.specs.TreeProblem.{sum_from}
+use Rattle.rankings.specs.KeyTuple.{KeyOf}
+use Rattle.rankings.specs.TreeProblem.{sum_from}
 use Rattle.tdp_core.specs.RawView.{RawView, raw_len, raw_row_at, row_total}
 use Rattle.tdp_core.specs.TreeView.{NodeView, node_at, rows}
 use Rattle.step_bounds.proofs.NodeSums.{lengths_in_all, sum_fewer}

@@ -1,10 +1,10 @@
 -- The solved tree has the query's witnesses as its solutions.
 use Rattle.std.proofs.Common.{◌≡◌, ℕ, ◌<◌, ◌≤◌, List, map, length, slice_index, slice_index_or, sym, ap, ◌∙◌, subst, arith}
 use Rattle.std.proofs.lemmas.List.{length-map}
-use Rattle.tdp_model.specs.KeyTuple.{KeyOf, key_add, key_below, key_none}
-use Rattle.tdp_model.specs.TreeProblem.{sum_from}
-use Rattle.tdp_model.proofs.KeyTuples.{tuple_keys}
-use Rattle.tdp_model.proofs.Sums.{sum_same}
+use Rattle.rankings.specs.KeyTuple.{KeyOf, key_add, key_below, key_none}
+use Rattle.rankings.specs.TreeProblem.{sum_from}
+use Rattle.rankings.proofs.KeyTuples.{tuple_keys}
+use Rattle.rankings.proofs.Sums.{sum_same}
 use Rattle.tdp_core.specs.RawView.{RawView, raw_rank}
 use Rattle.tdp_core.specs.TreeView.{NodeView, parent, rank}
 use Rattle.tdp_core.specs.Solutions.{IsRawSolution, IsTreeRanking, IsTreeSolution, raw_solution_key, solution_key}

@@ -8,8 +8,8 @@ use Rattle.std.proofs.lemmas.List.Sorted.{Contains-permutation, IsPermutation-sy
 use Rattle.std.proofs.lemmas.Grind.{get_or_default_zero}
 use Rattle.rankings.specs.Order.{IsMember}
 use Rattle.join_tree.specs.declared.tree.JoinTree.{JoinTree}
-use Rattle.tdp_model.specs.KeyTuple.{KeyOf, key_none}
-use Rattle.tdp_model.specs.Regions.{place_of}
+use Rattle.rankings.specs.KeyTuple.{KeyOf, key_none}
+use Rattle.rankings.specs.Regions.{place_of}
 use Rattle.tdp_core.specs.RawView.{RawView, child_link, own_link, raw_len, raw_number, raw_rank, rows_at, shape_child_place, shape_parent}
 use Rattle.tdp_core.specs.TreeView.{NodeView, group, group_number, item, members, node_at, number, parent, rank, rows}
 use Rattle.tdp_core.specs.Solutions.{Extends, RawExtends, RawLinked}

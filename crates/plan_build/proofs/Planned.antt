@@ -1,8 +1,8 @@
 -- The plan of a query, from what building, reducing and solving give.
 use Rattle.std.proofs.Common.{◌≡◌, ℕ, ◌+◌, ◌<◌, ◌≤◌, List, length, map, get_or, slice_index, Err, refl, sym, ap, ◌∙◌, subst, arith}
 use Rattle.std.proofs.lemmas.List.{ext_get_or, get_or-map, length-map}
-use Rattle.tdp_model.specs.KeyTuple.{KeyOf}
-use Rattle.tdp_model.specs.TreeProblem.{sum_from}
+use Rattle.rankings.specs.KeyTuple.{KeyOf}
+use Rattle.rankings.specs.TreeProblem.{sum_from}
 use Rattle.tdp_core.specs.RawView.{RawView, row_total, shape_at}
 use Rattle.tdp_core.specs.TreeView.{NodeView, item, node_at, parent, rows}
 use Rattle.tdp_core.specs.Solutions.{IsTieFreeRaw}

@@ -5,8 +5,8 @@ use Rattle.std.proofs.lemmas.Grind.{get_or_default_zero}
 use Rattle.std.proofs.lemmas.List.{get_or-take, length-map}
 use Rattle.rankings.proofs.Members.{contains_member, member_contains}
 use Rattle.join_tree.specs.declared.tree.JoinTree.{JoinTree}
-use Rattle.tdp_model.specs.KeyTuple.{KeyOf, key_add, key_none}
-use Rattle.tdp_model.specs.TreeProblem.{sum_from}
+use Rattle.rankings.specs.KeyTuple.{KeyOf, key_add, key_none}
+use Rattle.rankings.specs.TreeProblem.{sum_from}
 use Rattle.tdp_core.specs.RawView.{RawView, child_link, own_link, raw_len, raw_number, raw_rank, rows_at, shape_child_place}
 use Rattle.tdp_core.specs.Solutions.{IsRawSolution, raw_solution_key}
 use Rattle.rank_key.specs.Keys.{row_key}

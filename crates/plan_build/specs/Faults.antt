@@ -4,7 +4,7 @@ use Rattle.anyk_model.specs.Query.{Query}
 use Rattle.anyk_model.specs.Table.{Table}
 use Rattle.hyper_graph.specs.Items.{items_of}
 use Rattle.query_shape.specs.Shape.{IsShape, cyclic, too_many_rows}
-use Rattle.tdp_model.specs.NodeRows.{most_node_rows}
+use Rattle.rankings.specs.NodeRows.{most_node_rows}
 use Rattle.plan_build.specs.declared.fault.PlanFault.{PlanFault}
 use Rattle.plan_build.specs.declared.fault.PlanFault.TheVariants as fault
 

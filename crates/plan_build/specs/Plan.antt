@@ -1,7 +1,7 @@
 -- The plan of a query: the tree problem whose solutions are the query's witnesses.
 use Rattle.std.specs.Prelude.{◌≡◌, ◌↔◌, ◌⊎◌, ℕ, ◌<◌, ◌≤◌, List, Contains, map, length, slice_index, take, Ok, Option, None, Some}
 use Rattle.rankings.specs.Order.{IsAscending, IsMember}
-use Rattle.tdp_model.specs.KeyTuple.{KeyOf}
+use Rattle.rankings.specs.KeyTuple.{KeyOf}
 use Rattle.tdp_core.specs.TreeView.{NodeView, group, item, node_at, number, parent, rank, row_count, rows}
 use Rattle.tdp_core.specs.Solutions.{Extends, IsTreeRanking, IsTreeSolution, solution_key}
 use Rattle.tdp_core.specs.WellFormed.{IsTieFreeTree}

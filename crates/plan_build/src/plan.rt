@@ -1,6 +1,6 @@
 //! The plan of a query.
 ghost use Rattle.std.specs.Prelude.{◌≡◌, ◌≤◌, ◌+◌, ◌*◌, ◌<◌, ◌^◌, List, length, map, IfErr, IfOk, Ok, ℕ};
-ghost use Rattle.tdp_model.specs.NodeRows.{most_node_rows};
+ghost use Rattle.rankings.specs.NodeRows.{most_node_rows};
 ghost use Rattle.anyk_model.specs.Query.{row_counts};
 ghost use Rattle.anyk_model.specs.Table.{Table};
 ghost use Rattle.bound_query.specs.Parts.{sum_of_all};

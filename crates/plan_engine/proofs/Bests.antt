@@ -2,12 +2,12 @@
 use Rattle.std.proofs.Common.{◌≡◌, ◌∙◌, ℕ, suc, ◌<◌, ◌≤◌, List, length, map, get_or, slice_index, inl, inr, sym, ap, subst, arith}
 use Rattle.rankings.specs.Order.{IsMember, ranked}
 use Rattle.rankings.proofs.Unique.{ranking_unique}
-use Rattle.tdp_model.specs.KeyTuple.{KeyOf, key_below, key_add, key_none}
-use Rattle.tdp_model.specs.Remains.{AtMost}
-use Rattle.tdp_model.proofs.Begin.{IsRanking-same}
-use Rattle.tdp_model.proofs.Enumeration.{group_keys, group_ranking}
-use Rattle.tdp_model.proofs.KeyNumbers.{slot_of_lists}
-use Rattle.tdp_model.proofs.KeyTuples.{tuple_keys}
+use Rattle.rankings.specs.KeyTuple.{KeyOf, key_below, key_add, key_none}
+use Rattle.rankings.specs.Remains.{AtMost}
+use Rattle.rankings.proofs.Begin.{IsRanking-same}
+use Rattle.rankings.proofs.Enumeration.{group_keys, group_ranking}
+use Rattle.rankings.proofs.KeyNumbers.{slot_of_lists}
+use Rattle.rankings.proofs.KeyTuples.{tuple_keys}
 use Rattle.tdp_core.specs.Solutions.{IsTreeRanking}
 use Rattle.tdp_core.specs.TreeView.{NodeView, parent, item, number, rows, members, group, rank, best}
 use Rattle.tdp_core.specs.WellFormed.{IsFormed, IsTieFreeTree}

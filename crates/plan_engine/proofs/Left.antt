@@ -9,7 +9,7 @@ use Rattle.plan_engine.proofs.Bests.{bests_agree_lem}
 use Rattle.best_list.specs.BestList.{best_list, list_of}
 use Rattle.best_list.proofs.Least.{best_ranking}
 use Rattle.bound_query.specs.WeighedQuery.{BoundQuery}
-use Rattle.tdp_model.specs.KeyTuple.{KeyOf}
+use Rattle.rankings.specs.KeyTuple.{KeyOf}
 use Rattle.tdp_core.specs.AnswerView.{AnswerView, answers_of}
 use Rattle.tdp_core.specs.Solutions.{IsTreeRanking}
 use Rattle.tdp_core.specs.WellFormed.{IsFormed}

@@ -1,12 +1,12 @@
 -- The slot of the root's item in the key of a subtree solution is the number of the root's row.
 use Rattle.std.proofs.Common.{◌≡◌, ℕ, zero, suc, ◌+◌, ◌-◌, ◌<◌, ◌≤◌, List, length, get_or, ap, ◌∙◌, inl, inr, arith}
 use Rattle.std.proofs.lemmas.Bool.{cases_eq}
-use Rattle.tdp_model.specs.KeyTuple.{KeyOf, key_below, key_add, key_none, slot_of}
-use Rattle.tdp_model.specs.TreeProblem.{sum_from, kid_key, RowHas}
-use Rattle.tdp_model.proofs.Descent.{below_less}
-use Rattle.tdp_model.proofs.KeyTuples.{tuple_keys}
-use Rattle.tdp_model.proofs.SubtreeTies.{kid_yes, kid_no, slot_outside}
-use Rattle.tdp_model.proofs.Ties.{slot_zero}
+use Rattle.rankings.specs.KeyTuple.{KeyOf, key_below, key_add, key_none, slot_of}
+use Rattle.rankings.specs.TreeProblem.{sum_from, kid_key, RowHas}
+use Rattle.rankings.proofs.Descent.{below_less}
+use Rattle.rankings.proofs.KeyTuples.{tuple_keys}
+use Rattle.rankings.proofs.SubtreeTies.{kid_yes, kid_no, slot_outside}
+use Rattle.rankings.proofs.Ties.{slot_zero}
 use Rattle.tdp_core.specs.TreeView.{NodeView, parent, item, number, group, rank}
 use Rattle.tdp_core.specs.WellFormed.{IsFormed, IsTieFreeTree}
 use Rattle.tdp_core.proofs.TreeFacts.{tie_free_of}

@@ -6,7 +6,7 @@ use Rattle.anyk_model.specs.Query.{Query, row_counts}
 use Rattle.bound_query.specs.Parts.{sum_of_all}
 use Rattle.query_shape.specs.Shape.{Shape}
 use Rattle.rank_key.specs.Bits.{bit_length}
-use Rattle.tdp_model.specs.KeyTuple.{KeyOf}
+use Rattle.rankings.specs.KeyTuple.{KeyOf}
 use Rattle.tdp_core.specs.TreeView.{NodeView, group_count, row_count}
 use Rattle.tdp_core.specs.Shares.{most_steps, share_of, size_of}
 use Rattle.step_bounds.specs.Steps.{steps_for}

@@ -1,6 +1,6 @@
 -- Trees whose ranking is that of a query's witnesses.
 use Rattle.std.specs.Prelude.{◌≡◌, ℕ, List, map}
-use Rattle.tdp_model.specs.KeyTuple.{KeyOf}
+use Rattle.rankings.specs.KeyTuple.{KeyOf}
 use Rattle.tdp_core.specs.TreeView.{NodeView}
 use Rattle.tdp_core.specs.Solutions.{IsTreeRanking}
 use Rattle.anyk_model.specs.Table.{Table}

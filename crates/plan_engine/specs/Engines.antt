@@ -1,6 +1,6 @@
 -- One of the engines, as its callers see it.
 use Rattle.std.specs.Prelude.{ℕ, List}
-use Rattle.tdp_model.specs.KeyTuple.{KeyOf}
+use Rattle.rankings.specs.KeyTuple.{KeyOf}
 use Rattle.tdp_core.specs.AnswerView.{AnswerView}
 use Rattle.tdp_core.specs.TreeView.{NodeView}
 use Rattle.anyk_part.specs.Regions.{rest_of as rest_of_part}

@@ -1,6 +1,6 @@
 //! The engine that was asked for.
 ghost use Rattle.std.specs.Prelude.{◌≡◌, ◌+◌, ◌*◌, ◌≤◌, IfOk, List, length};
-ghost use Rattle.tdp_model.specs.KeyTuple.{KeyOf};
+ghost use Rattle.rankings.specs.KeyTuple.{KeyOf};
 ghost use Rattle.tdp_core.specs.AnswerView.{answers_of};
 ghost use Rattle.tdp_core.specs.RisingShares.{at_most_itself, shares_rise};
 ghost use Rattle.tdp_core.specs.Shares.{share_of, size_of};

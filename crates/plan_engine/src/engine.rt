@@ -7,7 +7,7 @@ ghost use Rattle.bound_query.specs.WeighedQuery.{BoundQuery};
 ghost use Rattle.tdp_core.specs.AnswerView.{answers_of};
 ghost use Rattle.tdp_core.specs.Solutions.{IsTreeRanking};
 ghost use Rattle.tdp_core.specs.TreeView.{row_count};
-ghost use Rattle.tdp_model.specs.KeyTuple.{KeyOf};
+ghost use Rattle.rankings.specs.KeyTuple.{KeyOf};
 ghost use Rattle.tdp_core.specs.WellFormed.{IsTieFreeTree};
 ghost use Rattle.plan_engine.specs.AskedList.{IsAskedList};
 

@@ -1,6 +1,6 @@
 //! The best solutions of the rows of a tree's root, and the best list of a query.
 ghost use Rattle.std.specs.Prelude.{◌≡◌, ◌≤◌, List, length, map};
-ghost use Rattle.tdp_model.specs.KeyTuple.{KeyOf};
+ghost use Rattle.rankings.specs.KeyTuple.{KeyOf};
 ghost use Rattle.tdp_core.specs.TreeView.{NodeView, item};
 ghost use Rattle.tdp_core.specs.WellFormed.{IsFormed, IsTieFreeTree};
 ghost use Rattle.anyk_model.specs.Table.{Table};

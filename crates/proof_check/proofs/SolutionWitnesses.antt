@@ -2,10 +2,10 @@
 use Rattle.std.proofs.Common.{◌≡◌, ℕ, ◌<◌, cond, nat_eq, List, length, map, get_or, slice_index}
 use Rattle.std.proofs.Common.{sym, ap, ◌∙◌, subst, inl, inr, arith}
 use Rattle.std.proofs.lemmas.Bool.{cases_eq}
-use Rattle.tdp_model.specs.Below.{is_below}
-use Rattle.tdp_model.specs.KeyTuple.{KeyOf, key_add, key_below, key_none}
-use Rattle.tdp_model.proofs.KeyTuples.{tuple_keys}
-use Rattle.tdp_model.proofs.Sums.{sum_same}
+use Rattle.rankings.specs.Below.{is_below}
+use Rattle.rankings.specs.KeyTuple.{KeyOf, key_add, key_below, key_none}
+use Rattle.rankings.proofs.KeyTuples.{tuple_keys}
+use Rattle.rankings.proofs.Sums.{sum_same}
 use Rattle.rankings.specs.Order.{IsRanking}
 use Rattle.anyk_model.specs.Table.{Table}
 use Rattle.anyk_model.specs.Query.{IsWitness, Query}

@@ -4,8 +4,8 @@ use Rattle.std.proofs.Common.{refl, sym, ap, ◌∙◌, subst, inl, inr, arith}
 use Rattle.std.specs.Prelude.{Option, None, Some}
 use Rattle.std.proofs.lemmas.Bool.{cases_lt}
 use Rattle.std.proofs.lemmas.List.{get_or-map, length-map}
-use Rattle.tdp_model.specs.KeyTuple.{KeyOf, slot_of}
-use Rattle.tdp_model.specs.Remains.{AtMost}
+use Rattle.rankings.specs.KeyTuple.{KeyOf, slot_of}
+use Rattle.rankings.specs.Remains.{AtMost}
 use Rattle.anyk_model.specs.Table.{Table}
 use Rattle.anyk_model.specs.Query.{IsWitness, Query}
 use Rattle.anyk_model.specs.Output.{cut}

@@ -1,9 +1,9 @@
 //! The ways to leave the answers at one node.
 ghost use Rattle.std.specs.Prelude.{◌≡◌, ◌≤◌, ◌<◌, ℕ, List, [], Option, None, Some, true, false};
-ghost use Rattle.tdp_model.specs.NodeRows.{most_node_rows};
+ghost use Rattle.rankings.specs.NodeRows.{most_node_rows};
 ghost use Rattle.std.specs.Prelude.{IfOk, OnOk, length, map, option_map, unwrap_or};
 ghost use Rattle.std.specs.Prelude.{slice_index, slice_index_or, slice_set, vec_len};
-ghost use Rattle.tdp_model.specs.KeyTuple.{KeyOf};
+ghost use Rattle.rankings.specs.KeyTuple.{KeyOf};
 ghost use Rattle.tdp_core.specs.RawView.{raw_len};
 ghost use Rattle.proof_check.specs.BoundedRows.{bound_ranks};
 ghost use Rattle.proof_check.specs.Levels.{AreBranches, AreGroups, AreLeast, AreLists, CanLeave, FitsGroup, FitOffers};

@@ -1,6 +1,6 @@
 //! The numbers of bounds, row by row.
 ghost use Rattle.std.specs.Prelude.{◌≡◌, ◌≤◌, ◌<◌, ℕ, List, [], length, map, nat_eq, position, slice_index_or, IfOk, OnOk, Some};
-ghost use Rattle.tdp_model.specs.NodeRows.{most_node_rows};
+ghost use Rattle.rankings.specs.NodeRows.{most_node_rows};
 ghost use Rattle.tdp_core.specs.RawView.{raw_len, shape_children};
 ghost use Rattle.proof_check.specs.Lines.{AreNamed, AreNumbers, row_link};
 

@@ -3,7 +3,7 @@ ghost use Rattle.std.specs.Prelude.{◌≡◌, ◌≤◌, ◌<◌, true, None, S
 ghost use Rattle.anyk_model.specs.Table.{Table};
 ghost use Rattle.anyk_model.specs.Query.{Query as SelectQuery};
 ghost use Rattle.join_tree.specs.declared.tree.JoinTree.{JoinTree};
-ghost use Rattle.tdp_model.specs.KeyNumbers.{key_less};
+ghost use Rattle.rankings.specs.KeyNumbers.{key_less};
 ghost use Rattle.proof_text.specs.ProofView.{proof_view};
 ghost use Rattle.proof_model.specs.QueryProblem.{problem_in};
 ghost use Rattle.proof_check.specs.BoundedRows.{HasProblemRows};

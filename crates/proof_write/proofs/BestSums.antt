@@ -3,15 +3,15 @@ use Rattle.std.proofs.Common.{◌≡◌, ◌<◌, ◌≤◌, ◌+◌, ◌-◌, �
 use Rattle.std.proofs.Common.{refl, sym, ap, subst, ◌∙◌, inl, inr, arith}
 use Rattle.std.proofs.lemmas.Bool.{cases_eq}
 use Rattle.std.proofs.lemmas.List.{get_or_default}
-use Rattle.tdp_model.specs.Below.{is_below}
-use Rattle.tdp_model.specs.KeyTuple.{KeyOf, key_add, key_below, key_none}
-use Rattle.tdp_model.specs.Remains.{AtMost}
-use Rattle.tdp_model.specs.TreeProblem.{kid_key, kid_part, sum_from, RowHas}
-use Rattle.tdp_model.proofs.Descent.{below_parent}
-use Rattle.tdp_model.proofs.Keys.{at_most_trans}
-use Rattle.tdp_model.proofs.KeyTuples.{tuple_keys}
-use Rattle.tdp_model.proofs.Subtrees.{climbs_all, climbs_ordered}
-use Rattle.tdp_model.proofs.Sums.{sum_same}
+use Rattle.rankings.specs.Below.{is_below}
+use Rattle.rankings.specs.KeyTuple.{KeyOf, key_add, key_below, key_none}
+use Rattle.rankings.specs.Remains.{AtMost}
+use Rattle.rankings.specs.TreeProblem.{kid_key, kid_part, sum_from, RowHas}
+use Rattle.rankings.proofs.Descent.{below_parent}
+use Rattle.rankings.proofs.Keys.{at_most_trans}
+use Rattle.rankings.proofs.KeyTuples.{tuple_keys}
+use Rattle.rankings.proofs.Subtrees.{climbs_all, climbs_ordered}
+use Rattle.rankings.proofs.Sums.{sum_same}
 use Rattle.tdp_core.specs.TreeView.{NodeView, best, group, group_count, members, parent, rank, rows}
 use Rattle.tdp_core.specs.WellFormed.{IsFormed}
 use Rattle.tdp_core.proofs.TreeFacts.{best_least}

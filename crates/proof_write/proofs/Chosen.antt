@@ -6,9 +6,9 @@ use Rattle.std.proofs.Math.ListN.{set}
 use Rattle.std.proofs.lemmas.Bool.{cases_eq, cases_lt}
 use Rattle.std.proofs.lemmas.List.{get_or-replicate, get_or-set_other, get_or-set_same, get_or_past, length-set}
 use Rattle.std.proofs.lemmas.List.{length-replicate}
-use Rattle.tdp_model.specs.Below.{is_below}
-use Rattle.tdp_model.specs.KeyTuple.{KeyOf}
-use Rattle.tdp_model.proofs.Descent.{below_itself, below_less, below_parent}
+use Rattle.rankings.specs.Below.{is_below}
+use Rattle.rankings.specs.KeyTuple.{KeyOf}
+use Rattle.rankings.proofs.Descent.{below_itself, below_less, below_parent}
 use Rattle.tdp_core.specs.TreeView.{NodeView, group, item, members, number, parent, rows}
 use Rattle.tdp_core.specs.WellFormed.{IsFormed}
 use Rattle.proof_write.specs.Firsts.{IsFirst, IsUnder}

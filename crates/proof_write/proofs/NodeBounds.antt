@@ -12,9 +12,9 @@ use Rattle.std.proofs.lemmas.List.Elements.{All-get_or, All-from_get_or}
 use Rattle.std.proofs.lemmas.List.Sorted.{All-permutation, Contains-permutation, IsPermutation-map}
 use Rattle.std.proofs.lemmas.List.Sorted.{length_permutation, ranks_by, sorted_far}
 use Rattle.std.proofs.lemmas.List.{get_or_default}
-use Rattle.tdp_model.specs.Below.{is_below}
-use Rattle.tdp_model.specs.KeyTuple.{KeyOf}
-use Rattle.tdp_model.proofs.Descent.{below_itself, below_less, below_once, below_parent}
+use Rattle.rankings.specs.Below.{is_below}
+use Rattle.rankings.specs.KeyTuple.{KeyOf}
+use Rattle.rankings.proofs.Descent.{below_itself, below_less, below_once, below_parent}
 use Rattle.tdp_core.specs.TreeView.{NodeView, child_place, group, group_count, group_named, group_number, item}
 use Rattle.tdp_core.specs.TreeView.{members, node_at, number, parent, rows}
 use Rattle.tdp_core.specs.WellFormed.{IsFormed}

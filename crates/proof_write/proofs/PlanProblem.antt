@@ -3,12 +3,12 @@ use Rattle.std.proofs.Common.{◌≡◌, ◌<◌, ◌≤◌, ◌⊎◌, ℕ, zer
 use Rattle.std.proofs.Common.{slice_index, replicate, slice_set, refl, sym, ap, subst, ◌∙◌, inl, inr, arith}
 use Rattle.std.proofs.lemmas.Bool.{cases_eq, cases_lt}
 use Rattle.std.proofs.lemmas.List.{get_or_default, length-map}
-use Rattle.tdp_model.specs.Below.{is_below}
-use Rattle.tdp_model.specs.KeyTuple.{KeyOf, key_add, key_below, key_none}
-use Rattle.tdp_model.specs.Regions.{place_of}
-use Rattle.tdp_model.proofs.Descent.{below_less, below_parent}
-use Rattle.tdp_model.proofs.KeyTuples.{tuple_keys}
-use Rattle.tdp_model.proofs.Sums.{sum_same}
+use Rattle.rankings.specs.Below.{is_below}
+use Rattle.rankings.specs.KeyTuple.{KeyOf, key_add, key_below, key_none}
+use Rattle.rankings.specs.Regions.{place_of}
+use Rattle.rankings.proofs.Descent.{below_less, below_parent}
+use Rattle.rankings.proofs.KeyTuples.{tuple_keys}
+use Rattle.rankings.proofs.Sums.{sum_same}
 use Rattle.tdp_core.specs.TreeView.{NodeView, group, group_count, item, members, node_at, number, parent, rank, rows}
 use Rattle.tdp_core.specs.Solutions.{Extends}
 use Rattle.tdp_core.specs.WellFormed.{IsFormed}

@@ -5,11 +5,11 @@ use Rattle.std.specs.List.{flat_map}
 use Rattle.std.proofs.lemmas.List.{get_or_default}
 use Rattle.std.proofs.lemmas.List.Concat.{flat_map-cons}
 use Rattle.rankings.specs.Order.{BelowAll, IsAscending}
-use Rattle.tdp_model.specs.KeyTuple.{KeyOf, key_below}
-use Rattle.tdp_model.specs.Regions.{place_of}
-use Rattle.tdp_model.specs.Remains.{AtMost}
-use Rattle.tdp_model.proofs.Keys.{at_most_trans}
-use Rattle.tdp_model.proofs.KeyTuples.{tuple_keys}
+use Rattle.rankings.specs.KeyTuple.{KeyOf, key_below}
+use Rattle.rankings.specs.Regions.{place_of}
+use Rattle.rankings.specs.Remains.{AtMost}
+use Rattle.rankings.proofs.Keys.{at_most_trans}
+use Rattle.rankings.proofs.KeyTuples.{tuple_keys}
 use Rattle.tdp_core.specs.TreeView.{NodeView, best, group_count, item, members, node_at, number, parent, rank, rows}
 use Rattle.tdp_core.specs.WellFormed.{IsFormed}
 use Rattle.anyk_model.specs.Table.{Table}

@@ -4,7 +4,7 @@ use Rattle.std.specs.Prelude.{slice_index, slice_index_or}
 use Rattle.std.specs.List.Sorted.{IsPermutation, IsSorted}
 use Rattle.std.specs.Ordering.{nat_cmp}
 use Rattle.std.specs.Cmp.Lexicographic.{slice_cmp}
-use Rattle.tdp_model.specs.Below.{is_below}
+use Rattle.rankings.specs.Below.{is_below}
 use Rattle.tdp_core.specs.TreeView.{NodeView, group, group_count, item, members, number, parent, rows}
 use Rattle.proof_text.specs.Certificate.{BoundLine}
 use Rattle.proof_model.specs.WrittenProofs.{BoundBefore}

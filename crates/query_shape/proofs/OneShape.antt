@@ -16,7 +16,7 @@ use Rattle.bound_query.specs.Classes.{AreVariables, ColumnBefore, HasVariable}
 use Rattle.bound_query.specs.Graph.{IsGraphOf}
 use Rattle.bound_query.specs.Parts.{sum_of_all}
 use Rattle.query_shape.specs.Shape.{Flaw, cyclic, too_many_rows, IsInCore, IsCyclic, Shape, HasNodeRows, HasTree, HasShape, IsShape}
-use Rattle.tdp_model.specs.NodeRows.{most_node_rows}
+use Rattle.rankings.specs.NodeRows.{most_node_rows}
 use Rattle.query_shape.proofs.Alike.{runs_same, ends_same, core_same}
 
 before_asym : (a b : Column) → ColumnBefore a b → ColumnBefore b a → ⊥

@@ -1,7 +1,7 @@
 //! What a rank can do: joining, exchanging a part and comparing, one counted step each.
 ghost use Rattle.std.specs.Prelude.{◌≡◌, ℕ, ◌+◌, ◌^◌, ◌<◌, ◌≤◌, ℤ, List, length, All, unsigned_abs};
-ghost use Rattle.tdp_model.specs.KeyTuple.{KeyOf, key_add, key_none};
-ghost use Rattle.tdp_model.specs.KeyNumbers.{key_less};
+ghost use Rattle.rankings.specs.KeyTuple.{KeyOf, key_add, key_none};
+ghost use Rattle.rankings.specs.KeyNumbers.{key_less};
 ghost use Rattle.rank_key.specs.Keys.{KeyFits, CanSwap, IsHeld, IsWithin, row_key};
 
 use std::sync::ledger::Ledger;

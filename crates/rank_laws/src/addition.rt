@@ -1,8 +1,8 @@
 //! The laws of joining and exchanging.
 ghost use Rattle.std.specs.Prelude.{◌≡◌, ℕ, ◌+◌, ◌≤◌};
 ghost use Rattle.std.specs.declared.cmp.Ordering.TheVariants.{Less, Equal, Greater};
-ghost use Rattle.tdp_model.specs.KeyTuple.{KeyOf, key_add, key_below};
-ghost use Rattle.tdp_model.specs.KeyNumbers.{key_less};
+ghost use Rattle.rankings.specs.KeyTuple.{KeyOf, key_add, key_below};
+ghost use Rattle.rankings.specs.KeyNumbers.{key_less};
 ghost use Rattle.rank_key.specs.Keys.{KeyFits, CanSwap};
 
 use crate::order::compare;

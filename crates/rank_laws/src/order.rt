@@ -1,8 +1,8 @@
 //! The laws of comparing.
 ghost use Rattle.std.specs.Prelude.{◌≡◌, ℕ, ◌+◌, ◌≤◌, true, false};
 ghost use Rattle.std.specs.declared.cmp.Ordering.TheVariants.{Less, Equal, Greater};
-ghost use Rattle.tdp_model.specs.KeyTuple.{KeyOf, key_below};
-ghost use Rattle.tdp_model.specs.KeyNumbers.{key_less};
+ghost use Rattle.rankings.specs.KeyTuple.{KeyOf, key_below};
+ghost use Rattle.rankings.specs.KeyNumbers.{key_less};
 
 use rank_key::Rank;
 use std::cmp::Ordering;

@@ -1,8 +1,8 @@
 -- A row that stays has a subtree solution.
 use Rattle.std.proofs.Common.{◌≡◌, ℕ, zero, suc, ◌+◌, ◌-◌, ◌<◌, ◌≤◌, inl, inr, cond, nat_eq, length, get_or, refl, sym, ap, subst, ◌∙◌, arith, eq-eqb}
 use Rattle.std.proofs.lemmas.Bool.{ne_eqb, cases_eq, cases_lt}
-use Rattle.tdp_model.specs.Below.{is_below}
-use Rattle.tdp_model.proofs.Descent.{below_itself, below_less, below_parent}
+use Rattle.rankings.specs.Below.{is_below}
+use Rattle.rankings.proofs.Descent.{below_itself, below_less, below_parent}
 use Rattle.tdp_core.specs.Solutions.{IsSubtreeSolution, Extends, RawLinked}
 use Rattle.tdp_core.specs.RawView.{RawView, AreShapes, raw_len, shape_parent, own_link, child_link}
 use Rattle.semi_join.specs.Reduction.{child_nodes, group_link}

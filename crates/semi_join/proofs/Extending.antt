@@ -1,7 +1,7 @@
 -- A row with a subtree solution stays.
 use Rattle.std.proofs.Common.{◌≡◌, ℕ, zero, suc, ◌+◌, ◌-◌, ◌<◌, ◌≤◌, inl, inr, cond, length, get_or, refl, ap, subst, ◌∙◌, arith}
 use Rattle.std.proofs.lemmas.Bool.{ne_eqb}
-use Rattle.tdp_model.proofs.Descent.{below_itself, child_below}
+use Rattle.rankings.proofs.Descent.{below_itself, child_below}
 use Rattle.tdp_core.specs.Solutions.{IsSubtreeSolution, RawLinked}
 use Rattle.tdp_core.specs.RawView.{RawView, AreShapes, raw_len, shape_parent, own_link, child_link}
 use Rattle.semi_join.specs.Reduction.{child_nodes, group_link}

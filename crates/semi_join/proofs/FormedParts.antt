@@ -4,8 +4,8 @@ use Rattle.std.specs.List.{concat, range_with_len}
 use Rattle.std.specs.List.Sorted.{IsPermutation}
 use Rattle.std.proofs.lemmas.List.{length-map, get_or-map}
 use Rattle.std.proofs.lemmas.List.Elements.{All-map}
-use Rattle.tdp_model.specs.KeyTuple.{KeyOf, key_none}
-use Rattle.tdp_model.specs.TreeProblem.{sum_from}
+use Rattle.rankings.specs.KeyTuple.{KeyOf, key_none}
+use Rattle.rankings.specs.TreeProblem.{sum_from}
 use Rattle.tdp_core.specs.declared.parts.NodeShape.{NodeShape}
 use Rattle.tdp_core.specs.declared.parts.NodeRow.{NodeRow}
 use Rattle.tdp_core.specs.RawView.{RawView, IsRawFormed, rows_at, raw_len, shape_item, shape_cap, shape_parent}

@@ -1,7 +1,7 @@
 -- Parts with the shapes of a raw tree.
 use Rattle.std.proofs.Common.{◌≡◌, ℕ, zero, suc, ◌<◌, List, [], ◌∷◌, map, length, get_or, refl, sym, ap, subst, ◌∙◌, arith}
 use Rattle.std.proofs.lemmas.List.{length-map}
-use Rattle.tdp_model.specs.KeyTuple.{KeyOf}
+use Rattle.rankings.specs.KeyTuple.{KeyOf}
 use Rattle.tdp_core.specs.declared.parts.NodeShape.{NodeShape}
 use Rattle.tdp_core.specs.RawView.{AreShapes, AreShapesHeld, shape_at, shape_parent, shape_item, shape_cap, shape_children, shape_child_place}
 use Rattle.tdp_core.specs.TreeView.{NodeView, kids_below, cap_of, node_at, parent, item, cap, child_count, child_place}

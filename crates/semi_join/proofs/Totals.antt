@@ -1,7 +1,7 @@
 -- Sums over the nodes.
 use Rattle.std.proofs.Common.{◌≡◌, ℕ, zero, suc, ◌+◌, ◌<◌, ◌≤◌, List, [], length, get_or, drop, sum_by, refl, sym, ap, ◌∙◌, arith}
 use Rattle.std.proofs.lemmas.List.{drop_all}
-use Rattle.tdp_model.specs.TreeProblem.{sum_from}
+use Rattle.rankings.specs.TreeProblem.{sum_from}
 use Rattle.semi_join.proofs.FromLast.{rows_more}
 
 pub sum_most : (f g : ℕ → ℕ) (n q : ℕ) → ((v : ℕ) → q ≤ v → v < q + n → f v ≤ g v) → sum_from ◌+◌ 0 f n q ≤ sum_from ◌+◌ 0 g n q

@@ -1,6 +1,6 @@
 -- What is computed node by node is the reduction of the raw tree.
 use Rattle.std.proofs.Common.{ℕ, List, length}
-use Rattle.tdp_model.specs.KeyTuple.{KeyOf}
+use Rattle.rankings.specs.KeyTuple.{KeyOf}
 use Rattle.tdp_core.specs.RawView.{RawView, IsRawFormed}
 use Rattle.tdp_core.specs.TreeView.{NodeView}
 use Rattle.semi_join.specs.ReducedTrees.{IsReduced}

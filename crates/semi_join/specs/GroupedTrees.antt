@@ -1,6 +1,6 @@
 -- Trees whose rows are in groups that have no order yet.
 use Rattle.std.specs.Prelude.{◌≡◌, ℕ, ◌<◌, List, [], length}
-use Rattle.tdp_model.specs.KeyTuple.{KeyOf}
+use Rattle.rankings.specs.KeyTuple.{KeyOf}
 use Rattle.tdp_core.specs.TreeView.{NodeView, node_at}
 use Rattle.tdp_core.specs.WellFormed.{IsLaidOut}
 

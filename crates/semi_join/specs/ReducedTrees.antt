@@ -2,7 +2,7 @@
 use Rattle.std.specs.Prelude.{◌≡◌, ℕ, ◌<◌, ◌↔◌, List, map, length, slice_index, Some}
 use Rattle.std.specs.List.{Contains}
 use Rattle.std.specs.List.Sorted.{IsStrictlyIncreasing}
-use Rattle.tdp_model.specs.KeyTuple.{KeyOf}
+use Rattle.rankings.specs.KeyTuple.{KeyOf}
 use Rattle.tdp_core.specs.RawView.{RawView, raw_len, raw_row_at, own_link, child_link, shape_parent, shape_child_place}
 use Rattle.tdp_core.specs.TreeView.{NodeView, node_at, members, group}
 use Rattle.tdp_core.specs.WellFormed.{IsTieFreeTree}

@@ -1,6 +1,6 @@
 -- What the bottom-up reduction of a raw tree computes, node by node.
 use Rattle.std.specs.Prelude.{◌≡◌, ℕ, suc, ◌-◌, ◌<◌, ◌≤◌, Bool, cond, nat_eq, List, [], ◌∷◌, ◌++◌, map, length, slice_index, slice_index_or, Some, IsPermutation, All}
-use Rattle.tdp_model.specs.NodeRows.{most_node_rows}
+use Rattle.rankings.specs.NodeRows.{most_node_rows}
 use Rattle.std.specs.List.{Contains, filter, list_any, list_all, position_or_len, range_with_len, concat}
 use Rattle.indexmap.specs.IndexSet.{insert_all}
 use Rattle.tdp_core.specs.RawView.{RawView, shape_at, shape_parent, raw_len, raw_row_at, own_link, child_link}

@@ -1,6 +1,6 @@
 //! The rows of one node that are kept, in groups.
 ghost use Rattle.std.specs.Prelude.{◌≡◌, ◌+◌, ◌*◌, ◌<◌, ◌≤◌, [], ◌∷◌, ◌++◌, true, false, map, length, IfOk, IfSome, IfNone, OnOk, Some, nat_eq};
-ghost use Rattle.tdp_model.specs.NodeRows.{most_node_rows};
+ghost use Rattle.rankings.specs.NodeRows.{most_node_rows};
 ghost use Rattle.indexmap.specs.IndexSet.{insert_key};
 ghost use Rattle.tdp_core.specs.RawView.{AreShapes, raw_len, raw_row_at, row_total};
 ghost use Rattle.tdp_core.specs.TreeView.{node_view};

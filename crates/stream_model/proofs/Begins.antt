@@ -2,16 +2,16 @@
 use Rattle.std.proofs.Common.{◌≡◌, ℕ, zero, suc, ◌-◌, ◌<◌, List, [], ◌∷◌, length, get_or, sym, ap, ◌∙◌, inl, inr, arith}
 use Rattle.std.proofs.lemmas.Bool.{cases_eq}
 use Rattle.rankings.specs.Order.{IsRanking}
-use Rattle.tdp_model.specs.KeyLaws.{IsKeys}
-use Rattle.tdp_model.specs.Remains.{Remains, total}
-use Rattle.tdp_model.specs.StagedProblem.{IsDistinct}
-use Rattle.tdp_model.specs.Product.{Pair, is_run, run_key}
-use Rattle.tdp_model.specs.TreeProblem.{sum_from, kid_key, RowHas, GroupHas, IsTieFree}
-use Rattle.tdp_model.proofs.Removal.{Remains-same}
-use Rattle.tdp_model.proofs.Ties.{slot_zero}
-use Rattle.tdp_model.proofs.Descent.{below_less}
-use Rattle.tdp_model.proofs.SubtreeTies.{kid_yes, kid_no, slot_outside}
-use Rattle.tdp_model.proofs.Streams.{group_remains}
+use Rattle.rankings.specs.KeyLaws.{IsKeys}
+use Rattle.rankings.specs.Remains.{Remains, total}
+use Rattle.rankings.specs.StagedProblem.{IsDistinct}
+use Rattle.rankings.specs.Product.{Pair, is_run, run_key}
+use Rattle.rankings.specs.TreeProblem.{sum_from, kid_key, RowHas, GroupHas, IsTieFree}
+use Rattle.rankings.proofs.Removal.{Remains-same}
+use Rattle.rankings.proofs.Ties.{slot_zero}
+use Rattle.rankings.proofs.Descent.{below_less}
+use Rattle.rankings.proofs.SubtreeTies.{kid_yes, kid_no, slot_outside}
+use Rattle.rankings.proofs.Streams.{group_remains}
 use Rattle.stream_model.specs.Reaches.{reaches}
 use Rattle.stream_model.proofs.Reaching.{root_stands}
 

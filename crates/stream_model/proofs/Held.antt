@@ -6,9 +6,9 @@ use Rattle.std.proofs.lemmas.List.Sums.{sum_by-cons}
 use Rattle.std.proofs.lemmas.List.Sorted.{sum_by-IsPermutation, All-permutation}
 use Rattle.std.proofs.lemmas.List.Elements.{All-cons, All-head, All-tail}
 use Rattle.rankings.specs.Order.{IsMember}
-use Rattle.tdp_model.specs.Remains.{AtMost, total}
-use Rattle.tdp_model.specs.KeyTuple.{KeyOf, key_below}
-use Rattle.tdp_model.proofs.KeyNumbers.{not_less_at_most}
+use Rattle.rankings.specs.Remains.{AtMost, total}
+use Rattle.rankings.specs.KeyTuple.{KeyOf, key_below}
+use Rattle.rankings.proofs.KeyNumbers.{not_less_at_most}
 use Rattle.take2_heap.specs.declared.entry.Entry.{Entry}
 use Rattle.take2_heap.specs.Order.{IsLeast}
 use Rattle.stream_model.specs.Offers.{offers}

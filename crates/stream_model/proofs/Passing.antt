@@ -2,9 +2,9 @@
 use Rattle.std.proofs.Common.{◌≡◌, ℕ, zero, suc, ◌+◌, ◌-◌, ◌<◌, ◌≤◌, List, [], ◌∷◌, length, drop, get_or, refl, sym, ap, ◌∙◌, subst, inl, inr, arith}
 use Rattle.std.proofs.lemmas.Bool.{cases_lt}
 use Rattle.rankings.specs.Order.{IsOrder, IsMember}
-use Rattle.tdp_model.specs.Remains.{AtMost, Remains, total}
-use Rattle.tdp_model.proofs.Removal.{take_least, none_left}
-use Rattle.tdp_model.proofs.Keys.{at_most_trans}
+use Rattle.rankings.specs.Remains.{AtMost, Remains, total}
+use Rattle.rankings.proofs.Removal.{take_least, none_left}
+use Rattle.rankings.proofs.Keys.{at_most_trans}
 use Rattle.stream_model.specs.Ahead.{AllInside, NoneBelow, IsAhead}
 
 -- a list that is empty has no first element

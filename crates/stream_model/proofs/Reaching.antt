@@ -3,14 +3,14 @@ use Rattle.std.proofs.Common.{◌≡◌, ◌≢◌, ℕ, zero, suc, ◌+◌, ◌
 use Rattle.std.proofs.lemmas.Bool.{cases_lt, cases_eq}
 use Rattle.std.proofs.lemmas.Bool.Decides.{nat_tests}
 use Rattle.rankings.specs.Order.{IsAscending}
-use Rattle.tdp_model.specs.Remains.{AtMost, total}
-use Rattle.tdp_model.specs.Heap.{under}
-use Rattle.tdp_model.specs.KeyTuple.{KeyOf, key_below, key_none}
-use Rattle.tdp_model.specs.Product.{Pair, same_pair, is_run, runs_to, run_key}
-use Rattle.tdp_model.proofs.Subtrees.{same, climbs_split, climbs_above, climbs_all, climbs_ordered}
-use Rattle.tdp_model.proofs.Keys.{at_most_trans, ascending_at_most}
-use Rattle.tdp_model.proofs.KeyTuples.{tuple_keys}
-use Rattle.tdp_model.proofs.Runs.{run_divided, runs_none}
+use Rattle.rankings.specs.Remains.{AtMost, total}
+use Rattle.rankings.specs.Heap.{under}
+use Rattle.rankings.specs.KeyTuple.{KeyOf, key_below, key_none}
+use Rattle.rankings.specs.Product.{Pair, same_pair, is_run, runs_to, run_key}
+use Rattle.rankings.proofs.Subtrees.{same, climbs_split, climbs_above, climbs_all, climbs_ordered}
+use Rattle.rankings.proofs.Keys.{at_most_trans, ascending_at_most}
+use Rattle.rankings.proofs.KeyTuples.{tuple_keys}
+use Rattle.rankings.proofs.Runs.{run_divided, runs_none}
 use Rattle.stream_model.specs.Ahead.{AllInside}
 use Rattle.stream_model.specs.QueueEntries.{InRuns}
 use Rattle.stream_model.specs.Reaches.{reaches, AreHeapOrdered}

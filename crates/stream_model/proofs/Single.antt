@@ -4,7 +4,7 @@ use Rattle.std.specs.Prelude.{option_to_list}
 use Rattle.std.specs.Option.{option_or}
 use Rattle.std.specs.List.Sorted.{IsPermutation}
 use Rattle.std.proofs.lemmas.List.Sorted.{IsPermutation-refl}
-use Rattle.tdp_model.specs.KeyTuple.{KeyOf}
+use Rattle.rankings.specs.KeyTuple.{KeyOf}
 use Rattle.rank_key.proofs.KeyOrder.{less_itself}
 use Rattle.take2_heap.specs.Heap.{Heap}
 use Rattle.take2_heap.specs.Order.{IsLeast, IsMinHeap}

@@ -5,11 +5,11 @@ use Rattle.std.specs.List.Sorted.{IsPermutation}
 use Rattle.std.proofs.lemmas.List.Elements.{All-head, All-tail}
 use Rattle.std.proofs.lemmas.Bool.Decides.{nat_tests}
 use Rattle.rankings.specs.Order.{IsAscending, IsMember}
-use Rattle.tdp_model.specs.Remains.{AtMost, Remains, total}
-use Rattle.tdp_model.specs.KeyTuple.{KeyOf, key_below, key_add, key_none}
-use Rattle.tdp_model.specs.Product.{Pair, pair_key, stands_for, same_pair, run_key}
-use Rattle.tdp_model.proofs.KeyTuples.{tuple_keys}
-use Rattle.tdp_model.proofs.Products.{product_divided, same_pair_at, same_pair_only, stands_none}
+use Rattle.rankings.specs.Remains.{AtMost, Remains, total}
+use Rattle.rankings.specs.KeyTuple.{KeyOf, key_below, key_add, key_none}
+use Rattle.rankings.specs.Product.{Pair, pair_key, stands_for, same_pair, run_key}
+use Rattle.rankings.proofs.KeyTuples.{tuple_keys}
+use Rattle.rankings.proofs.Products.{product_divided, same_pair_at, same_pair_only, stands_none}
 use Rattle.take2_heap.specs.declared.entry.Entry.{Entry}
 use Rattle.take2_heap.specs.Order.{IsLeast}
 use Rattle.stream_model.specs.Offers.{offers}

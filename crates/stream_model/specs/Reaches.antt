@@ -1,9 +1,9 @@
 -- What an entry of a group's queue stands for. The members of a group are in heap order by their
 -- first solutions.
 use Rattle.std.specs.Prelude.{ℕ, ◌*◌, cond, nat_eq, nat_le, List, slice_index_or}
-use Rattle.tdp_model.specs.Heap.{under, FollowsParent}
-use Rattle.tdp_model.specs.KeyTuple.{KeyOf, key_below, key_none}
-use Rattle.tdp_model.specs.Product.{Pair, is_run}
+use Rattle.rankings.specs.Heap.{under, FollowsParent}
+use Rattle.rankings.specs.KeyTuple.{KeyOf, key_below, key_none}
+use Rattle.rankings.specs.Product.{Pair, is_run}
 
 -- 1 if the queue's entry f stands for p, else 0. A member's first solution stands for all solutions
 -- of the members in its heap subtree, and a later one for what its member has from its place on.

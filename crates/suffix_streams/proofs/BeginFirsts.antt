@@ -2,11 +2,11 @@
 use Rattle.std.proofs.Common.{◌≡◌, ℕ, ◌<◌, List, [], ◌∷◌, length, get_or, refl, sym, subst, inl, inr, arith}
 use Rattle.rankings.specs.Order.{IsOrder, IsMember, IsRanking}
 use Rattle.rankings.proofs.Members.{below_member}
-use Rattle.tdp_model.specs.Remains.{AtMost}
-use Rattle.tdp_model.specs.KeyTuple.{KeyOf, key_below, key_none}
-use Rattle.tdp_model.proofs.KeyTuples.{tuple_keys}
-use Rattle.tdp_model.proofs.Keys.{at_most_trans}
-use Rattle.tdp_model.proofs.Subtrees.{climbs_ordered, climbs_all}
+use Rattle.rankings.specs.Remains.{AtMost}
+use Rattle.rankings.specs.KeyTuple.{KeyOf, key_below, key_none}
+use Rattle.rankings.proofs.KeyTuples.{tuple_keys}
+use Rattle.rankings.proofs.Keys.{at_most_trans}
+use Rattle.rankings.proofs.Subtrees.{climbs_ordered, climbs_all}
 use Rattle.tdp_core.specs.TreeView.{NodeView, rows, members, best}
 use Rattle.tdp_core.specs.WellFormed.{IsFormed}
 use Rattle.tdp_core.proofs.TreeFacts.{best_had, best_least, member_is_row}

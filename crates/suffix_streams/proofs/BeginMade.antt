@@ -4,7 +4,7 @@ use Rattle.std.proofs.lemmas.Bool.{cases_lt, cases_eq}
 use Rattle.std.proofs.lemmas.Bool.Decides.{nat_tests}
 use Rattle.std.proofs.lemmas.List.{length-map}
 use Rattle.stream_store.specs.declared.entry.Linked.{Linked}
-use Rattle.tdp_model.specs.KeyTuple.{KeyOf, key_none}
+use Rattle.rankings.specs.KeyTuple.{KeyOf, key_none}
 use Rattle.tdp_core.specs.TreeView.{NodeView, group_count}
 use Rattle.stream_model.specs.Links.{owned, place_in}
 use Rattle.stream_model.proofs.Linking.{place_kept}

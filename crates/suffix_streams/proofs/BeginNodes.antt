@@ -2,8 +2,8 @@
 use Rattle.std.proofs.Common.{◌≡◌, ◌≢◌, ℕ, suc, ◌+◌, ◌-◌, ◌<◌, None, List, [], ◌∷◌, ◌++◌, length, get_or, slice_set, refl, sym, ap, ◌∙◌, subst, inl, inr, arith, length-set, get_or-set_same, get_or-set_other}
 use Rattle.std.proofs.lemmas.Bool.{cases_lt, cases_eq}
 use Rattle.stream_store.specs.declared.entry.Linked.{Linked}
-use Rattle.tdp_model.specs.KeyTuple.{KeyOf, key_none}
-use Rattle.tdp_model.specs.TreeProblem.{sum_from}
+use Rattle.rankings.specs.KeyTuple.{KeyOf, key_none}
+use Rattle.rankings.specs.TreeProblem.{sum_from}
 use Rattle.tdp_core.specs.TreeView.{NodeView, best, members, group_count, child_count, rows}
 use Rattle.tdp_core.specs.WellFormed.{IsFormed}
 use Rattle.tdp_core.proofs.TreeFacts.{member_is_row}

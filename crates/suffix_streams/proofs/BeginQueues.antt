@@ -3,11 +3,11 @@ use Rattle.std.proofs.Common.{◌≡◌, ℕ, ◌<◌, List, [], ◌∷◌, leng
 use Rattle.std.specs.List.{All}
 use Rattle.std.proofs.lemmas.List.Elements.{All-nil, All-cons}
 use Rattle.rankings.specs.Order.{IsRanking}
-use Rattle.tdp_model.specs.Remains.{Remains, total}
-use Rattle.tdp_model.specs.KeyTuple.{KeyOf, key_below, key_add, key_none, slot_of}
-use Rattle.tdp_model.specs.Product.{Pair, run_key}
-use Rattle.tdp_model.specs.TreeProblem.{RowHas}
-use Rattle.tdp_model.proofs.KeyTuples.{tuple_keys}
+use Rattle.rankings.specs.Remains.{Remains, total}
+use Rattle.rankings.specs.KeyTuple.{KeyOf, key_below, key_add, key_none, slot_of}
+use Rattle.rankings.specs.Product.{Pair, run_key}
+use Rattle.rankings.specs.TreeProblem.{RowHas}
+use Rattle.rankings.proofs.KeyTuples.{tuple_keys}
 use Rattle.take2_heap.specs.declared.entry.Entry.{Entry}
 use Rattle.tdp_core.specs.TreeView.{NodeView, parent, item, number, members, group, rank, best}
 use Rattle.tdp_core.specs.WellFormed.{IsFormed, IsTieFreeTree}

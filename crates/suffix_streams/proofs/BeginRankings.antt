@@ -3,12 +3,12 @@ use Rattle.std.proofs.Common.{◌≡◌, ℕ, zero, suc, ◌-◌, ◌*◌, ◌<�
 use Rattle.std.proofs.lemmas.Bool.{cases_lt}
 use Rattle.std.proofs.lemmas.List.{get_or_past}
 use Rattle.rankings.specs.Order.{ranked}
-use Rattle.tdp_model.specs.KeyTuple.{KeyOf, key_below, key_add, key_none, slot_of}
-use Rattle.tdp_model.specs.Regions.{completes, stands, place_of}
-use Rattle.tdp_model.specs.TreeProblem.{rows_after, GroupHas, gather}
-use Rattle.tdp_model.proofs.KeyTuples.{tuple_keys}
-use Rattle.tdp_model.proofs.Begin.{IsRanking-same, ranking_of_root}
-use Rattle.tdp_model.proofs.Bridge.{deeper, shallower}
+use Rattle.rankings.specs.KeyTuple.{KeyOf, key_below, key_add, key_none, slot_of}
+use Rattle.rankings.specs.Regions.{completes, stands, place_of}
+use Rattle.rankings.specs.TreeProblem.{rows_after, GroupHas, gather}
+use Rattle.rankings.proofs.KeyTuples.{tuple_keys}
+use Rattle.rankings.proofs.Begin.{IsRanking-same, ranking_of_root}
+use Rattle.rankings.proofs.Bridge.{deeper, shallower}
 use Rattle.tdp_core.specs.TreeView.{NodeView, node_at, parent, item, number, rows, members, group, group_count, rank, best}
 use Rattle.tdp_core.specs.WellFormed.{IsFormed, IsTieFreeTree}
 use Rattle.tdp_core.specs.Solutions.{IsTreeRanking}

@@ -4,7 +4,7 @@ use Rattle.std.proofs.lemmas.Bool.{cases_eq}
 use Rattle.std.proofs.lemmas.List.{get_or-set_same, get_or-set_other}
 use Rattle.stream_store.specs.declared.entry.Linked.{Linked}
 use Rattle.tdp_core.specs.TreeView.{NodeView, rows}
-use Rattle.tdp_model.specs.KeyTuple.{KeyOf}
+use Rattle.rankings.specs.KeyTuple.{KeyOf}
 use Rattle.suffix_streams.specs.declared.stream.Found.{Found}
 use Rattle.suffix_streams.specs.ProductView.{ProductView}
 use Rattle.suffix_streams.specs.NodeStreamsView.{NodeStreamsView, product_at, stream_at, known_of, with_product}

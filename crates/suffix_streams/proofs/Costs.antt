@@ -4,10 +4,10 @@ use Rattle.std.proofs.lemmas.Bool.{cases_lt, cases_eq}
 use Rattle.std.proofs.lemmas.Bool.Decides.{nat_tests}
 use Rattle.tdp_core.specs.TreeView.{NodeView, parent, child_count, kids_below}
 use Rattle.tdp_core.specs.WellFormed.{IsFormed}
-use Rattle.tdp_model.specs.Below.{is_below}
-use Rattle.tdp_model.specs.KeyTuple.{KeyOf}
-use Rattle.tdp_model.specs.TreeProblem.{sum_from}
-use Rattle.tdp_model.proofs.Descent.{below_itself, kids_apart, child_below, below_once}
+use Rattle.rankings.specs.Below.{is_below}
+use Rattle.rankings.specs.KeyTuple.{KeyOf}
+use Rattle.rankings.specs.TreeProblem.{sum_from}
+use Rattle.rankings.proofs.Descent.{below_itself, kids_apart, child_below, below_once}
 use Rattle.suffix_streams.specs.Rankings.{child}
 use Rattle.suffix_streams.specs.Growing.{below_kids, subtree_size, kids_size}
 use Rattle.suffix_streams.proofs.Children.{IsChild}

@@ -4,8 +4,8 @@ use Rattle.rank_key.specs.Keys.{KeyFits}
 use Rattle.take2_heap.specs.declared.entry.Entry.{Entry}
 use Rattle.tdp_core.specs.TreeView.{NodeView, rows, rank, child_count, group_named}
 use Rattle.tdp_core.specs.WellFormed.{IsFormed, IsTieFreeTree}
-use Rattle.tdp_model.specs.KeyTuple.{KeyOf, key_add, key_none}
-use Rattle.tdp_model.specs.Product.{Pair}
+use Rattle.rankings.specs.KeyTuple.{KeyOf, key_add, key_none}
+use Rattle.rankings.specs.Product.{Pair}
 use Rattle.stream_store.specs.declared.entry.Linked.{Linked}
 use Rattle.stream_cells.specs.declared.cell.Cell.{Cell}
 use Rattle.suffix_streams.specs.declared.stream.Found.{Found}

@@ -6,10 +6,10 @@ use Rattle.std.proofs.lemmas.List.Elements.{All-nil, All-cons, All-head, All-tai
 use Rattle.take2_heap.specs.declared.entry.Entry.{Entry}
 use Rattle.take2_heap.specs.Order.{IsLeast}
 use Rattle.rankings.specs.Order.{IsAscending}
-use Rattle.tdp_model.specs.Remains.{Remains, total}
-use Rattle.tdp_model.specs.KeyTuple.{KeyOf, key_below, key_add, key_none}
-use Rattle.tdp_model.proofs.KeyNumbers.{at_most_not_less}
-use Rattle.tdp_model.specs.Product.{Pair, pair_key, stands_for, run_key}
+use Rattle.rankings.specs.Remains.{Remains, total}
+use Rattle.rankings.specs.KeyTuple.{KeyOf, key_below, key_add, key_none}
+use Rattle.rankings.proofs.KeyNumbers.{at_most_not_less}
+use Rattle.rankings.specs.Product.{Pair, pair_key, stands_for, run_key}
 use Rattle.stream_model.specs.Offers.{offers}
 use Rattle.stream_model.specs.Ahead.{IsAhead}
 use Rattle.stream_model.specs.QueueEntries.{IsHeld, places, InProduct, InRuns}

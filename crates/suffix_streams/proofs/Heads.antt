@@ -8,7 +8,7 @@ use Rattle.suffix_streams.proofs.State.{count_more}
 use Rattle.stream_store.specs.declared.entry.Linked.{Linked}
 use Rattle.tdp_core.specs.TreeView.{NodeView, child_count, group_named}
 use Rattle.tdp_core.specs.WellFormed.{IsFormed}
-use Rattle.tdp_model.specs.KeyTuple.{KeyOf, key_none}
+use Rattle.rankings.specs.KeyTuple.{KeyOf, key_none}
 use Rattle.suffix_streams.specs.declared.stream.Found.{Found}
 use Rattle.suffix_streams.specs.NodeStreamsView.{NodeStreamsView, stream_at}
 use Rattle.suffix_streams.specs.Rankings.{child, part_list}

@@ -5,8 +5,8 @@ use Rattle.std.proofs.lemmas.List.Elements.{All-weaker}
 use Rattle.take2_heap.specs.declared.entry.Entry.{Entry}
 use Rattle.stream_store.specs.declared.entry.Linked.{Linked}
 use Rattle.tdp_core.specs.TreeView.{NodeView, members, group_named, child_count}
-use Rattle.tdp_model.specs.KeyTuple.{KeyOf, key_below, key_add, key_none}
-use Rattle.tdp_model.specs.Product.{Pair, pair_key, stands_for}
+use Rattle.rankings.specs.KeyTuple.{KeyOf, key_below, key_add, key_none}
+use Rattle.rankings.specs.Product.{Pair, pair_key, stands_for}
 use Rattle.stream_model.specs.Ahead.{IsAhead}
 use Rattle.stream_model.specs.QueueEntries.{InProduct}
 use Rattle.stream_cells.specs.declared.cell.Cell.{Cell}

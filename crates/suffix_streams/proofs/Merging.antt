@@ -13,9 +13,9 @@ use Rattle.tdp_core.specs.TreeView.{NodeView, rows, number, members, child_count
 use Rattle.tdp_core.specs.WellFormed.{IsTieFreeTree}
 use Rattle.tdp_core.proofs.TreeFacts.{member_is_row}
 use Rattle.rankings.specs.Order.{IsAscending}
-use Rattle.tdp_model.specs.Remains.{AtMost}
-use Rattle.tdp_model.specs.KeyTuple.{KeyOf, key_below, key_none}
-use Rattle.tdp_model.specs.Product.{Pair, run_key}
+use Rattle.rankings.specs.Remains.{AtMost}
+use Rattle.rankings.specs.KeyTuple.{KeyOf, key_below, key_none}
+use Rattle.rankings.specs.Product.{Pair, run_key}
 use Rattle.stream_model.specs.Offers.{offers}
 use Rattle.stream_model.specs.QueueEntries.{IsHeld, InRuns}
 use Rattle.stream_model.specs.Links.{IsLinked}

@@ -6,8 +6,8 @@ use Rattle.take2_heap.specs.declared.entry.Entry.{Entry}
 use Rattle.rank_key.specs.Bits.{bit_length}
 use Rattle.tdp_core.specs.TreeView.{NodeView, parent, rows, number, members, child_count, group_count}
 use Rattle.tdp_core.proofs.TreeFacts.{member_is_row}
-use Rattle.tdp_model.specs.Below.{is_below}
-use Rattle.tdp_model.specs.KeyTuple.{KeyOf}
+use Rattle.rankings.specs.Below.{is_below}
+use Rattle.rankings.specs.KeyTuple.{KeyOf}
 use Rattle.suffix_streams.specs.declared.stream.Found.{Found}
 use Rattle.stream_cells.specs.declared.source.Source.{Source}
 use Rattle.suffix_streams.specs.StreamView.{StreamView}

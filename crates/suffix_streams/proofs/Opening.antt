@@ -8,8 +8,8 @@ use Rattle.stream_store.specs.declared.entry.Linked.{Linked}
 use Rattle.take2_heap.specs.declared.entry.Entry.{Entry}
 use Rattle.tdp_core.specs.TreeView.{NodeView, rows, child_count, group_named}
 use Rattle.tdp_core.specs.WellFormed.{IsTieFreeTree}
-use Rattle.tdp_model.specs.KeyTuple.{KeyOf, key_none}
-use Rattle.tdp_model.specs.Product.{Pair}
+use Rattle.rankings.specs.KeyTuple.{KeyOf, key_none}
+use Rattle.rankings.specs.Product.{Pair}
 use Rattle.stream_cells.specs.declared.cell.Cell.{Cell}
 use Rattle.suffix_streams.specs.declared.stream.Found.{Found}
 use Rattle.suffix_streams.specs.ProductView.{ProductView}

@@ -7,8 +7,8 @@ use Rattle.take2_heap.specs.declared.entry.Entry.{Entry}
 use Rattle.tdp_core.specs.TreeView.{NodeView, rows, number, members, child_count, group_named}
 use Rattle.tdp_core.specs.WellFormed.{IsTieFreeTree}
 use Rattle.tdp_core.proofs.TreeFacts.{member_is_row}
-use Rattle.tdp_model.specs.KeyTuple.{KeyOf, key_add, key_none}
-use Rattle.tdp_model.specs.Product.{pair_key, run_key}
+use Rattle.rankings.specs.KeyTuple.{KeyOf, key_add, key_none}
+use Rattle.rankings.specs.Product.{pair_key, run_key}
 use Rattle.stream_model.specs.QueueEntries.{IsHeld, InProduct, InRuns}
 use Rattle.stream_cells.specs.declared.cell.Cell.{Cell}
 use Rattle.stream_cells.specs.declared.source.Source.{Source}

@@ -8,8 +8,8 @@ use Rattle.take2_heap.specs.declared.entry.Entry.{Entry}
 use Rattle.take2_heap.specs.Order.{IsLeast}
 use Rattle.tdp_core.specs.TreeView.{NodeView, rows, number, members, child_count, group_count}
 use Rattle.tdp_core.specs.WellFormed.{IsTieFreeTree}
-use Rattle.tdp_model.specs.KeyTuple.{KeyOf, key_none}
-use Rattle.tdp_model.specs.Product.{run_key}
+use Rattle.rankings.specs.KeyTuple.{KeyOf, key_none}
+use Rattle.rankings.specs.Product.{run_key}
 use Rattle.stream_model.specs.Offers.{offers}
 use Rattle.stream_model.specs.QueueEntries.{IsHeld, InRuns}
 use Rattle.stream_model.specs.Links.{IsLinked}

@@ -3,18 +3,18 @@ use Rattle.std.proofs.Common.{◌≡◌, ◌≢◌, ℕ, zero, suc, ◌+◌, ◌
 use Rattle.std.proofs.lemmas.Bool.{cond-false, ne_eqb}
 use Rattle.rankings.specs.Order.{IsMember, IsAscending, IsRanking}
 use Rattle.rank_key.specs.Keys.{KeyFits}
-use Rattle.tdp_model.specs.KeyTuple.{KeyOf, key_below, key_add, key_none, slot_of}
-use Rattle.tdp_model.specs.Remains.{Remains, total}
-use Rattle.tdp_model.specs.Product.{Pair, pair_key, stands_for}
-use Rattle.tdp_model.specs.TreeProblem.{GroupHas, PartHas, gather}
-use Rattle.tdp_model.proofs.KeyTuples.{tuple_keys}
+use Rattle.rankings.specs.KeyTuple.{KeyOf, key_below, key_add, key_none, slot_of}
+use Rattle.rankings.specs.Remains.{Remains, total}
+use Rattle.rankings.specs.Product.{Pair, pair_key, stands_for}
+use Rattle.rankings.specs.TreeProblem.{GroupHas, PartHas, gather}
+use Rattle.rankings.proofs.KeyTuples.{tuple_keys}
 use Rattle.rankings.proofs.Members.{get_member}
-use Rattle.tdp_model.proofs.Begin.{IsRanking-same}
-use Rattle.tdp_model.proofs.Sorting.{ranked_is_ranking}
-use Rattle.tdp_model.proofs.Enumeration.{part_listed, listed_part, row_listed, listed_row, gather_member, member_gather}
-use Rattle.tdp_model.proofs.Bridge.{deeper, shallower}
-use Rattle.tdp_model.proofs.Parts.{part_first, part_first_only, part_skip, part_skipped, part_join, row_of_part, part_of_row}
-use Rattle.tdp_model.proofs.RowStreams.{product_begins}
+use Rattle.rankings.proofs.Begin.{IsRanking-same}
+use Rattle.rankings.proofs.Sorting.{ranked_is_ranking}
+use Rattle.rankings.proofs.Enumeration.{part_listed, listed_part, row_listed, listed_row, gather_member, member_gather}
+use Rattle.rankings.proofs.Bridge.{deeper, shallower}
+use Rattle.rankings.proofs.Parts.{part_first, part_first_only, part_skip, part_skipped, part_join, row_of_part, part_of_row}
+use Rattle.rankings.proofs.RowStreams.{product_begins}
 use Rattle.tdp_core.specs.TreeView.{NodeView, kids_below, parent, item, number, rows, members, group, group_count, group_named, group_number, child_count, rank, best}
 use Rattle.tdp_core.specs.WellFormed.{IsFormed, IsTieFreeTree}
 use Rattle.tdp_core.proofs.TreeFacts.{tie_free_of, part_key_fits, subtree_key_fits, best_had, member_is_row}

@@ -8,8 +8,8 @@ use Rattle.stream_model.proofs.Steps.{product_shows}
 use Rattle.take2_heap.specs.declared.entry.Entry.{Entry}
 use Rattle.take2_heap.specs.Order.{IsLeast}
 use Rattle.tdp_core.specs.TreeView.{NodeView, rows, group_named}
-use Rattle.tdp_model.specs.KeyTuple.{KeyOf, key_below, key_add, key_none}
-use Rattle.tdp_model.specs.Product.{Pair, pair_key}
+use Rattle.rankings.specs.KeyTuple.{KeyOf, key_below, key_add, key_none}
+use Rattle.rankings.specs.Product.{Pair, pair_key}
 use Rattle.stream_cells.specs.declared.cell.Cell.{Cell}
 use Rattle.suffix_streams.specs.declared.stream.Found.{Found}
 use Rattle.suffix_streams.specs.NodeStreamsView.{NodeStreamsView}

@@ -6,8 +6,8 @@ use Rattle.tdp_core.specs.AnswerView.{rows_of_key}
 use Rattle.tdp_core.specs.TreeView.{NodeView, item, number, rank, rows}
 use Rattle.tdp_core.specs.WellFormed.{IsFormed}
 use Rattle.tdp_core.proofs.AnswerFacts.{rows_of_key_length, rows_of_key_at}
-use Rattle.tdp_model.specs.KeyTuple.{KeyOf, key_add, slot_of}
-use Rattle.tdp_model.proofs.KeyTuples.{slot_of_add}
+use Rattle.rankings.specs.KeyTuple.{KeyOf, key_add, slot_of}
+use Rattle.rankings.proofs.KeyTuples.{slot_of_add}
 use Rattle.suffix_streams.specs.RowNumbers.{AreAddable, AreAdded}
 
 same_list : (xs ys : List ℕ) → length xs ≡ length ys → ((i : ℕ) → i < length xs → get_or xs i 0 ≡ get_or ys i 0) → xs ≡ ys

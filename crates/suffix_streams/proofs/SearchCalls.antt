@@ -4,8 +4,8 @@ use Rattle.stream_store.specs.declared.entry.Linked.{Linked}
 use Rattle.rank_key.specs.Bits.{bit_length}
 use Rattle.tdp_core.specs.TreeView.{NodeView, parent, members, child_count, group_count}
 use Rattle.tdp_core.specs.WellFormed.{IsFormed}
-use Rattle.tdp_model.specs.Below.{is_below}
-use Rattle.tdp_model.specs.KeyTuple.{KeyOf}
+use Rattle.rankings.specs.Below.{is_below}
+use Rattle.rankings.specs.KeyTuple.{KeyOf}
 use Rattle.suffix_streams.specs.declared.stream.Found.{Found}
 use Rattle.suffix_streams.specs.NodeStreamsView.{NodeStreamsView}
 use Rattle.suffix_streams.specs.TreeStreams.{node_of, group_of, next_of, lists_of, IsStreams}

@@ -7,12 +7,12 @@ use Rattle.stream_store.specs.declared.entry.Linked.{Linked}
 use Rattle.take2_heap.specs.declared.entry.Entry.{Entry}
 use Rattle.tdp_core.specs.TreeView.{NodeView, parent, rows, number, members, child_count, group_count, group_named}
 use Rattle.tdp_core.specs.WellFormed.{IsFormed}
-use Rattle.tdp_model.specs.Below.{is_below}
-use Rattle.tdp_model.specs.KeyTuple.{KeyOf, key_below, key_add, key_none}
-use Rattle.tdp_model.specs.Product.{Pair, pair_key, stands_for, run_key}
+use Rattle.rankings.specs.Below.{is_below}
+use Rattle.rankings.specs.KeyTuple.{KeyOf, key_below, key_add, key_none}
+use Rattle.rankings.specs.Product.{Pair, pair_key, stands_for, run_key}
 use Rattle.stream_model.specs.Reaches.{reaches}
-use Rattle.tdp_model.specs.Remains.{total}
-use Rattle.tdp_model.proofs.Removal.{none_left}
+use Rattle.rankings.specs.Remains.{total}
+use Rattle.rankings.proofs.Removal.{none_left}
 use Rattle.stream_model.specs.Ahead.{IsAhead}
 use Rattle.stream_model.specs.QueueEntries.{IsHeld, places, InProduct, InRuns}
 use Rattle.stream_model.specs.Links.{IsLinkedAt}

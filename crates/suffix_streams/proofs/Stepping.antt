@@ -9,8 +9,8 @@ use Rattle.stream_store.specs.declared.entry.Linked.{Linked}
 use Rattle.take2_heap.specs.declared.entry.Entry.{Entry}
 use Rattle.take2_heap.specs.Order.{IsLeast}
 use Rattle.tdp_core.specs.TreeView.{NodeView, rows, child_count, group_named}
-use Rattle.tdp_model.specs.KeyTuple.{KeyOf, key_add, key_none}
-use Rattle.tdp_model.specs.Product.{Pair, pair_key}
+use Rattle.rankings.specs.KeyTuple.{KeyOf, key_add, key_none}
+use Rattle.rankings.specs.Product.{Pair, pair_key}
 use Rattle.stream_model.specs.Offers.{offers}
 use Rattle.stream_model.specs.QueueEntries.{IsHeld, InProduct}
 use Rattle.stream_model.specs.Links.{IsLinkedAt}

@@ -8,9 +8,9 @@ use Rattle.tdp_core.specs.AnswerView.{counted}
 use Rattle.tdp_core.specs.TreeView.{NodeView, parent, rows, child_count, members, group_count, node_at, row_count}
 use Rattle.tdp_core.specs.WellFormed.{IsFormed}
 use Rattle.tdp_core.proofs.TreeFacts.{group_rows_within, term_within}
-use Rattle.tdp_model.specs.Below.{ascends, is_below}
-use Rattle.tdp_model.specs.KeyTuple.{KeyOf}
-use Rattle.tdp_model.specs.TreeProblem.{sum_from}
+use Rattle.rankings.specs.Below.{ascends, is_below}
+use Rattle.rankings.specs.KeyTuple.{KeyOf}
+use Rattle.rankings.specs.TreeProblem.{sum_from}
 use Rattle.suffix_streams.specs.declared.stream.Found.{Found}
 use Rattle.suffix_streams.specs.ProductView.{ProductView}
 use Rattle.suffix_streams.specs.NodeStreamsView.{NodeStreamsView, stream_at}

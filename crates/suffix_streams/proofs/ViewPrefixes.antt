@@ -4,8 +4,8 @@ use Rattle.std.proofs.lemmas.List.{length-map, get_or-map}
 use Rattle.rankings.specs.Order.{IsRanking}
 use Rattle.rankings.proofs.Unique.{ranking_unique}
 use Rattle.stream_store.specs.declared.entry.Linked.{Linked}
-use Rattle.tdp_model.specs.KeyTuple.{KeyOf, key_below, key_none}
-use Rattle.tdp_model.proofs.KeyTuples.{tuple_keys}
+use Rattle.rankings.specs.KeyTuple.{KeyOf, key_below, key_none}
+use Rattle.rankings.proofs.KeyTuples.{tuple_keys}
 use Rattle.take2_heap.specs.declared.entry.Entry.{Entry}
 use Rattle.tdp_core.specs.TreeView.{NodeView, group_count}
 use Rattle.stream_model.specs.Links.{IsLinkedAt}

@@ -1,8 +1,8 @@
 -- The streams of a tree at their start, as callers see them, and the steps of making them.
 use Rattle.std.proofs.Common.{◌≡◌, ℕ, zero, suc, ◌+◌, ◌-◌, ◌*◌, ◌≤◌, List, length, ap, arith}
 use Rattle.stream_store.specs.declared.entry.Linked.{Linked}
-use Rattle.tdp_model.specs.KeyTuple.{KeyOf}
-use Rattle.tdp_model.specs.TreeProblem.{sum_from}
+use Rattle.rankings.specs.KeyTuple.{KeyOf}
+use Rattle.rankings.specs.TreeProblem.{sum_from}
 use Rattle.tdp_core.specs.TreeView.{NodeView, rows, row_count}
 use Rattle.tdp_core.specs.WellFormed.{IsFormed, IsTieFreeTree}
 use Rattle.suffix_streams.specs.declared.stream.Found.{Found}

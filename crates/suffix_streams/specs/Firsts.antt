@@ -4,7 +4,7 @@ use Rattle.std.specs.List.Sorted.{IsPermutation}
 use Rattle.take2_heap.specs.declared.entry.Entry.{Entry}
 use Rattle.stream_store.specs.declared.entry.Linked.{Linked}
 use Rattle.tdp_core.specs.TreeView.{NodeView, members, best, number, child_count, group_named}
-use Rattle.tdp_model.specs.KeyTuple.{KeyOf}
+use Rattle.rankings.specs.KeyTuple.{KeyOf}
 use Rattle.stream_model.specs.Offers.{offers}
 use Rattle.stream_cells.specs.declared.cell.Cell.{Cell}
 use Rattle.stream_cells.specs.declared.source.Source.{Source}

@@ -2,8 +2,8 @@
 use Rattle.std.specs.Prelude.{◌≡◌, ℕ, ◌<◌, ◌≤◌, List, map, length, take}
 use Rattle.std.specs.List.{All}
 use Rattle.take2_heap.specs.declared.entry.Entry.{Entry}
-use Rattle.tdp_model.specs.KeyTuple.{KeyOf, key_below, key_add, key_none}
-use Rattle.tdp_model.specs.Product.{Pair, pair_key, stands_for, run_key}
+use Rattle.rankings.specs.KeyTuple.{KeyOf, key_below, key_add, key_none}
+use Rattle.rankings.specs.Product.{Pair, pair_key, stands_for, run_key}
 use Rattle.stream_model.specs.Ahead.{IsAhead}
 use Rattle.stream_model.specs.QueueEntries.{IsHeld, places, InProduct, InRuns}
 use Rattle.stream_model.specs.Reaches.{reaches}

@@ -2,9 +2,9 @@
 use Rattle.std.specs.Prelude.{ℕ, zero, suc, ◌-◌, ◌<◌, cond, nat_eq, nat_lt, List, length, slice_index}
 use Rattle.rankings.specs.Order.{ranked}
 use Rattle.tdp_core.specs.TreeView.{NodeView, kids_below, parent, members, group, rank}
-use Rattle.tdp_model.specs.KeyTuple.{KeyOf, key_below, key_add, key_none}
-use Rattle.tdp_model.specs.TreeProblem.{RowHas, PartHas, gather, part_keys, row_keys}
-use Rattle.tdp_model.proofs.KeyTuples.{tuple_keys}
+use Rattle.rankings.specs.KeyTuple.{KeyOf, key_below, key_add, key_none}
+use Rattle.rankings.specs.TreeProblem.{RowHas, PartHas, gather, part_keys, row_keys}
+use Rattle.rankings.proofs.KeyTuples.{tuple_keys}
 
 -- child number c of node v among the nodes from 1 to n - 1, or 0 if there is none
 unfoldable pub child_among : (ℕ → ℕ) → ℕ → ℕ → ℕ → ℕ

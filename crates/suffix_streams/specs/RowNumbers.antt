@@ -1,6 +1,6 @@
 -- Row numbers to which those of a solution are added.
 use Rattle.std.specs.Prelude.{◌≡◌, ℕ, ◌+◌, ◌^◌, ◌<◌, List, slice_index}
-use Rattle.tdp_model.specs.KeyTuple.{KeyOf, slot_of}
+use Rattle.rankings.specs.KeyTuple.{KeyOf, slot_of}
 
 -- each row number and that of the solution with this key fit 32 bits together
 abbrev pub AreAddable : (d : ℕ) → List ℕ → KeyOf d 16 → Type 0

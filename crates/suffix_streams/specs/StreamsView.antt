@@ -4,7 +4,7 @@ use Rattle.stream_store.specs.declared.entry.Linked.{Linked}
 use Rattle.rankings.specs.Order.{IsRanking}
 use Rattle.tdp_core.specs.TreeView.{NodeView, group_count}
 use Rattle.tdp_core.specs.WellFormed.{IsFormed, IsTieFreeTree}
-use Rattle.tdp_model.specs.KeyTuple.{KeyOf, key_below, key_none}
+use Rattle.rankings.specs.KeyTuple.{KeyOf, key_below, key_none}
 use Rattle.suffix_streams.specs.declared.stream.Found.{Found}
 use Rattle.suffix_streams.specs.NodeStreamsView.{NodeStreamsView}
 use Rattle.suffix_streams.specs.Rankings.{GroupSolution, group_list}

@@ -6,8 +6,8 @@ use Rattle.stream_store.specs.declared.entry.Linked.{Linked}
 use Rattle.tdp_core.specs.TreeView.{NodeView, members, group_named, child_count, group_count, rows, number}
 use Rattle.tdp_core.specs.WellFormed.{IsFormed}
 use Rattle.rank_key.specs.Keys.{KeyFits}
-use Rattle.tdp_model.specs.KeyTuple.{KeyOf, key_add, key_none}
-use Rattle.tdp_model.specs.Product.{Pair, pair_key}
+use Rattle.rankings.specs.KeyTuple.{KeyOf, key_add, key_none}
+use Rattle.rankings.specs.Product.{Pair, pair_key}
 use Rattle.stream_model.specs.Links.{place_in, IsLinked}
 use Rattle.stream_cells.specs.declared.cell.Cell.{Cell}
 use Rattle.stream_cells.specs.declared.source.Source.{Source}

@@ -4,7 +4,7 @@ ghost use Rattle.stream_store.specs.declared.entry.Linked.{Linked};
 ghost use Rattle.take2_heap.specs.declared.entry.Entry.{Entry};
 ghost use Rattle.tdp_core.specs.TreeView.{rows, row_count, group_count, child_count, members};
 ghost use Rattle.tdp_core.specs.WellFormed.{IsFormed};
-ghost use Rattle.tdp_model.specs.KeyTuple.{key_none};
+ghost use Rattle.rankings.specs.KeyTuple.{key_none};
 ghost use Rattle.suffix_streams.specs.Rankings.{group_list};
 ghost use Rattle.suffix_streams.specs.StreamView.{IsNextHead};
 ghost use Rattle.suffix_streams.specs.TreeStreams.{open_rows, kept_of, lists_of, IsHeaded};

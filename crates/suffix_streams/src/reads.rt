@@ -2,8 +2,8 @@
 ghost use Rattle.std.specs.Prelude.{◌≡◌, ℕ, ◌+◌, ◌*◌, ◌<◌, ◌≤◌, length, slice_index_or, IfOk, OnOk, IfSome, IfNone};
 ghost use Rattle.tdp_core.specs.TreeView.{child_count, group_named, number as row_number, rows};
 ghost use Rattle.tdp_core.specs.WellFormed.{IsFormed, IsTieFreeTree};
-ghost use Rattle.tdp_model.specs.KeyTuple.{key_add, key_none};
-ghost use Rattle.tdp_model.specs.Product.{pair_key};
+ghost use Rattle.rankings.specs.KeyTuple.{key_add, key_none};
+ghost use Rattle.rankings.specs.Product.{pair_key};
 ghost use Rattle.suffix_streams.specs.Rankings.{child as child_node, part_list, group_list};
 ghost use Rattle.stream_cells.specs.declared.source.Source.{Source};
 ghost use Rattle.suffix_streams.specs.Exchanges.{CanExchange, IsExchanged};

@@ -4,7 +4,7 @@ ghost use Rattle.take2_heap.specs.declared.entry.Entry.{Entry};
 ghost use Rattle.take2_heap.specs.Order.{IsLeast};
 ghost use Rattle.tdp_core.specs.TreeView.{parent, rows, number as row_number, child_count, group_count, group_named, members};
 ghost use Rattle.tdp_core.specs.WellFormed.{IsTieFreeTree};
-ghost use Rattle.tdp_model.specs.Below.{is_below};
+ghost use Rattle.rankings.specs.Below.{is_below};
 ghost use Rattle.rank_key.specs.Bits.{bit_length};
 ghost use Rattle.suffix_streams.specs.Rankings.{child as child_node};
 ghost use Rattle.stream_cells.specs.declared.source.Source.{Source};

@@ -3,8 +3,8 @@
 ghost use Rattle.std.specs.Prelude.{◌≡◌, ℕ, ◌+◌, ◌*◌, ◌<◌, ◌≤◌, length, slice_index_or};
 ghost use Rattle.tdp_core.specs.TreeView.{child_count, group_named, number as row_number, rank, rows};
 ghost use Rattle.tdp_core.specs.WellFormed.{IsFormed, IsTieFreeTree};
-ghost use Rattle.tdp_model.specs.KeyTuple.{key_add, key_none};
-ghost use Rattle.tdp_model.specs.Product.{pair_key};
+ghost use Rattle.rankings.specs.KeyTuple.{key_add, key_none};
+ghost use Rattle.rankings.specs.Product.{pair_key};
 ghost use Rattle.suffix_streams.specs.Rankings.{child as child_node, part_list, group_list};
 ghost use Rattle.suffix_streams.specs.TreeStreams.{IsKnownPart, IsSumOf, IsStreams, pair_of, node_of, group_of, place_of};
 ghost use Rattle.suffix_streams.specs.Growing.{subtree_size, kids_size};

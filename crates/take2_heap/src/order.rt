@@ -1,7 +1,7 @@
 //! Orders of items by their keys.
 ghost use Rattle.std.specs.Prelude.{◌≡◌, ℕ, ◌+◌};
-ghost use Rattle.tdp_model.specs.KeyTuple.{KeyOf};
-ghost use Rattle.tdp_model.specs.KeyNumbers.{key_less};
+ghost use Rattle.rankings.specs.KeyTuple.{KeyOf};
+ghost use Rattle.rankings.specs.KeyNumbers.{key_less};
 ghost use Rattle.take2_heap.specs.declared.entry.Entry.{Entry};
 
 use crate::entry::Entry;

@@ -26,7 +26,7 @@ use Rattle.tdp_core.specs.RisingShares.{shares_rise}
 use Rattle.tdp_core.specs.AnswerView.{counted}
 use Rattle.tdp_core.specs.Shares.{share_of, size_of}
 use Rattle.tdp_core.specs.WellFormed.{IsTieFreeTree}
-use Rattle.tdp_model.specs.KeyTuple.{KeyOf}
+use Rattle.rankings.specs.KeyTuple.{KeyOf}
 use Rattle.union_all.specs.Merge.{AreBegun, EngineView, HasCalled, rests_of}
 use Rattle.union_list.specs.TaggedRows.{Tagged, branch_at}
 use Rattle.union_list.specs.Union.{left_of, members_in, union_of}

@@ -6,7 +6,7 @@ use Rattle.plan_engine.specs.Engines.{calls_of, rest_of, tree_of}
 use Rattle.plan_engine.specs.declared.choice.ChosenEngine.{ChosenEngine}
 use Rattle.plan_build.specs.Plan.{IsPlanOf, PlanView}
 use Rattle.bound_query.specs.WeighedQuery.{BoundQuery}
-use Rattle.tdp_model.specs.KeyTuple.{KeyOf}
+use Rattle.rankings.specs.KeyTuple.{KeyOf}
 use Rattle.tdp_core.specs.TreeView.{row_count}
 use Rattle.plan_engine.specs.AskedList.{IsAskedList}
 

@@ -8,7 +8,7 @@ ghost use Rattle.refusal_lines.specs.Printing.{PrintedSome};
 ghost use Rattle.refusal_lines.specs.SinkState.{state_of};
 ghost use Rattle.tdp_core.specs.AnswerView.{answers_of};
 ghost use Rattle.tdp_core.specs.Solutions.{IsTreeRanking};
-ghost use Rattle.tdp_model.specs.KeyTuple.{KeyOf};
+ghost use Rattle.rankings.specs.KeyTuple.{KeyOf};
 
 use bound_query::Query;
 use bumpalo::Bump;

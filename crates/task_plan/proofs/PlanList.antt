@@ -28,7 +28,7 @@ use Rattle.query_shape.specs.Shape.{Flaw, IsShape, Shape, cyclic, too_many_rows}
 use Rattle.refusal_lines.specs.Reason.{Reason}
 use Rattle.session_script.specs.declared.step.Step.{Step}
 use Rattle.step_bounds.specs.RunBounds.{IsPrepared}
-use Rattle.tdp_model.specs.KeyTuple.{KeyOf}
+use Rattle.rankings.specs.KeyTuple.{KeyOf}
 use Rattle.union_list.specs.TaggedRows.{HaveKeys}
 use Rattle.task_plan.specs.Input.{InputView, loaded_of}
 use Rattle.verdict.specs.Faults.{of_shape}

@@ -1,6 +1,6 @@
 //! Answers, and what an engine is.
 ghost use Rattle.std.specs.Prelude.{◌≡◌, ℕ, ◌+◌, ◌≤◌, List, [], ◌∷◌, IfOk, IfSome, IfNone, OnErr};
-ghost use Rattle.tdp_model.specs.KeyNumbers.{numbers};
+ghost use Rattle.rankings.specs.KeyNumbers.{numbers};
 ghost use Rattle.tdp_core.specs.AnswerView.{AnswerView, counted};
 
 use rank_key::Rank;

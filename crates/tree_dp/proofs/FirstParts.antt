@@ -1,9 +1,9 @@
 -- The key of a row with the least keys of its first children's groups.
 use Rattle.std.proofs.Common.{◌≡◌, ◌≢◌, ℕ, suc, ◌+◌, nat_eq, List, get_or, sym, ap, ◌∙◌}
 use Rattle.std.proofs.lemmas.Bool.{eq-eqb, ne_eqb, cond-true, cond-false}
-use Rattle.tdp_model.specs.KeyLaws.{IsKeys}
-use Rattle.tdp_model.specs.TreeProblem.{sum_from, least_of, kid_part}
-use Rattle.tdp_model.proofs.Sums.{sum_last}
+use Rattle.rankings.specs.KeyLaws.{IsKeys}
+use Rattle.rankings.specs.TreeProblem.{sum_from, least_of, kid_part}
+use Rattle.rankings.proofs.Sums.{sum_last}
 
 module _ {K : Type 0} (Below : K → K → Type 0) (add : K → K → K) (none : K) (keys : IsKeys K Below add none)
     (m : ℕ) (parent : ℕ → ℕ) (rank : ℕ → ℕ → K) (group : ℕ → ℕ → List ℕ) (best : ℕ → ℕ → K) (v r : ℕ) where

@@ -7,12 +7,12 @@ use Rattle.std.proofs.lemmas.List.FromFn.{length-range_with_len}
 use Rattle.std.proofs.lemmas.Bool.{cases_eq, cases_lt, eq-eqb, ne_eqb, cond-true, cond-false}
 use Rattle.std.proofs.lemmas.Bool.Decides.{nat_tests}
 use Rattle.std.proofs.lemmas.List.{get_or-take, length-take-le, take_more_set, ext_get_or, get_or-set_same, get_or-set_other}
-use Rattle.tdp_model.specs.KeyTuple.{KeyOf, key_below, key_add, key_none, slot_of}
-use Rattle.tdp_model.specs.TreeProblem.{sum_from, least_of, open_part, bound_of, members_after, rows_key, IsReached}
-use Rattle.tdp_model.proofs.KeyTuples.{tuple_keys, slot_of_add, slot_of_none}
-use Rattle.tdp_model.proofs.Sums.{get_front, get_end, length_end, none_add, sum_same, sum_last}
-use Rattle.tdp_model.proofs.Ties.{slot_zero}
-use Rattle.tdp_model.proofs.TreeStaged.{tree_staged, other_of, bound_parts, bound_whole}
+use Rattle.rankings.specs.KeyTuple.{KeyOf, key_below, key_add, key_none, slot_of}
+use Rattle.rankings.specs.TreeProblem.{sum_from, least_of, open_part, bound_of, members_after, rows_key, IsReached}
+use Rattle.rankings.proofs.KeyTuples.{tuple_keys, slot_of_add, slot_of_none}
+use Rattle.rankings.proofs.Sums.{get_front, get_end, length_end, none_add, sum_same, sum_last}
+use Rattle.rankings.proofs.Ties.{slot_zero}
+use Rattle.rankings.proofs.TreeStaged.{tree_staged, other_of, bound_parts, bound_whole}
 use Rattle.tdp_core.specs.AnswerView.{rows_of_key}
 use Rattle.tdp_core.specs.TreeView.{NodeView, node_at, parent, item, rows, number, group_count, group, rank, best}
 use Rattle.tdp_core.specs.WellFormed.{IsFormed, IsTieFreeTree}

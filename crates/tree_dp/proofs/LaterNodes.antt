@@ -5,18 +5,18 @@ use Rattle.std.specs.List.{concat, range_with_len}
 use Rattle.std.proofs.lemmas.List.{length-map, get_or_past}
 use Rattle.std.proofs.lemmas.List.FromFn.{length-range_with_len}
 use Rattle.std.proofs.lemmas.List.Sorted.{length_permutation}
-use Rattle.tdp_model.specs.KeyTuple.{KeyOf, key_below, key_add, key_none, slot_of}
-use Rattle.tdp_model.specs.KeyNumbers.{sum_of}
-use Rattle.tdp_model.specs.TreeProblem.{least_of, kid_part, kid_key, RowHas}
-use Rattle.tdp_model.proofs.KeyTuples.{tuple_keys, slot_of_none}
-use Rattle.tdp_model.proofs.KeyNumbers.{sum_of_none}
+use Rattle.rankings.specs.KeyTuple.{KeyOf, key_below, key_add, key_none, slot_of}
+use Rattle.rankings.specs.KeyNumbers.{sum_of}
+use Rattle.rankings.specs.TreeProblem.{least_of, kid_part, kid_key, RowHas}
+use Rattle.rankings.proofs.KeyTuples.{tuple_keys, slot_of_none}
+use Rattle.rankings.proofs.KeyNumbers.{sum_of_none}
 use Rattle.rank_key.specs.Keys.{KeyFits}
 use Rattle.tdp_core.specs.TreeView.{NodeView, node_at, parent, item, cap, rows, number, kids_below, child_place, group_count, members, group_named, group_number, group, rank, best}
 use Rattle.tdp_core.specs.WellFormed.{RowFits}
 use Rattle.tdp_core.proofs.Children.{kids_below_first, kids_below_other, child_place_within}
 use Rattle.tdp_core.proofs.GroupMembers.{member_below}
 use Rattle.tdp_core.proofs.KeyRanges.{part_fits}
-use Rattle.tdp_model.proofs.LeastKeys.{least_had}
+use Rattle.rankings.proofs.LeastKeys.{least_had}
 use Rattle.tdp_core.specs.WellFormed.{IsLaidOut}
 use Rattle.tree_dp.specs.Progress.{IsSolvedFrom}
 use Rattle.tree_dp.proofs.FirstParts.{first_part}

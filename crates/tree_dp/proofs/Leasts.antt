@@ -5,7 +5,7 @@ use Rattle.std.proofs.Math.Seq.{get_or-append_seam}
 use Rattle.std.specs.declared.vec.Vec.{Vec}
 use Rattle.std.proofs.lemmas.Bool.{cases_eq}
 use Rattle.std.proofs.lemmas.List.{length-map, map-append, get_or-map, get_or-set_same, get_or-set_other}
-use Rattle.tdp_model.specs.KeyTuple.{KeyOf, key_none}
+use Rattle.rankings.specs.KeyTuple.{KeyOf, key_none}
 use Rattle.tdp_core.specs.TreeView.{NodeView, node_at, group_count, members, best}
 use Rattle.tree_dp.specs.Orders.{key_at}
 use Rattle.tree_dp.specs.Progress.{AreLeastsFrom}

@@ -1,11 +1,11 @@
 -- One more node gets its least keys and the order in its groups.
 use Rattle.std.proofs.Common.{◌≡◌, ◌≢◌, ℕ, suc, ◌+◌, ◌-◌, ◌/◌, ◌<◌, ◌≤◌, cond, nat_eq, List, [], length, map, get_or, sym, ap, subst, ◌∙◌, inl, inr, arith}
 use Rattle.std.proofs.lemmas.Bool.{cases_eq}
-use Rattle.tdp_model.specs.KeyTuple.{KeyOf, key_below, key_add, key_none}
-use Rattle.tdp_model.specs.Remains.{AtMost}
-use Rattle.tdp_model.specs.TreeProblem.{sum_from, kid_part}
-use Rattle.tdp_model.proofs.KeyTuples.{tuple_keys}
-use Rattle.tdp_model.proofs.Sums.{sum_same}
+use Rattle.rankings.specs.KeyTuple.{KeyOf, key_below, key_add, key_none}
+use Rattle.rankings.specs.Remains.{AtMost}
+use Rattle.rankings.specs.TreeProblem.{sum_from, kid_part}
+use Rattle.rankings.proofs.KeyTuples.{tuple_keys}
+use Rattle.rankings.proofs.Sums.{sum_same}
 use Rattle.tdp_core.specs.TreeView.{NodeView, node_at, parent, rows, members, group, group_number, rank, best}
 use Rattle.tree_dp.specs.Progress.{IsSolvedFrom, by_children}
 use Rattle.tree_dp.specs.SolvedTrees.{IsReordered}

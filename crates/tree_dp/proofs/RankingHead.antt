@@ -1,15 +1,15 @@
 -- The head of the ranking of a tree's solutions is the best of the row at place 0 of the root's group.
 use Rattle.std.proofs.Common.{◌≡◌, ℕ, suc, ◌-◌, ◌<◌, Some, List, [], ◌∷◌, ◌++◌, length, get_or, slice_get, refl, sym, ap, subst, inl, inr, arith}
 use Rattle.rankings.proofs.Members.{below_member}
-use Rattle.tdp_model.specs.Remains.{AtMost}
-use Rattle.tdp_model.specs.Regions.{completes, stands, place_of}
-use Rattle.tdp_model.specs.KeyTuple.{KeyOf, key_below, key_add, key_none}
-use Rattle.tdp_model.specs.TreeProblem.{rows_after, rows_key, SolutionHas, GroupHas}
-use Rattle.tdp_model.proofs.Bridge.{solution_of_root, root_of_solution}
-use Rattle.tdp_model.proofs.Division.{stands_place, times_pos}
-use Rattle.tdp_model.proofs.KeyTuples.{tuple_keys}
-use Rattle.tdp_model.proofs.Keys.{at_most_trans}
-use Rattle.tdp_model.proofs.Subtrees.{climbs_ordered, climbs_all}
+use Rattle.rankings.specs.Remains.{AtMost}
+use Rattle.rankings.specs.Regions.{completes, stands, place_of}
+use Rattle.rankings.specs.KeyTuple.{KeyOf, key_below, key_add, key_none}
+use Rattle.rankings.specs.TreeProblem.{rows_after, rows_key, SolutionHas, GroupHas}
+use Rattle.rankings.proofs.Bridge.{solution_of_root, root_of_solution}
+use Rattle.rankings.proofs.Division.{stands_place, times_pos}
+use Rattle.rankings.proofs.KeyTuples.{tuple_keys}
+use Rattle.rankings.proofs.Keys.{at_most_trans}
+use Rattle.rankings.proofs.Subtrees.{climbs_ordered, climbs_all}
 use Rattle.tdp_core.specs.AnswerView.{answer_of, answers_of}
 use Rattle.tdp_core.specs.TreeView.{NodeView, node_at, parent, group_count, members, group, rank, best}
 use Rattle.tdp_core.specs.Solutions.{IsTreeRanking}

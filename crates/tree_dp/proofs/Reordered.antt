@@ -6,8 +6,8 @@ use Rattle.std.specs.List.Sorted.{IsPermutation}
 use Rattle.std.proofs.lemmas.List.{get_or_default}
 use Rattle.std.proofs.lemmas.List.Elements.{Contains-get_or}
 use Rattle.std.proofs.lemmas.List.Sorted.{IsPermutation-refl, IsPermutation-sym, IsPermutation-trans, IsPermutation-append, Contains-permutation, length_permutation}
-use Rattle.tdp_model.specs.KeyTuple.{KeyOf, key_add, key_none}
-use Rattle.tdp_model.specs.TreeProblem.{sum_from}
+use Rattle.rankings.specs.KeyTuple.{KeyOf, key_add, key_none}
+use Rattle.rankings.specs.TreeProblem.{sum_from}
 use Rattle.tdp_core.specs.TreeView.{NodeView, node_at, parent, item, cap, cap_of, rows, number, kids_below, child_place, group_count, members, group_named, group_number, group, rank}
 use Rattle.tdp_core.specs.WellFormed.{AreHeld, IsShaped, RowFits, IsLaidOut, IsTieFreeTree}
 use Rattle.tdp_core.specs.Solutions.{IsTreeSolution}

@@ -1,8 +1,8 @@
 -- Groups of rows in heap order by their best keys.
 use Rattle.std.proofs.Common.{◌≡◌, ℕ, ◌-◌, ◌/◌, ◌<◌, List, length, get_or, ap, sym, ◌∙◌}
 use Rattle.std.proofs.lemmas.List.{get_or-map}
-use Rattle.tdp_model.specs.KeyTuple.{KeyOf, key_none}
-use Rattle.tdp_model.proofs.KeyNumbers.{not_less_at_most}
+use Rattle.rankings.specs.KeyTuple.{KeyOf, key_none}
+use Rattle.rankings.proofs.KeyNumbers.{not_less_at_most}
 use Rattle.take2_heap.specs.Order.{IsHeapBy}
 use Rattle.tree_dp.specs.Orders.{key_at, IsHeapOver}
 

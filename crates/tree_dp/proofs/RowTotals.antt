@@ -1,6 +1,6 @@
 -- Sums over the last nodes.
 use Rattle.std.proofs.Common.{◌≡◌, ℕ, zero, suc, ◌+◌, ◌-◌, ◌<◌, ◌≤◌, ap, ◌∙◌, arith}
-use Rattle.tdp_model.specs.TreeProblem.{sum_from}
+use Rattle.rankings.specs.TreeProblem.{sum_from}
 
 -- the sum over the nodes from v on, of m nodes
 abbrev pub total_from : (ℕ → ℕ) → ℕ → ℕ → ℕ

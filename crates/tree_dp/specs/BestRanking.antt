@@ -1,7 +1,7 @@
 -- The best solutions of the rows of a tree's root.
 use Rattle.std.specs.Prelude.{◌≡◌, ℕ, ◌<◌, List}
 use Rattle.rankings.specs.Order.{IsRanking}
-use Rattle.tdp_model.specs.KeyTuple.{KeyOf, key_below}
+use Rattle.rankings.specs.KeyTuple.{KeyOf, key_below}
 use Rattle.tdp_core.specs.TreeView.{NodeView, rows, best}
 
 -- these are the least keys of the root's rows, each once, in ascending order

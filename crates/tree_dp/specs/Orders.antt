@@ -1,7 +1,7 @@
 -- The keys of a node's rows, and groups of rows in heap order by them.
 use Rattle.std.specs.Prelude.{ℕ, List, map, length, slice_index, slice_index_or}
-use Rattle.tdp_model.specs.KeyTuple.{KeyOf, key_below, key_none}
-use Rattle.tdp_model.specs.Heap.{FollowsParent}
+use Rattle.rankings.specs.KeyTuple.{KeyOf, key_below, key_none}
+use Rattle.rankings.specs.Heap.{FollowsParent}
 
 module _ {R : Type 0} (d : ℕ) (key : R → KeyOf d 16) where
   -- the key of row r, where `best` has the rank of each row; past the last one the key of zeros

@@ -1,9 +1,9 @@
 -- What holds of the parts of a tree while their least keys are found, from the last node to the
 -- root.
 use Rattle.std.specs.Prelude.{◌≡◌, ℕ, ◌+◌, ◌-◌, ◌<◌, ◌≤◌, List, [], length, slice_index, slice_index_or}
-use Rattle.tdp_model.specs.KeyTuple.{KeyOf, key_below, key_add, key_none}
-use Rattle.tdp_model.specs.TreeProblem.{best_by_kids}
-use Rattle.tdp_model.specs.Heap.{FollowsParent}
+use Rattle.rankings.specs.KeyTuple.{KeyOf, key_below, key_add, key_none}
+use Rattle.rankings.specs.TreeProblem.{best_by_kids}
+use Rattle.rankings.specs.Heap.{FollowsParent}
 use Rattle.tdp_core.specs.TreeView.{NodeView, node_at, parent, rows, group_count, members, group, rank, best}
 use Rattle.tree_dp.specs.Orders.{key_at}
 

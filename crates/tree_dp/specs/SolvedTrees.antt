@@ -1,7 +1,7 @@
 -- A tree beside the parts that it was made of.
 use Rattle.std.specs.Prelude.{◌≡◌, ℕ, ◌↔◌, List, [], length, slice_index_or}
 use Rattle.std.specs.List.Sorted.{IsPermutation}
-use Rattle.tdp_model.specs.KeyTuple.{KeyOf}
+use Rattle.rankings.specs.KeyTuple.{KeyOf}
 use Rattle.tdp_core.specs.TreeView.{NodeView, node_at}
 use Rattle.tdp_core.specs.Solutions.{IsTreeSolution, solution_key}
 use Rattle.tdp_core.specs.WellFormed.{IsTieFreeTree}

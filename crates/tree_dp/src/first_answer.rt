@@ -1,7 +1,7 @@
 //! The first answer of a tree, from the tops of its groups.
 ghost use Rattle.std.specs.Prelude.{◌≡◌, ℕ, ◌+◌, ◌*◌, ◌<◌, ◌≤◌, List, [], length, slice_get, slice_index, Some, IfSome, IfNone};
-ghost use Rattle.tdp_model.specs.KeyTuple.{KeyOf};
-ghost use Rattle.tdp_model.specs.KeyNumbers.{numbers};
+ghost use Rattle.rankings.specs.KeyTuple.{KeyOf};
+ghost use Rattle.rankings.specs.KeyNumbers.{numbers};
 ghost use Rattle.tdp_core.specs.AnswerView.{answers_of, rows_of_key};
 ghost use Rattle.tdp_core.specs.Solutions.{IsTreeRanking};
 ghost use Rattle.tdp_core.specs.TreeView.{parent, rows, group_number, group, best};

@@ -4,8 +4,8 @@ use Rattle.hyper_graph.specs.Graph.{HasVar, Hypergraph}
 use Rattle.hyper_graph.specs.JoinTrees.{IsJoinTree}
 use Rattle.hyper_graph.proofs.Paths.{IsRunning}
 use Rattle.hyper_graph.proofs.Routes.{running_from_connected}
-use Rattle.tdp_model.specs.KeyTuple.{KeyOf, key_add, key_none}
-use Rattle.tdp_model.specs.TreeProblem.{sum_from}
+use Rattle.rankings.specs.KeyTuple.{KeyOf, key_add, key_none}
+use Rattle.rankings.specs.TreeProblem.{sum_from}
 use Rattle.anyk_model.specs.Table.{Table}
 use Rattle.anyk_model.specs.Query.{Column, IsCombination, IsWitness, Query, row_counts}
 use Rattle.bound_query.specs.Classes.{Agree, AreVariables, HasVariable, Passes, row_field, variable_at}

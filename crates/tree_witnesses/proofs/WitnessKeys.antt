@@ -11,11 +11,11 @@ use Rattle.bound_query.specs.Inside.{IsWithin, KeyInside}
 use Rattle.bound_query.specs.Weights.{key_at, part_of}
 use Rattle.bound_query.proofs.Parts.{parts_add}
 use Rattle.bound_query.proofs.Lists.{all_at}
-use Rattle.tdp_model.specs.KeyTuple.{KeyOf, key_add, key_none, slot_of}
-use Rattle.tdp_model.specs.KeyNumbers.{sum_of}
-use Rattle.tdp_model.specs.TreeProblem.{sum_from}
-use Rattle.tdp_model.proofs.KeyNumbers.{key_same, slot_of_lists, sum_of_add, sum_of_lists, sum_of_none}
-use Rattle.tdp_model.proofs.KeyTuples.{slot_of_add, slot_of_none}
+use Rattle.rankings.specs.KeyTuple.{KeyOf, key_add, key_none, slot_of}
+use Rattle.rankings.specs.KeyNumbers.{sum_of}
+use Rattle.rankings.specs.TreeProblem.{sum_from}
+use Rattle.rankings.proofs.KeyNumbers.{key_same, slot_of_lists, sum_of_add, sum_of_lists, sum_of_none}
+use Rattle.rankings.proofs.KeyTuples.{slot_of_add, slot_of_none}
 use Rattle.rank_key.specs.Keys.{row_key}
 use Rattle.witness_key.specs.WitnessKey.{witness_key}
 use Rattle.tree_witnesses.proofs.WitnessSums.{IsOrderOf, equal_test, other_test, total_one, total_reordered, total_same, total_zeros}

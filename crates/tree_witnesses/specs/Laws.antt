@@ -2,8 +2,8 @@
 use Rattle.std.specs.Prelude.{◌≡◌, ◌↔◌, ℕ, ◌<◌, List, length, map, slice_index}
 use Rattle.hyper_graph.specs.Graph.{Hypergraph}
 use Rattle.hyper_graph.specs.JoinTrees.{IsJoinTree}
-use Rattle.tdp_model.specs.KeyTuple.{KeyOf, key_add, key_none}
-use Rattle.tdp_model.specs.TreeProblem.{sum_from}
+use Rattle.rankings.specs.KeyTuple.{KeyOf, key_add, key_none}
+use Rattle.rankings.specs.TreeProblem.{sum_from}
 use Rattle.rank_key.specs.Keys.{row_key}
 use Rattle.anyk_model.specs.Table.{Table}
 use Rattle.anyk_model.specs.Query.{IsCombination, IsWitness, Query, row_counts}

@@ -4,7 +4,7 @@ use Rattle.std.proofs.lemmas.List.{length-map}
 use Rattle.rankings.specs.Order.{BelowAll, IsAscending, IsMember, IsRanking}
 use Rattle.rankings.proofs.Members.{member_either, member_left, member_right}
 use Rattle.rankings.proofs.Unique.{ranking_unique}
-use Rattle.tdp_model.proofs.Sorting.{ranked_is_ranking}
+use Rattle.rankings.proofs.Sorting.{ranked_is_ranking}
 use Rattle.anyk_model.specs.Table.{Table}
 use Rattle.anyk_model.specs.Query.{IsWitness, Query, rank_of}
 use Rattle.anyk_model.specs.Ranking.{Precedes, ranking_of, witnesses}

@@ -9,8 +9,8 @@ use Rattle.anyk_model.specs.Ranking.{ranking_of}
 use Rattle.anyk_model.proofs.Exists.{ranking_is}
 use Rattle.tdp_core.specs.AnswerView.{rows_of_key}
 use Rattle.tdp_core.proofs.AnswerFacts.{rows_of_key_at, rows_of_key_length}
-use Rattle.tdp_model.specs.KeyNumbers.{key_of_lists}
-use Rattle.tdp_model.proofs.KeyNumbers.{slot_of_lists}
+use Rattle.rankings.specs.KeyNumbers.{key_of_lists}
+use Rattle.rankings.proofs.KeyNumbers.{slot_of_lists}
 use Rattle.witness_key.specs.WitnessKey.{AreCombinations, answer_of_witness, answers_of_ranking, combinations_in}
 use Rattle.anyk_model.proofs.Combinations.{combination_length}
 

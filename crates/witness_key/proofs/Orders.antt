@@ -2,9 +2,9 @@
 -- give different keys.
 use Rattle.std.proofs.Common.{◌≡◌, ◌≤◌, ◌<◌, ◌↔◌, ◌<ℤ◌, ◌++◌, ℕ, zero, suc, ℤ, pos, List, [], ◌∷◌, map, length, refl, ap, inl, inr, arith}
 use Rattle.std.proofs.lemmas.Int.{ints}
-use Rattle.tdp_model.specs.KeyTuple.{SlotsOf, KeyOf, slots_below, key_below}
-use Rattle.tdp_model.specs.KeyNumbers.{slots_of_list, key_of_lists}
-use Rattle.tdp_model.proofs.KeyTuples.{tuple_keys}
+use Rattle.rankings.specs.KeyTuple.{SlotsOf, KeyOf, slots_below, key_below}
+use Rattle.rankings.specs.KeyNumbers.{slots_of_list, key_of_lists}
+use Rattle.rankings.proofs.KeyTuples.{tuple_keys}
 use Rattle.anyk_model.specs.Ranking.{IsBefore}
 
 pos_below : (u v : ℕ) → u < v → pos u <ℤ pos v

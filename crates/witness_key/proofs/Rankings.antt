@@ -3,8 +3,8 @@ use Rattle.std.proofs.Common.{◌≡◌, ◌≤◌, ◌↔◌, ℕ, List, map, l
 use Rattle.std.proofs.lemmas.List.{length-map}
 use Rattle.rankings.specs.Order.{IsMember, IsRanking}
 use Rattle.rankings.proofs.Unique.{ranking_unique}
-use Rattle.tdp_model.specs.KeyTuple.{KeyOf, key_below}
-use Rattle.tdp_model.proofs.KeyTuples.{tuple_keys}
+use Rattle.rankings.specs.KeyTuple.{KeyOf, key_below}
+use Rattle.rankings.proofs.KeyTuples.{tuple_keys}
 use Rattle.anyk_model.proofs.Combinations.{combination_length}
 use Rattle.anyk_model.specs.Table.{Table, table_at}
 use Rattle.anyk_model.specs.Query.{Item, Query, IsWitness, rank_of, row_counts}

@@ -1,6 +1,6 @@
 -- Worked rows, by computation.
 use Rattle.std.proofs.Common.{◌≡◌, refl, ℕ, List, [], ◌∷◌, None, codes, false, true, pos, negsuc}
-use Rattle.tdp_model.specs.KeyNumbers.{numbers}
+use Rattle.rankings.specs.KeyNumbers.{numbers}
 use Rattle.tdp_core.specs.AnswerView.{rows_of_key, slot_list}
 use Rattle.anyk_model.specs.Table.{Table}
 use Rattle.anyk_model.specs.Query.{Query, of_column}

@@ -2,8 +2,8 @@
 -- seen.
 use Rattle.std.specs.Prelude.{◌≡◌, ℕ, List, length, map, take}
 use Rattle.std.specs.List.{AllByRecursion}
-use Rattle.tdp_model.specs.KeyTuple.{KeyOf}
-use Rattle.tdp_model.specs.KeyNumbers.{key_of_lists}
+use Rattle.rankings.specs.KeyTuple.{KeyOf}
+use Rattle.rankings.specs.KeyNumbers.{key_of_lists}
 use Rattle.tdp_core.specs.AnswerView.{AnswerView, answer_of}
 use Rattle.anyk_model.specs.Table.{Table}
 use Rattle.anyk_model.specs.Query.{Query, IsCombination, IsWitness, rank_of, row_counts}

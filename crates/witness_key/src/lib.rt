@@ -6,7 +6,7 @@
 ghost use Rattle.std.specs.Prelude.{◌≡◌, ◌≤◌, ◌↔◌, ℕ, List, length, map};
 ghost use Rattle.std.specs.List.{AllByRecursion};
 ghost use Rattle.rankings.specs.Order.{IsRanking};
-ghost use Rattle.tdp_model.specs.KeyTuple.{KeyOf, key_below};
+ghost use Rattle.rankings.specs.KeyTuple.{KeyOf, key_below};
 ghost use Rattle.anyk_model.specs.Table.{Table};
 ghost use Rattle.anyk_model.specs.Query.{IsCombination, Query, row_counts};
 ghost use Rattle.anyk_model.specs.Ranking.{Precedes, ranking_of};

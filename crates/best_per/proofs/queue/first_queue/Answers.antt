@@ -7,7 +7,7 @@ use Rattle.std.proofs.lemmas.List.Elements.{All-nil}
 use Rattle.take2_heap.specs.declared.entry.Entry.{Entry}
 use Rattle.rank_key.specs.Bits.{bit_length}
 use Rattle.rank_key.proofs.BitLemmas.{bit_length_is}
-use Rattle.tdp_model.specs.KeyTuple.{KeyOf}
+use Rattle.rankings.specs.KeyTuple.{KeyOf}
 use Rattle.tdp_core.specs.TreeView.{NodeView, node_at, group_count}
 use Rattle.tdp_core.specs.WellFormed.{IsFormed, IsTieFreeTree}
 use Rattle.tree_dp.specs.BestRanking.{IsBestRanking}

@@ -1,5 +1,5 @@
 use Rattle.std.proofs.Common.{◌≡◌, ◌+◌, ◌<◌, length, sym, ap, ◌∙◌, arith}
-use Rattle.tdp_model.specs.TreeProblem.{sum_from}
+use Rattle.rankings.specs.TreeProblem.{sum_from}
 use Rattle.proof_check.specs.Subtrees.{raw_below}
 use Rattle.step_bounds.proofs.NodeSums.{sum_none}
 use Rattle.proof_check.proofs.Subtrees.{below_small, size_more}

@@ -1,5 +1,5 @@
 use Rattle.std.proofs.Common.{get_or, refl, ap, ◌∙◌}
-use Rattle.tdp_model.specs.KeyTuple.{key_add, key_none}
+use Rattle.rankings.specs.KeyTuple.{key_add, key_none}
 use Rattle.suffix_streams.specs.Rankings.{part_list}
 use Rattle.suffix_streams.proofs.Heads.{head_key}
 use Rattle.suffix_streams.proofs.Firsts.{cell_fits}

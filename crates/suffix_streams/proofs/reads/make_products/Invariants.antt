@@ -1,5 +1,5 @@
 use Rattle.std.proofs.Common.{◌≡◌, ◌+◌, ◌*◌, get_or}
-use Rattle.tdp_model.specs.KeyTuple.{key_none}
+use Rattle.rankings.specs.KeyTuple.{key_none}
 use Rattle.suffix_streams.specs.Rankings.{part_list}
 use Rattle.suffix_streams.specs.TreeStreams.{AreFreshTo}
 use Rattle.suffix_streams.proofs.reads.make_products.Given as goal

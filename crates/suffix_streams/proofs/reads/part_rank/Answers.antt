@@ -1,6 +1,6 @@
 use Rattle.std.proofs.Common.{◌≡◌, ℕ, zero, suc, ◌-◌, ◌<◌, List, [], length, get_or, sym, ap, ◌∙◌, subst, arith}
 use Rattle.tdp_core.specs.TreeView.{NodeView}
-use Rattle.tdp_model.specs.KeyTuple.{KeyOf}
+use Rattle.rankings.specs.KeyTuple.{KeyOf}
 use Rattle.suffix_streams.specs.NodeStreamsView.{NodeStreamsView, product_at}
 use Rattle.suffix_streams.specs.TreeStreams.{AreLefts, part_known, product_of}
 use Rattle.suffix_streams.proofs.Firsts.{own_at, known_key}

@@ -1,5 +1,5 @@
 use Rattle.std.proofs.Common.{◌≡◌, ◌+◌, ◌-◌, ◌≤◌, [], length, get_or, refl, sym, ap, ◌∙◌, subst, arith}
-use Rattle.tdp_model.specs.KeyTuple.{key_none}
+use Rattle.rankings.specs.KeyTuple.{key_none}
 use Rattle.suffix_streams.specs.NodeStreamsView.{known_of}
 use Rattle.suffix_streams.specs.Rankings.{part_list}
 use Rattle.suffix_streams.specs.TreeStreams.{IsSumOf, lists_of, products_of, part_known}

@@ -1,7 +1,7 @@
 use Rattle.std.proofs.Common.{◌≡◌, ◌≢◌, ℕ, suc, ◌+◌, ◌-◌, ◌<◌, ◌≤◌, [], length, get_or, sym, ap, subst, ◌∙◌, arith}
 use Rattle.std.proofs.lemmas.List.{length-map}
-use Rattle.tdp_model.specs.KeyTuple.{key_below, key_add, key_none}
-use Rattle.tdp_model.proofs.KeyTuples.{tuple_keys}
+use Rattle.rankings.specs.KeyTuple.{key_below, key_add, key_none}
+use Rattle.rankings.proofs.KeyTuples.{tuple_keys}
 use Rattle.rank_key.specs.Keys.{KeyFits}
 use Rattle.tdp_core.specs.TreeView.{node_view, tree_view, node_at, parent, members, group_count, group_named, group, rank, best}
 use Rattle.tdp_core.proofs.Children.{kids_below_child, kids_below_other, kids_below_most}

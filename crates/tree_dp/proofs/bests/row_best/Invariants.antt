@@ -1,6 +1,6 @@
 use Rattle.std.proofs.Common.{◌≡◌, suc, ◌+◌, ◌-◌, ◌≤◌, length}
-use Rattle.tdp_model.specs.KeyTuple.{key_below, key_add, key_none}
-use Rattle.tdp_model.proofs.KeyTuples.{tuple_keys}
+use Rattle.rankings.specs.KeyTuple.{key_below, key_add, key_none}
+use Rattle.rankings.proofs.KeyTuples.{tuple_keys}
 use Rattle.tdp_core.specs.TreeView.{tree_view, parent, kids_below, group, rank, best}
 use Rattle.tree_dp.proofs.FirstParts.{first_part}
 use Rattle.tree_dp.proofs.bests.row_best.Given as goal

@@ -1,7 +1,7 @@
 use Rattle.std.proofs.Common.{◌≡◌, ◌<◌, ℕ, List, length, get_or, replicate, take, refl, sym, ap, subst, ◌∙◌, arith}
 use Rattle.std.proofs.Math.ListN.{set}
 use Rattle.std.proofs.lemmas.List.{get_or-replicate, length-set}
-use Rattle.tdp_model.specs.KeyTuple.{slot_of}
+use Rattle.rankings.specs.KeyTuple.{slot_of}
 use Rattle.tdp_core.specs.TreeView.{item, best}
 use Rattle.tree_dp.proofs.FirstWalk.{least_with, key_of_rows, no_slots, root_lives, walk_begins, walk_goes_on, reached_kept, slots_go_on, walk_ends}
 use Rattle.tree_dp.proofs.first_answer.best_rows.Goals as goal

@@ -1,5 +1,5 @@
 use Rattle.std.proofs.Common.{◌≡◌, ℕ, ◌+◌, ◌*◌, ◌<◌, ◌≤◌, length, get_or, take}
-use Rattle.tdp_model.specs.KeyTuple.{slot_of}
+use Rattle.rankings.specs.KeyTuple.{slot_of}
 use Rattle.tdp_core.specs.TreeView.{rows, best}
 use Rattle.tree_dp.proofs.FirstWalk.{least_with, key_of_rows}
 use Rattle.tree_dp.proofs.first_answer.best_rows.Given as goal

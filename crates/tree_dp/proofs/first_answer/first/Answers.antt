@@ -1,11 +1,11 @@
 use Rattle.std.proofs.Common.{◌≡◌, ◌<◌, ℕ, ℤ, Bool, true, false, Some, List, length, get_or, nat_lt, sym, ap, subst, ◌∙◌, arith}
 use Rattle.std.proofs.lemmas.Bool.Decides.{nat_tests}
-use Rattle.tdp_model.specs.KeyNumbers.{numbers}
+use Rattle.rankings.specs.KeyNumbers.{numbers}
 use Rattle.tdp_core.specs.AnswerView.{AnswerView, rows_of_key}
 use Rattle.tdp_core.specs.TreeView.{NodeView, rows, group_count, members, best}
 use Rattle.tdp_core.specs.WellFormed.{IsFormed}
 use Rattle.tdp_core.proofs.TreeFacts.{member_is_row}
-use Rattle.tdp_model.specs.KeyTuple.{KeyOf}
+use Rattle.rankings.specs.KeyTuple.{KeyOf}
 use Rattle.tree_dp.proofs.RankingHead.{none_ranked, top_ranked}
 use Rattle.tree_dp.proofs.first_answer.first.Goals as goal
 

@@ -1,7 +1,7 @@
 use Rattle.std.proofs.Common.{◌≡◌, ℕ, ◌+◌, ◌*◌, ◌<◌, ◌≤◌, length, sym, ap, ◌∙◌, subst, arith}
 use Rattle.std.proofs.lemmas.List.{length-map}
 use Rattle.std.proofs.lemmas.Result.{IfOk-from_err}
-use Rattle.tdp_model.proofs.Ranges.{times_small}
+use Rattle.rankings.proofs.Ranges.{times_small}
 use Rattle.tdp_core.specs.TreeView.{node_view, tree_view, node_at, row_count}
 use Rattle.tdp_core.specs.WellFormed.{IsLaidOut, IsFormed}
 use Rattle.tree_dp.specs.SolvedTrees.{IsReordered, IsSolved}

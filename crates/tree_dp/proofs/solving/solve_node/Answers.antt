@@ -4,7 +4,7 @@ use Rattle.std.specs.List.{concat}
 use Rattle.std.proofs.lemmas.List.{length-map, length-set}
 use Rattle.std.proofs.lemmas.Result.{IfOk-from_err}
 use Rattle.std.proofs.lemmas.List.Elements.{All-from_get_or}
-use Rattle.tdp_model.specs.KeyTuple.{key_none}
+use Rattle.rankings.specs.KeyTuple.{key_none}
 use Rattle.tdp_core.specs.TreeView.{node_view, tree_view, node_at, rows, members}
 use Rattle.tree_dp.specs.Orders.{key_at, IsHeapOver}
 use Rattle.tree_dp.specs.SolvedTrees.{IsReordered}

@@ -1,8 +1,8 @@
 use Rattle.std.proofs.Common.{◌≡◌, ℕ, ◌+◌, ◌-◌, ◌*◌, ◌<◌, ◌≤◌, List, ◌∷◌, length, map, sym, ap, subst, ◌∙◌, arith}
 use Rattle.std.proofs.lemmas.List.{length-map}
 use Rattle.std.proofs.lemmas.Result.{IfOk-from_err}
-use Rattle.tdp_model.specs.KeyTuple.{KeyOf}
-use Rattle.tdp_model.proofs.Ranges.{times_small}
+use Rattle.rankings.specs.KeyTuple.{KeyOf}
+use Rattle.rankings.proofs.Ranges.{times_small}
 use Rattle.tdp_core.specs.TreeView.{NodeView, node_view, tree_view, node_at, rows}
 use Rattle.tree_dp.specs.Progress.{IsSolvedFrom, AreLeastsFrom}
 use Rattle.tree_dp.proofs.Reordered.{reordered_refl, reordered_trans, rows_same, layout_kept}

@@ -1,5 +1,5 @@
 use Rattle.std.proofs.Common.{ℕ, ◌+◌, ◌-◌, ◌*◌, ◌≤◌, length, map}
-use Rattle.tdp_model.specs.TreeProblem.{sum_from}
+use Rattle.rankings.specs.TreeProblem.{sum_from}
 use Rattle.tdp_core.specs.TreeView.{tree_view, node_at, rows}
 use Rattle.tree_dp.specs.Progress.{IsSolvedFrom, AreLeastsFrom}
 use Rattle.tree_dp.specs.SolvedTrees.{IsReordered}

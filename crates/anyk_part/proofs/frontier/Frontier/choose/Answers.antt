@@ -4,7 +4,7 @@ use Rattle.std.proofs.lemmas.Bool.{false≢true}
 use Rattle.rank_key.proofs.BitLemmas.{bit_length_rises}
 use Rattle.stream_store.specs.declared.entry.Linked.{Linked}
 use Rattle.stream_store.specs.Entries.{Entries}
-use Rattle.tdp_model.specs.Regions.{in_region}
+use Rattle.rankings.specs.Regions.{in_region}
 use Rattle.tdp_core.specs.TreeView.{members}
 use Rattle.anyk_part.specs.declared.candidate.Link.{Link}
 use Rattle.anyk_part.specs.declared.candidate.Site.{Site}

@@ -5,8 +5,8 @@ use Rattle.take2_heap.specs.declared.entry.Entry.{Entry}
 use Rattle.take2_heap.specs.Heap.{Heap}
 use Rattle.rank_key.specs.Bits.{bit_length}
 use Rattle.rank_key.proofs.BitLemmas.{bit_length_rises, bit_length_zero}
-use Rattle.tdp_model.specs.KeyTuple.{KeyOf}
-use Rattle.tdp_model.specs.KeyNumbers.{numbers}
+use Rattle.rankings.specs.KeyTuple.{KeyOf}
+use Rattle.rankings.specs.KeyNumbers.{numbers}
 use Rattle.tdp_core.specs.AnswerView.{AnswerView, counted, answers_of, rows_of_key}
 use Rattle.tdp_core.specs.Shares.{share_of, size_of}
 use Rattle.tdp_core.specs.TreeView.{rows, row_count, group_count, best}

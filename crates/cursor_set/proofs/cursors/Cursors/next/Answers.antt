@@ -2,7 +2,7 @@ use Rattle.std.proofs.Common.{◌≡◌, ◌+◌, ◌≤◌, true, refl, sym, ap
 use Rattle.std.proofs.lemmas.Bool.{false≢true}
 use Rattle.tdp_core.specs.declared.ranked.Answer.{Answer}
 use Rattle.tdp_core.specs.AnswerView.{AnswerView}
-use Rattle.tdp_model.specs.KeyNumbers.{numbers}
+use Rattle.rankings.specs.KeyNumbers.{numbers}
 use Rattle.cursor_set.specs.CursorSet.{CursorSet, ArePlacesKnown, seen_of}
 use Rattle.cursor_set.proofs.Moving.{not_open, end_there, places_more, places_set, place_within, found_at, next_at, one_longer, as_long, answers_pushed, answers_same, all_found, moved_only, at_most_same, seen_more, steps_more, steps_over, steps_within, some_at, refused_there, not_known_there}
 use Rattle.cursor_set.proofs.cursors.Cursors.next.Given.{Over}

@@ -1,8 +1,8 @@
 use Rattle.std.proofs.Common.{◌≡◌, ◌≢◌, ℕ, ◌+◌, ◌-◌, ◌*◌, ◌<◌, ◌≤◌, suc, length, get_or, refl, sym, ap, ◌∙◌, subst, arith}
 use Rattle.tdp_core.specs.TreeView.{parent, rows, number, child_count, group_named, rank}
 use Rattle.tdp_core.proofs.Children.{kids_below_most}
-use Rattle.tdp_model.specs.KeyTuple.{key_add, key_none}
-use Rattle.tdp_model.specs.Product.{pair_key}
+use Rattle.rankings.specs.KeyTuple.{key_add, key_none}
+use Rattle.rankings.specs.Product.{pair_key}
 use Rattle.suffix_streams.specs.Rankings.{child, part_list, group_list}
 use Rattle.suffix_streams.specs.TreeStreams.{IsKnownPart, IsSumOf, node_of, group_of, place_of, pair_of}
 use Rattle.suffix_streams.specs.Growing.{subtree_size, kids_size}

@@ -1,6 +1,6 @@
 use Rattle.std.proofs.Common.{◌≡◌, ◌≢◌, ℕ, ◌+◌, ◌*◌, ◌<◌, ◌≤◌, None, Some, IfSome, IfNone, is_some, List, [], ◌∷◌, ◌++◌, length, get_or, refl, sym, ap, ◌∙◌, subst, arith}
 use Rattle.tdp_core.specs.TreeView.{number, members, child_count}
-use Rattle.tdp_model.specs.KeyTuple.{key_none}
+use Rattle.rankings.specs.KeyTuple.{key_none}
 use Rattle.stream_store.specs.declared.entry.Linked.{Linked}
 use Rattle.take2_heap.specs.declared.entry.Entry.{Entry}
 use Rattle.suffix_streams.specs.declared.stream.Found.{Found}

@@ -8,7 +8,7 @@ use Rattle.suffix_streams.specs.Growing.{IsAnswered}
 use Rattle.suffix_streams.specs.StreamsView.{StreamsView, AreKept, size_of_node}
 use Rattle.suffix_streams.proofs.ViewPrefixes.{all_prefixes}
 use Rattle.suffix_streams.proofs.ViewCalls.{few_kept, kept_of, call_steps, some_row, follows_of, below_few}
-use Rattle.tdp_model.specs.Below.{is_below}
+use Rattle.rankings.specs.Below.{is_below}
 use Rattle.suffix_streams.proofs.SearchCosts.{subtree_within_steps}
 use Rattle.suffix_streams.proofs.streams.Streams.after.Goals as goal
 

@@ -2,7 +2,7 @@ use Rattle.std.proofs.Common.{◌≡◌, ◌<◌, length, get_or, sym, ap, subst
 use Rattle.tdp_core.specs.AnswerView.{rows_of_key}
 use Rattle.suffix_streams.specs.TreeStreams.{node_of, group_of, place_of}
 use Rattle.suffix_streams.specs.Rankings.{group_list}
-use Rattle.tdp_model.specs.KeyTuple.{key_none}
+use Rattle.rankings.specs.KeyTuple.{key_none}
 use Rattle.suffix_streams.proofs.Rankings.{solution_fits}
 use Rattle.suffix_streams.proofs.Rows.{none_addable, none_added}
 use Rattle.suffix_streams.proofs.ViewPrefixes.{entry_inside}

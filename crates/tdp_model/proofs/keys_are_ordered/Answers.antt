@@ -1,5 +1,0 @@
-use Rattle.tdp_model.proofs.KeyTuples.{tuple_keys}
-use Rattle.tdp_model.proofs.keys_are_ordered.Goals as goal
-
-pub returns : goal.returns
-returns c = tuple_keys

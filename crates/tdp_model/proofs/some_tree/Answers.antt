@@ -1,5 +1,0 @@
-use Rattle.tdp_model.proofs.Example.{example, example_nodes}
-use Rattle.tdp_model.proofs.some_tree.Goals as goal
-
-pub returns : goal.returns
-returns c = (example, example_nodes)
