@@ -1,13 +1,13 @@
 -- The list that computes is the ranking.
-use Rattle.std.proofs.Common.{◌≡◌, ◌≤◌, ◌<◌, ◌+◌, ◌⊎◌, ◌↔◌, inl, inr, refl, sym, ap, subst, ◌∙◌, arith, ℕ, zero, suc, ℤ, pos, ◌<ℤ◌, Bool, true, false, cond, if◌then◌else◌, List, [], ◌∷◌, ◌++◌, map, filter, int_lt}
+use Rattle.std.proofs.Common.{◌≡◌, ◌≤◌, ◌<◌, ◌+◌, ◌⊎◌, ◌↔◌, inl, inr, refl, sym, ap, subst, ◌∙◌, arith, ℕ, zero, suc, ℤ, pos, Bool, true, false, cond, if◌then◌else◌, List, [], ◌∷◌, ◌++◌, map, filter}
 use Rattle.std.specs.List.{AllByRecursion, list_all, flat_map, range_with_len}
 use Rattle.std.proofs.lemmas.Bool.{cases_lt, false≢true, and_parts, and_from}
-use Rattle.std.proofs.lemmas.Int.{ints}
 use Rattle.std.proofs.lemmas.Slice.Eq.{bytes_eq-Decides}
 use Rattle.anyk_model.specs.Table.{Table}
 use Rattle.anyk_model.specs.Query.{Equality, Holds, IsCombination, IsWitness, Query, key_of, rank_of, row_counts, side_value, value_of}
 use Rattle.rankings.specs.Order.{BelowAll, IsAscending, IsMember}
 use Rattle.rankings.proofs.Members.{member_left, member_right, member_either}
+use Rattle.anyk_model.specs.ListOrder.{Compared, before, same, after, before_trans, compare}
 use Rattle.anyk_model.specs.Ranking.{IsBefore, IsRanking, combinations, holds, insert_by, is_before, ranking_of, sort_by, witnesses}
 
 -- ---- combinations
@@ -72,9 +72,9 @@ filter_member p x [] m e = m
 filter_member p x (y ∷ xs) m e = by (p y) refl m (λ later. filter_member p x xs later e)
   where
     by : (b : Bool) → p y ≡ b → IsMember x (y ∷ xs) → (IsMember x xs → IsMember x (filter p xs)) → IsMember x (cond b (y ∷ filter p xs) (filter p xs))
-    by true is (inl same) rest = inl same
+    by true is (inl equal) rest = inl equal
     by true is (inr later) rest = inr (rest later)
-    by false is (inl same) rest = absurd (false≢true (sym is ∙ ap p (sym same) ∙ e))
+    by false is (inl equal) rest = absurd (false≢true (sym is ∙ ap p (sym equal) ∙ e))
     by false is (inr later) rest = rest later
 
 filter_parts : {A : Type 0} (p : A → Bool) (x : A) (xs : List A) → IsMember x (filter p xs) → IsMember x xs × (p x ≡ true)
@@ -83,7 +83,7 @@ filter_parts p x (y ∷ xs) m = by (p y) refl m (filter_parts p x xs)
   where
     by : (b : Bool) → p y ≡ b → IsMember x (cond b (y ∷ filter p xs) (filter p xs)) → (IsMember x (filter p xs) → IsMember x xs × (p x ≡ true))
         → IsMember x (y ∷ xs) × (p x ≡ true)
-    by true is (inl same) rest = (inl same, ap p same ∙ is)
+    by true is (inl equal) rest = (inl equal, ap p equal ∙ is)
     by true is (inr later) rest = let h = rest later in (inr h.0, h.1)
     by false is later rest = let h = rest later in (inr h.0, h.1)
 
@@ -111,60 +111,6 @@ witnesses_are query tables rows =
           filter_member (λ r. list_all (holds query tables r) query.equalities) rows (combinations counts)
           (all_combinations counts rows w.0) (hold_all query tables rows query.equalities w.1),
     )
-
--- ---- the order
-
-lt_trans : (x y z : ℤ) → x <ℤ y → y <ℤ z → x <ℤ z
-lt_trans x y z p q = omega (arith, ints)
-
-pub before_trans : (xs ys zs : List ℤ) → IsBefore xs ys → IsBefore ys zs → IsBefore xs zs
-before_trans [] [] zs p q = absurd p
-before_trans [] (y ∷ ys) [] p q = absurd q
-before_trans [] (y ∷ ys) (z ∷ zs) p q = tt
-before_trans (x ∷ xs) [] zs p q = absurd p
-before_trans (x ∷ xs) (y ∷ ys) [] p q = absurd q
-before_trans (x ∷ xs) (y ∷ ys) (z ∷ zs) (inl p) (inl q) = inl (lt_trans x y z p q)
-before_trans (x ∷ xs) (y ∷ ys) (z ∷ zs) (inl p) (inr q) = inl (subst (λ t. x <ℤ t) q.0 p)
-before_trans (x ∷ xs) (y ∷ ys) (z ∷ zs) (inr p) (inl q) = inl (subst (λ t. t <ℤ z) (sym p.0) q)
-before_trans (x ∷ xs) (y ∷ ys) (z ∷ zs) (inr p) (inr q) = inr (p.0 ∙ q.0, before_trans xs ys zs p.1 q.1)
-
--- of two lists of whole numbers one is before the other, or they are the same
-pub data Compared (xs ys : List ℤ) : Type 0 where
-  before : is_before xs ys ≡ true → IsBefore xs ys → Compared xs ys
-  same : is_before xs ys ≡ false → is_before ys xs ≡ false → xs ≡ ys → Compared xs ys
-  after : is_before xs ys ≡ false → is_before ys xs ≡ true → IsBefore ys xs → Compared xs ys
-
-less_false : (x y : ℤ) → (x <ℤ y → ⊥) → int_lt x y ≡ false
-less_false x y h = by (int_lt x y) refl
-  where
-    by : (b : Bool) → int_lt x y ≡ b → b ≡ false
-    by true e = absurd (h (grind (arith, ints)))
-    by false e = refl
-
-lt_from : (x y : ℤ) → int_lt x y ≡ true → x <ℤ y
-lt_from x y e = grind (arith, ints)
-
-eq_from : (x y : ℤ) → int_lt x y ≡ false → int_lt y x ≡ false → x ≡ y
-eq_from x y p q = grind (arith, ints)
-
-heads : (x y : ℤ) (xs ys : List ℤ) (l r : Bool) → int_lt x y ≡ l → int_lt y x ≡ r
-    → is_before (x ∷ xs) (y ∷ ys) ≡ (if l then true else if r then false else is_before xs ys)
-heads x y xs ys l r el er = λ i. if el i then true else if er i then false else is_before xs ys
-
-by_heads : (x y : ℤ) (xs ys : List ℤ) (l r : Bool) → int_lt x y ≡ l → int_lt y x ≡ r → Compared xs ys → Compared (x ∷ xs) (y ∷ ys)
-by_heads x y xs ys true r el er c = before (heads x y xs ys true r el er) (inl (lt_from x y el))
-by_heads x y xs ys false true el er c = after (heads x y xs ys false true el er) (heads y x ys xs true false er el) (inl (lt_from y x er))
-by_heads x y xs ys false false el er (before t p) = before (heads x y xs ys false false el er ∙ t) (inr (eq_from x y el er, p))
-by_heads x y xs ys false false el er (same t u e) =
-    same (heads x y xs ys false false el er ∙ t) (heads y x ys xs false false er el ∙ u) (λ i. eq_from x y el er i ∷ e i)
-by_heads x y xs ys false false el er (after t u p) =
-    after (heads x y xs ys false false el er ∙ t) (heads y x ys xs false false er el ∙ u) (inr (eq_from y x er el, p))
-
-pub compare : (xs ys : List ℤ) → Compared xs ys
-compare [] [] = same refl refl refl
-compare [] (y ∷ ys) = before refl tt
-compare (x ∷ xs) [] = after refl refl tt
-compare (x ∷ xs) (y ∷ ys) = by_heads x y xs ys (int_lt x y) (int_lt y x) refl refl (compare xs ys)
 
 -- ---- the sort, where a key tells its combination
 

@@ -6,8 +6,8 @@ use Rattle.std.proofs.lemmas.List.Elements.{filter-append}
 use Rattle.tdp_core.specs.AnswerView.{counted}
 use Rattle.step_bounds.specs.Steps.{steps_for}
 use Rattle.step_bounds.proofs.Pacing.{steps_more, steps_next}
-use Rattle.union_list.specs.TaggedRows.{Tagged}
-use Rattle.union_list.specs.Union.{members_in}
+use Rattle.anyk_model.specs.TaggedRows.{Tagged}
+use Rattle.anyk_model.specs.Union.{members_in}
 use Rattle.union_all.specs.Merge.{EngineView, IsCalled, MergeView, engine_at}
 use Rattle.command_output.specs.UnionSteps.{steps_from, union_steps}
 

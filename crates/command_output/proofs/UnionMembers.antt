@@ -6,7 +6,7 @@ use Rattle.anyk_model.specs.Output.{cut}
 use Rattle.anyk_model.specs.Query.{Query}
 use Rattle.anyk_model.specs.Table.{Table}
 use Rattle.refusal_lines.specs.SinkState.{SinkState}
-use Rattle.union_list.specs.TaggedRows.{Tagged}
+use Rattle.anyk_model.specs.TaggedRows.{Tagged}
 use Rattle.union_all.specs.Merge.{IsCalled, MergeView}
 use Rattle.refusal_lines.proofs.Prints.{appends_nothing}
 use Rattle.union_all.specs.Firsts.{tagged_view}

@@ -9,7 +9,7 @@ use Rattle.std.proofs.KnownBytes.{Appends-trans}
 use Rattle.anyk_model.specs.Output.{cut}
 use Rattle.step_bounds.specs.Steps.{whole_lines}
 use Rattle.step_bounds.proofs.Pacing.{whole_front}
-use Rattle.union_list.specs.TaggedRows.{Tagged}
+use Rattle.anyk_model.specs.TaggedRows.{Tagged}
 use Rattle.command_output.specs.UnionSteps.{UnionPaced}
 
 -- the first k of a list are the first k within a limit of at least k

@@ -4,8 +4,8 @@ use Rattle.std.specs.List.{AllByRecursion}
 use Rattle.anyk_model.specs.Query.{IsCombination, Query, row_counts}
 use Rattle.anyk_model.specs.Table.{Table}
 use Rattle.step_bounds.specs.Steps.{steps_for, whole_lines}
-use Rattle.union_list.specs.TaggedRows.{Tagged, branch_at}
-use Rattle.union_list.specs.Union.{members_in}
+use Rattle.anyk_model.specs.TaggedRows.{Tagged, branch_at}
+use Rattle.anyk_model.specs.Union.{members_in}
 use Rattle.union_all.specs.Merge.{EngineView}
 
 -- the most steps of the calls of each branch's engine for its members in the list; the first of

@@ -7,7 +7,7 @@ ghost use Rattle.bound_query.specs.WeighedQuery.{Fits};
 ghost use Rattle.step_bounds.specs.Steps.{whole_lines};
 ghost use Rattle.refusal_lines.specs.Printing.{Printed};
 ghost use Rattle.refusal_lines.specs.SinkState.{state_of};
-ghost use Rattle.union_list.specs.UnionOutput.{union_header_text, union_line_text, union_output_of};
+ghost use Rattle.anyk_model.specs.UnionOutput.{union_header_text, union_line_text, union_output_of};
 ghost use Rattle.union_all.specs.Firsts.{tagged_view};
 ghost use Rattle.command_output.specs.UnionSteps.{AreMembers, IsMember, UnionPaced, union_steps};
 

@@ -22,8 +22,8 @@ use Rattle.tree_dp.proofs.RootRows.{row_placed}
 use Rattle.witness_key.specs.WitnessKey.{witness_key}
 use Rattle.witness_key.proofs.Members.{ascending_map, map_member, member_map}
 use Rattle.witness_key.proofs.Rankings.{orders_agree, witness_length}
-use Rattle.best_list.specs.BestList.{best_list, IsLeastOfRow}
-use Rattle.best_list.proofs.Least.{best_ranking}
+use Rattle.anyk_model.specs.BestList.{best_list, IsLeastOfRow}
+use Rattle.anyk_model.proofs.Least.{best_ranking}
 use Rattle.plan_engine.specs.BestKey.{RanksWitnesses}
 use Rattle.plan_engine.proofs.RootSlots.{RowOf, root_slot}
 

@@ -6,8 +6,8 @@ use Rattle.anyk_model.specs.Query.{IsCombination, row_counts}
 use Rattle.anyk_model.specs.Ranking.{ranking_of}
 use Rattle.anyk_model.proofs.Exists.{ranking_is}
 use Rattle.plan_engine.proofs.Bests.{bests_agree_lem}
-use Rattle.best_list.specs.BestList.{best_list, list_of}
-use Rattle.best_list.proofs.Least.{best_ranking}
+use Rattle.anyk_model.specs.BestList.{best_list, list_of}
+use Rattle.anyk_model.proofs.Least.{best_ranking}
 use Rattle.bound_query.specs.WeighedQuery.{BoundQuery}
 use Rattle.rankings.specs.KeyTuple.{KeyOf}
 use Rattle.tdp_core.specs.AnswerView.{AnswerView, answers_of}

@@ -2,7 +2,7 @@
 use Rattle.std.specs.Prelude.{◌≡◌, ℕ, List, Option}
 use Rattle.anyk_model.specs.Query.{Query}
 use Rattle.anyk_model.specs.Table.{Table}
-use Rattle.best_list.specs.BestList.{list_of}
+use Rattle.anyk_model.specs.BestList.{list_of}
 use Rattle.tdp_core.specs.AnswerView.{AnswerView}
 use Rattle.witness_key.specs.WitnessKey.{AreCombinations, combinations_in}
 

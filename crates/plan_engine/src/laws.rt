@@ -8,7 +8,7 @@ ghost use Rattle.anyk_model.specs.Query.{Query};
 ghost use Rattle.anyk_model.specs.Ranking.{ranking_of};
 ghost use Rattle.tree_dp.specs.BestRanking.{IsBestRanking};
 ghost use Rattle.witness_key.specs.WitnessKey.{witness_key};
-ghost use Rattle.best_list.specs.BestList.{best_list};
+ghost use Rattle.anyk_model.specs.BestList.{best_list};
 ghost use Rattle.plan_engine.specs.BestKey.{RanksWitnesses};
 
 use rank_key::Rank;

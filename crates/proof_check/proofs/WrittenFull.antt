@@ -11,7 +11,7 @@ use Rattle.anyk_model.specs.Query.{IsWitness, Query}
 use Rattle.anyk_model.specs.Output.{cut}
 use Rattle.anyk_model.specs.Ranking.{IsBefore, Precedes, ranking_of}
 use Rattle.anyk_model.proofs.Exists.{ranking_is}
-use Rattle.anyk_model.proofs.Order.{before_irrefl}
+use Rattle.anyk_model.specs.ListOrder.{before_irrefl}
 use Rattle.bound_query.specs.Inside.{IsWithin}
 use Rattle.query_shape.specs.Shape.{HasTree}
 use Rattle.step_bounds.specs.Steps.{reaches}

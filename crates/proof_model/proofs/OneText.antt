@@ -12,7 +12,7 @@ use Rattle.anyk_model.specs.Table.{Table}
 use Rattle.anyk_model.specs.Query.{Query}
 use Rattle.anyk_model.specs.Output.{cut}
 use Rattle.anyk_model.specs.Ranking.{IsBefore, ranking_of}
-use Rattle.anyk_model.proofs.Order.{before_asym}
+use Rattle.anyk_model.specs.ListOrder.{before_asym}
 use Rattle.query_shape.specs.Shape.{Flaw, IsShape, Shape}
 use Rattle.query_shape.proofs.OneShape.{one_shape}
 use Rattle.proof_text.specs.Certificate.{AnswerLine, BoundLine, Certificate}

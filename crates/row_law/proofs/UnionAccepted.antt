@@ -4,8 +4,8 @@ use Rattle.std.specs.Prelude.{codes}
 use Rattle.rankings.specs.Order.{put_in, ranked}
 use Rattle.rank_key.specs.Bits.{bit_length, bits_within}
 use Rattle.step_bounds.specs.Steps.{cost}
-use Rattle.union_list.specs.TaggedRows.{Tagged}
-use Rattle.union_list.specs.Union.{members_in}
+use Rattle.anyk_model.specs.TaggedRows.{Tagged}
+use Rattle.anyk_model.specs.Union.{members_in}
 use Rattle.verdict.specs.Bound.{IsBounded}
 use Rattle.verdict.specs.AcceptedInput.{Found, found_of}
 use Rattle.verdict.specs.Loading.{Loaded, no_certificate, with_steps}

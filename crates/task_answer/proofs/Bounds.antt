@@ -12,9 +12,9 @@ use Rattle.outer_io.specs.Files.{Files}
 use Rattle.query_shape.specs.Shape.{Shape}
 use Rattle.refusal_lines.specs.Reason.{Reason}
 use Rattle.verdict.specs.SessionCalls.{session_reach}
-use Rattle.union_list.specs.TaggedRows.{Tagged, branch_at}
-use Rattle.union_list.specs.Union.{union_of}
-use Rattle.union_list.specs.UnionOutput.{union_output_of}
+use Rattle.anyk_model.specs.TaggedRows.{Tagged, branch_at}
+use Rattle.anyk_model.specs.Union.{union_of}
+use Rattle.anyk_model.specs.UnionOutput.{union_output_of}
 use Rattle.bound_query.specs.WeighedQuery.{BoundQuery}
 use Rattle.task_plan.specs.Input.{InputView, loaded_of}
 use Rattle.plan_build.specs.Plans.{ArePrepared, preparation_of}

@@ -11,8 +11,8 @@ use Rattle.query_shape.specs.Shape.{Shape}
 use Rattle.rank_key.specs.Bits.{bit_length}
 use Rattle.query_shape.specs.Report.{total_rows}
 use Rattle.step_bounds.specs.RunBounds.{IsPrepared, cost_over}
-use Rattle.union_list.specs.TaggedRows.{Tagged}
-use Rattle.union_list.specs.Union.{members_in}
+use Rattle.anyk_model.specs.TaggedRows.{Tagged}
+use Rattle.anyk_model.specs.Union.{members_in}
 use Rattle.verdict.specs.UnionBound.{HaveShapes, union_cost}
 
 prepared_cost : (l t b x : ℕ) → t ≤ b → 16 * (l * l * (1 + t)) ≤ 64 * (l * l) * (1 + b + x)

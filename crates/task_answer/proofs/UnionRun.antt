@@ -28,9 +28,9 @@ use Rattle.tdp_core.specs.Shares.{share_of, size_of}
 use Rattle.tdp_core.specs.WellFormed.{IsTieFreeTree}
 use Rattle.rankings.specs.KeyTuple.{KeyOf}
 use Rattle.union_all.specs.Merge.{AreBegun, EngineView, HasCalled, rests_of}
-use Rattle.union_list.specs.TaggedRows.{Tagged, branch_at}
-use Rattle.union_list.specs.Union.{left_of, members_in, union_of}
-use Rattle.union_list.proofs.Unions.{rankings_union, union_is}
+use Rattle.anyk_model.specs.TaggedRows.{Tagged, branch_at}
+use Rattle.anyk_model.specs.Union.{left_of, members_in, union_of}
+use Rattle.anyk_model.proofs.Unions.{rankings_union, union_is}
 use Rattle.verdict.specs.AcceptedInput.{queries_in}
 use Rattle.verdict.specs.UnionBound.{HaveShapes, union_cost}
 use Rattle.task_answer.specs.Begun.{AreStarted, IsStarted, start_of, starts_of}

@@ -2,7 +2,7 @@
 ghost use Rattle.std.specs.Prelude.{[], ℕ};
 ghost use Rattle.anyk_model.specs.Output.{cut};
 ghost use Rattle.answer_print.specs.StyleView.{style_view};
-ghost use Rattle.best_list.specs.BestList.{list_of};
+ghost use Rattle.anyk_model.specs.BestList.{list_of};
 ghost use Rattle.plan_build.specs.Plan.{IsPlanOf};
 ghost use Rattle.bound_query.specs.WeighedQuery.{Fits};
 ghost use Rattle.refusal_lines.specs.Printing.{Printed};

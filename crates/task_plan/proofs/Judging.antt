@@ -8,7 +8,7 @@ use Rattle.anyk_model.specs.Table.{Table}
 use Rattle.outer_io.specs.Files.{Files}
 use Rattle.bound_query.specs.WeighedQuery.{BoundQuery}
 use Rattle.query_shape.specs.Shape.{Shape}
-use Rattle.union_list.specs.TaggedRows.{branch_at}
+use Rattle.anyk_model.specs.TaggedRows.{branch_at}
 use Rattle.task_plan.specs.Input.{InputView, loaded_of}
 use Rattle.task_plan.specs.Turns.{IsTurn}
 use Rattle.plan_build.specs.Plans.{ArePrepared, preparation_of}

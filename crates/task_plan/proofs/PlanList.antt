@@ -29,7 +29,7 @@ use Rattle.refusal_lines.specs.Reason.{Reason}
 use Rattle.session_script.specs.declared.step.Step.{Step}
 use Rattle.step_bounds.specs.RunBounds.{IsPrepared}
 use Rattle.rankings.specs.KeyTuple.{KeyOf}
-use Rattle.union_list.specs.TaggedRows.{HaveKeys}
+use Rattle.anyk_model.specs.TaggedRows.{HaveKeys}
 use Rattle.task_plan.specs.Input.{InputView, loaded_of}
 use Rattle.verdict.specs.Faults.{of_shape}
 use Rattle.verdict.specs.AcceptedInput.{found_of, queries_in}

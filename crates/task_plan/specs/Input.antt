@@ -6,7 +6,7 @@ use Rattle.bound_query.specs.WeighedQuery.{BoundQuery, Fits}
 use Rattle.proof_text.specs.Certificate.{Certificate}
 use Rattle.session_script.specs.declared.step.Step.{Step}
 use Rattle.session_script.specs.Script.{KeepsRules}
-use Rattle.union_list.specs.TaggedRows.{HaveKeys}
+use Rattle.anyk_model.specs.TaggedRows.{HaveKeys}
 use Rattle.verdict.specs.AcceptedInput.{queries_in}
 use Rattle.verdict.specs.Loading.{Loaded}
 

@@ -7,7 +7,7 @@ use Rattle.anyk_model.specs.Table.{Table}
 use Rattle.anyk_model.specs.Query.{IsCombination, Query, rank_of, row_counts}
 use Rattle.anyk_model.specs.Ranking.{is_before}
 use Rattle.bound_query.specs.WeighedQuery.{BoundQuery, Fits}
-use Rattle.union_list.specs.TaggedRows.{branch_at}
+use Rattle.anyk_model.specs.TaggedRows.{branch_at}
 use Rattle.union_all.specs.Merge.{AreBranches, BranchView, lists_of, queries_of}
 
 -- the sums of the rows of a query's items as they are compared

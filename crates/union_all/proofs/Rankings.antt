@@ -7,7 +7,7 @@ use Rattle.anyk_model.specs.Ranking.{Precedes, ranking_of}
 use Rattle.anyk_model.proofs.Exists.{ranking_is}
 use Rattle.rankings.specs.Order.{IsAscending, IsMember}
 use Rattle.std.proofs.Common.{inl, inr}
-use Rattle.union_list.specs.TaggedRows.{branch_at}
+use Rattle.anyk_model.specs.TaggedRows.{branch_at}
 use Rattle.union_all.specs.Merge.{AreLeft}
 
 -- each witness is a combination

@@ -4,8 +4,8 @@ use Rattle.std.proofs.lemmas.Bool.{cases_eq, false≢true}
 use Rattle.anyk_model.specs.Table.{Table}
 use Rattle.anyk_model.specs.Query.{Query}
 use Rattle.anyk_model.specs.Ranking.{IsBefore, is_before}
-use Rattle.anyk_model.proofs.Exists.{Compared, before, same, after, before_trans, compare}
-use Rattle.union_list.specs.TaggedRows.{StandsBefore, sums_of}
+use Rattle.anyk_model.specs.ListOrder.{Compared, before, same, after, before_trans, compare}
+use Rattle.anyk_model.specs.TaggedRows.{StandsBefore, sums_of}
 use Rattle.union_all.specs.Firsts.{HasFirst, IsFirst}
 
 -- of two lists the first one is before the other, or it is not

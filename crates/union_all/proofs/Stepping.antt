@@ -9,9 +9,9 @@ use Rattle.std.proofs.Math.Seq.{map-set_same}
 use Rattle.anyk_model.specs.Table.{Table}
 use Rattle.anyk_model.specs.Query.{IsCombination, Query, row_counts}
 use Rattle.bound_query.specs.WeighedQuery.{BoundQuery, Fits}
-use Rattle.union_list.specs.TaggedRows.{Tagged, branch_at, tagged}
-use Rattle.union_list.specs.Union.{left_of}
-use Rattle.union_list.proofs.Merging.{merge_end, merge_step, some_list, tail_up}
+use Rattle.anyk_model.specs.TaggedRows.{Tagged, branch_at, tagged}
+use Rattle.anyk_model.specs.Union.{left_of}
+use Rattle.anyk_model.proofs.Merging.{merge_end, merge_step, some_list, tail_up}
 use Rattle.union_all.specs.Firsts.{HasFirst}
 use Rattle.union_all.specs.Merge.{AreBranches, AreLeft, BranchView, EngineView, HasCalled, IsCalled, MergeView, engine_at, engines_of, lists_of, queries_of}
 use Rattle.union_all.proofs.Branches.{list_at}

@@ -9,8 +9,8 @@ use Rattle.anyk_model.specs.Query.{IsCombination, Item, OrderKey, Query, row_cou
 use Rattle.anyk_model.specs.Output.{Style, line_fields, optional_field}
 use Rattle.bound_query.specs.WeighedQuery.{BoundQuery, Fits}
 use Rattle.anyk_model.proofs.Combinations.{combination_length}
-use Rattle.union_list.specs.TaggedRows.{branch_at, tagged}
-use Rattle.union_list.specs.UnionOutput.{most_items, union_line_fields, without_rows}
+use Rattle.anyk_model.specs.TaggedRows.{branch_at, tagged}
+use Rattle.anyk_model.specs.UnionOutput.{most_items, union_line_fields, without_rows}
 
 -- # A query of several
 

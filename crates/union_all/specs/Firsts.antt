@@ -2,7 +2,7 @@
 use Rattle.std.specs.Prelude.{◌≡◌, ◌≢◌, ◌<◌, ℕ, Option, None, Some, List, [], ◌∷◌, get_or, length, take}
 use Rattle.anyk_model.specs.Table.{Table}
 use Rattle.anyk_model.specs.Query.{Query}
-use Rattle.union_list.specs.TaggedRows.{StandsBefore, Tagged, branch_at, tagged}
+use Rattle.anyk_model.specs.TaggedRows.{StandsBefore, Tagged, branch_at, tagged}
 use Rattle.union_all.specs.declared.tagged.Tagged as stored
 
 -- what contracts see of a stored member: its rows are those of the branch's items

@@ -6,8 +6,8 @@ use Rattle.anyk_model.specs.Query.{IsCombination, Query, row_counts}
 use Rattle.bound_query.specs.WeighedQuery.{BoundQuery, Fits}
 use Rattle.tdp_core.specs.AnswerView.{AnswerView, counted}
 use Rattle.witness_key.specs.WitnessKey.{combinations_in}
-use Rattle.union_list.specs.TaggedRows.{Tagged, branch_at}
-use Rattle.union_list.specs.Union.{AreAscending}
+use Rattle.anyk_model.specs.TaggedRows.{Tagged, branch_at}
+use Rattle.anyk_model.specs.Union.{AreAscending}
 
 -- an engine: the number of calls so far, the greatest number of steps of the next call, and what a
 -- bound on the steps depends on beside the calls

@@ -5,7 +5,7 @@ ghost use Rattle.anyk_model.specs.Output.{numbered};
 ghost use Rattle.bound_query.specs.WeighedQuery.{Fits};
 ghost use Rattle.csv_tables.specs.WrittenRecords.{HasFields};
 ghost use Rattle.answer_print.specs.StyleView.{style_view};
-ghost use Rattle.union_list.specs.UnionOutput as output;
+ghost use Rattle.anyk_model.specs.UnionOutput as output;
 
 use answer_print::{Style, push_names, push_numbered, push_optional, title_of_cursor};
 use bound_query::Query;

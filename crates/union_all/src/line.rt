@@ -6,8 +6,8 @@ ghost use Rattle.anyk_model.specs.Query.{IsCombination, row_counts, sum_of};
 ghost use Rattle.bound_query.specs.WeighedQuery.{Fits};
 ghost use Rattle.csv_tables.specs.WrittenRecords.{HasFields};
 ghost use Rattle.answer_print.specs.StyleView.{style_view};
-ghost use Rattle.union_list.specs.TaggedRows.{branch_at};
-ghost use Rattle.union_list.specs.UnionOutput as output;
+ghost use Rattle.anyk_model.specs.TaggedRows.{branch_at};
+ghost use Rattle.anyk_model.specs.UnionOutput as output;
 ghost use Rattle.union_all.specs.Firsts.{tagged_view};
 ghost use Rattle.union_all.specs.Rows.{HasRows, rows_of};
 

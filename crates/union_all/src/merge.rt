@@ -2,8 +2,8 @@
 ghost use Rattle.std.specs.Prelude.{◌≡◌, ◌+◌, ◌≤◌, [], ◌∷◌, List, length, map, IfOk, IfSome, IfNone, OnErr, OnOk};
 ghost use Rattle.std.specs.List.{All, sum_by};
 ghost use Rattle.bound_query.specs.WeighedQuery.{Fits};
-ghost use Rattle.union_list.specs.TaggedRows as union;
-ghost use Rattle.union_list.specs.Union.{left_of};
+ghost use Rattle.anyk_model.specs.TaggedRows as union;
+ghost use Rattle.anyk_model.specs.Union.{left_of};
 ghost use Rattle.union_all.specs.Firsts.{tagged_view};
 ghost use Rattle.union_all.specs.Merge.{AreBegun, AreLeft, HaveBegun, IsCalled, rests_of};
 
@@ -27,7 +27,7 @@ pub struct Merge<'q, E: Ranked> {
 }
 
 impl<'q, E: Ranked> Model for Merge<'q, E> {
-    ghost use Rattle.union_list.specs.Union.{left_of};
+    ghost use Rattle.anyk_model.specs.Union.{left_of};
     ghost use Rattle.union_all.specs.Merge.{AreBranches, MergeView, engines_of, lists_of, queries_of};
 
     ghost Value = { MergeView };

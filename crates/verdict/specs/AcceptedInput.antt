@@ -6,7 +6,7 @@ use Rattle.bound_query.specs.WeighedQuery.{BoundQuery}
 use Rattle.query_shape.specs.Shape.{Shape}
 use Rattle.session_script.specs.declared.step.Step.{Step}
 use Rattle.proof_text.specs.Certificate.{Certificate}
-use Rattle.union_list.specs.TaggedRows.{branch_at}
+use Rattle.anyk_model.specs.TaggedRows.{branch_at}
 use Rattle.verdict.specs.Loading.{Loaded}
 
 pub record Found : Type 0 where

@@ -1,13 +1,13 @@
 -- The complete output of an accepted input.
 use Rattle.std.specs.Prelude.{◌≡◌, ℕ, List, None, if◌then◌else◌}
 use Rattle.anyk_model.specs.Output.{Style, output_of, cut}
-use Rattle.best_list.specs.BestList.{list_of}
+use Rattle.anyk_model.specs.BestList.{list_of}
 use Rattle.query_shape.specs.Report.{report_of}
 use Rattle.proof_model.specs.ProofTexts.{IsProofText}
 use Rattle.verdict.specs.Words.{Words, Command, run, plan, session, load, prove, verify}
-use Rattle.union_list.specs.TaggedRows.{Tagged}
-use Rattle.union_list.specs.Union.{union_of}
-use Rattle.union_list.specs.UnionOutput.{union_output_of}
+use Rattle.anyk_model.specs.TaggedRows.{Tagged}
+use Rattle.anyk_model.specs.Union.{union_of}
+use Rattle.anyk_model.specs.UnionOutput.{union_output_of}
 use Rattle.verdict.specs.AcceptedInput.{Found, is_union, query_of, structure_of}
 use Rattle.verdict.specs.Session.{session_text}
 use Rattle.verdict.specs.Summary.{summary_text}

@@ -6,9 +6,9 @@ use Rattle.anyk_model.specs.Query.{Query}
 use Rattle.query_shape.specs.Shape.{IsShape, Shape}
 use Rattle.step_bounds.specs.RunBounds.{cost_over}
 use Rattle.step_bounds.specs.Steps.{whole_lines}
-use Rattle.union_list.specs.TaggedRows.{Tagged}
-use Rattle.union_list.specs.Union.{members_in}
-use Rattle.union_list.specs.UnionOutput.{union_header_text, union_line_text}
+use Rattle.anyk_model.specs.TaggedRows.{Tagged}
+use Rattle.anyk_model.specs.Union.{members_in}
+use Rattle.anyk_model.specs.UnionOutput.{union_header_text, union_line_text}
 
 -- the sum over the branches, of which the first has the number b, of the bound for as many calls as
 -- the branch has members in the list, and one more

@@ -4,8 +4,8 @@ use Rattle.bound_query.specs.WeighedQuery.{BoundQuery}
 use Rattle.refusal_lines.specs.declared.fault.PrintFault.TheVariants as fault
 use Rattle.step_bounds.proofs.Calls.{limit_below, limit_reached, limit_within}
 use Rattle.refusal_lines.proofs.Prints.{appends_nothing}
-use Rattle.union_list.specs.TaggedRows.{tagged}
-use Rattle.union_list.specs.UnionOutput.{union_line_text}
+use Rattle.anyk_model.specs.TaggedRows.{tagged}
+use Rattle.anyk_model.specs.UnionOutput.{union_line_text}
 use Rattle.command_output.proofs.Given.{cut_short, first_left, printed_all, printed_limit, stopped_short}
 use Rattle.command_output.specs.UnionSteps.{IsMember}
 use Rattle.command_output.proofs.UnionMembers.{itself, none_printed, paced_next, paced_same, printed_more, seen_by}

@@ -2,7 +2,7 @@ use Rattle.std.proofs.Common.{map}
 use Rattle.answer_print.specs.StyleView.{style_view}
 use Rattle.bound_query.specs.WeighedQuery.{BoundQuery}
 use Rattle.refusal_lines.specs.SinkState.{state_of}
-use Rattle.union_list.specs.UnionOutput.{union_line_text}
+use Rattle.anyk_model.specs.UnionOutput.{union_line_text}
 use Rattle.command_output.proofs.UnionMembers.{HasPrinted}
 use Rattle.command_output.proofs.union.print_members.Given as goal
 

@@ -5,9 +5,9 @@ use Rattle.refusal_lines.proofs.Prints.{printed_some}
 use Rattle.refusal_lines.specs.SinkState.{state_of}
 use Rattle.task_plan.specs.Input.{InputView, loaded_of}
 use Rattle.plan_build.specs.Plans.{ArePrepared, HavePlans}
-use Rattle.union_list.specs.TaggedRows.{branch_at}
-use Rattle.union_list.specs.Union.{union_of}
-use Rattle.union_list.specs.UnionOutput.{union_output_of}
+use Rattle.anyk_model.specs.TaggedRows.{branch_at}
+use Rattle.anyk_model.specs.Union.{union_of}
+use Rattle.anyk_model.specs.UnionOutput.{union_output_of}
 use Rattle.verdict.specs.AcceptedInput.{found_of, queries_in}
 use Rattle.verdict.specs.Output.{HasOutput}
 use Rattle.verdict.specs.UnionBound.{KeepsUnionPace}

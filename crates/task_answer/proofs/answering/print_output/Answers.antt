@@ -1,7 +1,7 @@
 use Rattle.std.proofs.Common.{◌≡◌, ℕ, None, Option, ap, arith, refl, subst}
 use Rattle.anyk_model.specs.Output.{Style, cut, output_of}
 use Rattle.answer_print.specs.StyleView.{style_view}
-use Rattle.best_list.specs.BestList.{list_of}
+use Rattle.anyk_model.specs.BestList.{list_of}
 use Rattle.plan_build.specs.Plan.{IsPlanOf, shape_of}
 use Rattle.refusal_lines.proofs.Prints.{printed_some}
 use Rattle.step_bounds.specs.RunBounds.{IsPrepared, KeepsPace}

@@ -1,5 +1,5 @@
 use Rattle.std.proofs.Common.{◌≡◌, ◌≤◌, ◌+◌, ◌-◌, ◌*◌, ℕ, Err, arith, rules}
-use Rattle.best_list.specs.BestList.{list_of}
+use Rattle.anyk_model.specs.BestList.{list_of}
 use Rattle.plan_engine.specs.Engines.{calls_of, tree_of}
 use Rattle.refusal_lines.specs.declared.fault.PrintFault.TheVariants as fault
 use Rattle.refusal_lines.proofs.Prints.{unprinted}

@@ -6,8 +6,8 @@ use Rattle.refusal_lines.specs.declared.fault.PrintFault.TheVariants as fault
 use Rattle.refusal_lines.proofs.Prints.{unprinted}
 use Rattle.union_all.specs.Merge.{AreLeft, rests_of}
 use Rattle.union_all.proofs.Rankings.{rankings_left}
-use Rattle.union_list.specs.TaggedRows.{Tagged, branch_at}
-use Rattle.union_list.specs.Union.{left_of, union_of}
+use Rattle.anyk_model.specs.TaggedRows.{Tagged, branch_at}
+use Rattle.anyk_model.specs.Union.{left_of, union_of}
 use Rattle.verdict.specs.AcceptedInput.{queries_in}
 use Rattle.task_answer.proofs.UnionRun.{called_any, due_any, engines_same, first_limit, prepared_any, rests_are}
 use Rattle.task_answer.proofs.UnionRun.{started_any, tie_free_lem, union_left, union_members}

@@ -1,5 +1,5 @@
 use Rattle.std.proofs.Common.{◌≡◌, ◌<◌, ◌+◌, ◌∙◌, ℕ, Option, Some, if◌then◌else◌, length, sym, ap, subst, arith}
-use Rattle.union_list.specs.TaggedRows.{branch_at}
+use Rattle.anyk_model.specs.TaggedRows.{branch_at}
 use Rattle.union_all.specs.Firsts.{IsFirst}
 use Rattle.union_all.specs.Merge.{lists_of, queries_of}
 use Rattle.bound_query.specs.WeighedQuery.{BoundQuery}

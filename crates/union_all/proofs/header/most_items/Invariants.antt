@@ -1,5 +1,5 @@
 use Rattle.std.proofs.Common.{◌≡◌, ◌≤◌, map, take}
-use Rattle.union_list.specs.UnionOutput.{most_items}
+use Rattle.anyk_model.specs.UnionOutput.{most_items}
 use Rattle.union_all.proofs.header.most_items.Given as goal
 
 abbrev pub invariant-loop-query : goal.invariant-loop-query

@@ -1,6 +1,6 @@
 use Rattle.std.proofs.Common.{◌∙◌, List, map, sym, ap}
 use Rattle.anyk_model.specs.Query.{Query}
-use Rattle.union_list.specs.Union.{left_of}
+use Rattle.anyk_model.specs.Union.{left_of}
 use Rattle.union_all.specs.Merge.{BranchView, rests_of}
 use Rattle.union_all.proofs.Begun.{all_branches, same_queries}
 use Rattle.union_all.proofs.merge.Merge.new.Goals as goal

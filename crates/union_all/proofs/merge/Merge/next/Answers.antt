@@ -1,8 +1,8 @@
 use Rattle.std.proofs.Common.{◌≡◌, ◌∙◌, ◌∷◌, [], None, List, get_or, length, slice_set, take, refl, sym, ap, subst, arith}
 use Rattle.std.proofs.lemmas.List.{length-map}
 use Rattle.anyk_model.specs.Query.{Query}
-use Rattle.union_list.specs.TaggedRows as union
-use Rattle.union_list.specs.Union.{left_of}
+use Rattle.anyk_model.specs.TaggedRows as union
+use Rattle.anyk_model.specs.Union.{left_of}
 use Rattle.union_all.specs.Firsts.{HasFirst, IsFirst, tagged_view}
 use Rattle.union_all.specs.Merge.{AreBranches, BranchView, IsCalled, MergeView, lists_of, queries_of}
 use Rattle.union_all.proofs.Branches.{list_at, query_at}

@@ -1,4 +1,0 @@
-pub mod Best
-pub mod Filtered
-pub mod Least
-mod Rows

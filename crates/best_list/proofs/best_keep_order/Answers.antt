@@ -1,7 +1,0 @@
-use Rattle.anyk_model.specs.Ranking.{Precedes, ranking_of}
-use Rattle.anyk_model.proofs.Exists.{ranking_is}
-use Rattle.best_list.proofs.Best.{best_ascending}
-use Rattle.best_list.proofs.best_keep_order.Goals as goal
-
-pub returns : goal.returns
-returns c = λ query tables item. best_ascending (Precedes query tables) item (ranking_of query tables) (ranking_is query tables).ascending

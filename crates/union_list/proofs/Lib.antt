@@ -1,4 +1,0 @@
-pub mod Keys
-pub mod Unions
-pub mod Merging
-mod Rows

@@ -1,4 +1,0 @@
-pub mod TaggedRows
-pub mod TaggedOrder
-pub mod Union
-pub mod UnionOutput
