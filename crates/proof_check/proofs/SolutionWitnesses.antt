@@ -14,9 +14,9 @@ use Rattle.bound_query.specs.Inside.{IsWithin}
 use Rattle.query_shape.specs.Shape.{HasTree}
 use Rattle.witness_key.specs.WitnessKey.{witness_key}
 use Rattle.witness_key.proofs.Rankings.{keys_of_ranking}
-use Rattle.tree_witnesses.specs.Laws.{item_key}
-use Rattle.tree_witnesses.proofs.TreeWitnesses.{links_iff, nodes_add}
-use Rattle.tree_witnesses.proofs.WitnessRows.{combination_of_each, each_of_combination, length_of_combination}
+use Rattle.witness_key.specs.Laws.{item_key}
+use Rattle.witness_key.proofs.TreeWitnesses.{links_iff, nodes_add}
+use Rattle.witness_key.proofs.WitnessRows.{combination_of_each, each_of_combination, length_of_combination}
 use Rattle.proof_model.specs.FirstAnswers.{IsSolutionKey}
 use Rattle.proof_model.specs.Laws.{IsProblem}
 use Rattle.proof_model.specs.Problem.{Problem, IsSolutionAt, key_at, place_in, row_in, size}

@@ -3,3 +3,8 @@ pub mod Orders
 pub mod Rankings
 pub mod Rows
 pub mod Combinations
+pub mod WitnessSums
+pub mod WitnessKeys
+pub mod WitnessTrees
+pub mod WitnessRows
+pub mod TreeWitnesses

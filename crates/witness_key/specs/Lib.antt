@@ -1,1 +1,2 @@
 pub mod WitnessKey
+pub mod Laws

@@ -1,6 +1,13 @@
-//! A query's own keys, and the keys of ranks. A rank has room for more sums and more rows than a
-//! query has, and what is left of it is 0 in every witness of one query. So ranks are in the order
-//! of the query's own keys.
+//! The witnesses of a query by the keys of ranks, and by the rows of the nodes of a join tree. No
+//! code.
+//!
+//! A rank has room for more sums and more rows than a query has, and what is left of it is 0 in
+//! every witness of one query. So ranks are in the order of the query's own keys.
+//!
+//! Rows that pass, and that agree along each link of a join tree, agree wherever they have a
+//! variable in common: that is what makes an acyclic query easy (Beeri, Fagin, Maier and
+//! Yannakakis, "On the desirability of acyclic database schemes", 1983). So they are a witness, and
+//! their keys add up to its key.
 #![tactic(auto)]
 
 ghost use Rattle.std.specs.Prelude.{◌≡◌, ◌≤◌, ◌↔◌, ℕ, List, length, map};
@@ -11,6 +18,10 @@ ghost use Rattle.anyk_model.specs.Table.{Table};
 ghost use Rattle.anyk_model.specs.Query.{IsCombination, Query, row_counts};
 ghost use Rattle.anyk_model.specs.Ranking.{Precedes, ranking_of};
 ghost use Rattle.witness_key.specs.WitnessKey.{AreCombinations, IsWitnessKey, answers_of_ranking, combinations_in, witness_key};
+
+mod tree_laws;
+
+pub use tree_laws::{keys_add_up, links_make_witnesses};
 
 /// The ranks of two combinations are in the order of the query's own keys.
 pub fn both_orders_agree()

@@ -14,11 +14,11 @@ use Rattle.bound_query.specs.Inside.{IsWithin}
 use Rattle.bound_query.proofs.Least.{at_member, least_iff, shared_along}
 use Rattle.bound_query.proofs.Witness.{linked_append, linked_back, witness_iff}
 use Rattle.witness_key.specs.WitnessKey.{witness_key}
-use Rattle.tree_witnesses.specs.Laws.{AgreeAlongLinks, item_key}
-use Rattle.tree_witnesses.proofs.WitnessKeys.{keys_add}
-use Rattle.tree_witnesses.proofs.WitnessRows.{numbered_again, other_number}
-use Rattle.tree_witnesses.proofs.WitnessSums.{IsOrderOf}
-use Rattle.tree_witnesses.proofs.WitnessTrees.{agree_anywhere}
+use Rattle.witness_key.specs.Laws.{AgreeAlongLinks, item_key}
+use Rattle.witness_key.proofs.WitnessKeys.{keys_add}
+use Rattle.witness_key.proofs.WitnessRows.{numbered_again, other_number}
+use Rattle.witness_key.proofs.WitnessSums.{IsOrderOf}
+use Rattle.witness_key.proofs.WitnessTrees.{agree_anywhere}
 
 module _ (query : Query) (tables : List Table) (graph : Hypergraph) (atoms parents : List ℕ)
     (of_query : IsGraphOf query graph)

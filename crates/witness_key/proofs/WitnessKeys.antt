@@ -18,7 +18,7 @@ use Rattle.rankings.proofs.KeyNumbers.{key_same, slot_of_lists, sum_of_add, sum_
 use Rattle.rankings.proofs.KeyTuples.{slot_of_add, slot_of_none}
 use Rattle.rank_key.specs.Keys.{row_key}
 use Rattle.witness_key.specs.WitnessKey.{witness_key}
-use Rattle.tree_witnesses.proofs.WitnessSums.{IsOrderOf, equal_test, other_test, total_one, total_reordered, total_same, total_zeros}
+use Rattle.witness_key.proofs.WitnessSums.{IsOrderOf, equal_test, other_test, total_one, total_reordered, total_same, total_zeros}
 
 -- ---- the components of a sum of keys
 

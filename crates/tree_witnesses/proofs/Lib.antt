@@ -1,5 +1,0 @@
-pub mod WitnessSums
-pub mod WitnessKeys
-pub mod WitnessTrees
-pub mod WitnessRows
-pub mod TreeWitnesses
