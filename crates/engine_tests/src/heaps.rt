@@ -1,8 +1,7 @@
 //! Entries leave heaps in order of rank.
 ghost use Rattle.std.specs.Prelude.{◌≡◌, ◌^◌, ◌≤◌, ◌<◌};
 
-use packed_rank::PackedRank;
-use rank_key::{LexRank, Rank, SumRank};
+use rank_key::{LexRank, PackedRank, Rank, SumRank};
 use std::alloc::Global;
 use std::marker::Brand;
 use std::sync::ledger::{Blank, Ledger};

@@ -1,8 +1,7 @@
 //! Ranks with one sum and with eight, and packed ones.
 ghost use Rattle.std.specs.Prelude.{◌≡◌, ◌≤◌, ◌<◌};
 
-use packed_rank::PackedRank;
-use rank_key::{LexRank, Rank, SumRank, bits};
+use rank_key::{LexRank, PackedRank, Rank, SumRank, bits};
 use std::marker::Brand;
 use std::process::Abort;
 use std::sync::ledger::{Blank, Ledger};

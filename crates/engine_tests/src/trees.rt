@@ -4,8 +4,7 @@ ghost use Rattle.tdp_core.specs.RawView.{row_total, shape_children};
 ghost use Rattle.tdp_core.specs.TreeView.{node_view, child_count, group_count, rows};
 
 use crate::small_tree::small_tree;
-use packed_rank::PackedRank;
-use rank_key::{Rank, SumRank};
+use rank_key::{PackedRank, Rank, SumRank};
 use std::alloc::Global;
 use std::marker::Brand;
 use std::sync::ledger::{Blank, Ledger};

@@ -4,8 +4,8 @@ use Rattle.std.specs.List.{AllByRecursion}
 use Rattle.rankings.specs.KeyTuple.{KeyOf}
 use Rattle.rankings.specs.KeyNumbers.{key_of_lists}
 use Rattle.rank_key.specs.declared.fixed_rank.FixedRank.{FixedRank}
-use Rattle.packed_rank.specs.declared.packed.PackedRank.{PackedRank}
-use Rattle.packed_rank.specs.Packed.{packed_key}
+use Rattle.rank_key.specs.declared.packed.PackedRank.{PackedRank}
+use Rattle.rank_key.specs.Packed.{packed_key}
 use Rattle.anyk_model.specs.Table.{Table}
 use Rattle.bound_query.specs.WeighedQuery.{BoundQuery}
 use Rattle.node_build.specs.Nodes.{CapsBelow}

@@ -11,8 +11,7 @@ ghost use Rattle.plan_build.specs.RankedPlan.{HasLeastRoom, HasRoom, IsRankedPla
 use crate::fault::PlanFault;
 use crate::plan::{Plan, prepare, prepare_at};
 use bound_query::Query;
-use packed_rank::PackedRank;
-use rank_key::{LexRank, MiddleSumRank, Rank, SmallLexRank, SumRank};
+use rank_key::{LexRank, MiddleSumRank, PackedRank, Rank, SmallLexRank, SumRank};
 use std::alloc::Global;
 use std::sync::ledger::Ledger;
 use step_counter::Steps;

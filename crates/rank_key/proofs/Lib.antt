@@ -6,3 +6,5 @@ pub mod KeyParts
 pub mod Padding
 pub mod Places
 pub mod RowKeys
+mod Adding
+mod RowNumbers

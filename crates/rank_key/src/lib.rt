@@ -8,14 +8,22 @@
 //! adding keeps it (Tziavelis et al., "Optimal Algorithms for Ranked Enumeration of Answers to Full
 //! Conjunctive Queries", PVLDB 2020): `rank_laws` states these laws for generic callers. The number
 //! of binary digits of a count, which bounds the steps of a heap, is here too.
+//!
+//! Most ranks are arrays of sums and slots. Those of one sum and four slots also come packed in one
+//! number of 128 bits. A key's numbers are digits of it, the sum first: joining is one addition,
+//! exchanging a part one subtraction and one addition, and comparing one comparison. That keys of
+//! digits are compared as numbers is the base of radix sorting (Knuth, "The Art of Computer
+//! Programming", volume 3, 5.2.5).
 #![tactic(auto)]
 
 mod binary_digits;
 mod fixed_rank;
+mod packed;
 mod rank;
 mod sum;
 
 pub use binary_digits::bits;
 pub use fixed_rank::{FixedRank, LexRank, MiddleSumRank, SmallLexRank, SumRank};
+pub use packed::PackedRank;
 pub use rank::{Rank, SLOTS};
 pub use sum::Sum;

@@ -2,10 +2,10 @@ use Rattle.std.proofs.Common.{◌≡◌, ◌^◌, ◌<◌, ◌+ℤ◌, ◌*ℤ�
 use Rattle.std.specs.Prelude.{unsigned_abs}
 use Rattle.std.specs.Int.{w128}
 use Rattle.std.proofs.lemmas.Int.{to_z-of_z}
-use Rattle.packed_rank.specs.Packed.{unit_of}
-use Rattle.packed_rank.proofs.Adding.{read, read_fits}
-use Rattle.packed_rank.proofs.RowNumbers.{first_small, key_of_row, sum_in_place_fits, row_in_place_fits, both_are, both_in_place_fit}
-use Rattle.packed_rank.proofs.packed.PackedRankRank.of_row.Goals as goal
+use Rattle.rank_key.specs.Packed.{unit_of}
+use Rattle.rank_key.proofs.Adding.{read, read_fits}
+use Rattle.rank_key.proofs.RowNumbers.{first_small, key_of_row, sum_in_place_fits, row_in_place_fits, both_are, both_in_place_fit}
+use Rattle.rank_key.proofs.packed.PackedRankRank.of_row.Goals as goal
 
 pub overflow_mul-number : goal.overflow_mul-number
 overflow_mul-number c =

@@ -3,9 +3,9 @@ use Rattle.std.specs.Prelude.{FitsSigned}
 use Rattle.std.specs.Int.{w128}
 use Rattle.rankings.specs.KeyTuple.{key_add}
 use Rattle.rank_key.proofs.KeyOrder.{rest_is}
-use Rattle.packed_rank.specs.Packed.{packed_key}
-use Rattle.packed_rank.proofs.Adding.{number_sum, number_rest, read, sum_read, difference_read, number_read, read_fits}
-use Rattle.packed_rank.proofs.packed.PackedRankRank.swap.Goals as goal
+use Rattle.rank_key.specs.Packed.{packed_key}
+use Rattle.rank_key.proofs.Adding.{number_sum, number_rest, read, sum_read, difference_read, number_read, read_fits}
+use Rattle.rank_key.proofs.packed.PackedRankRank.swap.Goals as goal
 
 pub overflow_sub-get : goal.overflow_sub-get
 overflow_sub-get g c =

@@ -12,9 +12,9 @@ use Rattle.rankings.specs.KeyTuple.{slot_of}
 use Rattle.rankings.specs.KeyNumbers.{sum_of}
 use Rattle.rankings.proofs.KeyNumbers.{slot_of_lists}
 use Rattle.rank_key.specs.Keys.{IsWithin, row_key}
-use Rattle.packed_rank.specs.Packed.{number_of, packed_key, unit_of}
-use Rattle.packed_rank.specs.Digits.{key_of_number}
-use Rattle.packed_rank.proofs.Adding.{read, number_read}
+use Rattle.rank_key.specs.Packed.{number_of, packed_key, unit_of}
+use Rattle.rank_key.specs.Digits.{key_of_number}
+use Rattle.rank_key.proofs.Adding.{read, number_read}
 
 module _ (row : ℕ) where
   number_is : (sum : ℤ) (slot : ℕ) → slot < 4 → number_of (row_key 1 (sum ∷ []) slot row) ≡ sum *ℤ pos (2 ^ 84) +ℤ pos row *ℤ unit_of slot

@@ -7,7 +7,7 @@ use Rattle.rankings.specs.KeyTuple.{KeyOf, slot_of}
 use Rattle.rankings.specs.KeyNumbers.{key_of_lists, sum_of}
 use Rattle.rankings.proofs.KeyNumbers.{key_same, slot_of_lists}
 use Rattle.rank_key.specs.Keys.{IsWithin}
-use Rattle.packed_rank.specs.Packed.{lifted, digits, packed_key, from_digits, number_of}
+use Rattle.rank_key.specs.Packed.{lifted, digits, packed_key, from_digits, number_of}
 
 -- a number of 128 bits with a sign, lifted
 pub lifted_is : (z : ℤ) → FitsSigned w128 z → pos (lifted z) ≡ z +ℤ pos (2 ^ 127)

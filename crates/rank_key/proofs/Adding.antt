@@ -6,8 +6,8 @@ use Rattle.std.specs.Int.{w128}
 use Rattle.std.proofs.lemmas.Int.{ints, to_z-of_z}
 use Rattle.rankings.specs.KeyTuple.{KeyOf, key_add, slot_of}
 use Rattle.rankings.specs.KeyNumbers.{sum_of}
-use Rattle.packed_rank.specs.Packed.{lifted, packed_key}
-use Rattle.packed_rank.specs.Digits.{lifted_is}
+use Rattle.rank_key.specs.Packed.{lifted, packed_key}
+use Rattle.rank_key.specs.Digits.{lifted_is}
 
 rests_add : (x y z : ℕ) → z / 2 ^ 63 ≡ x / 2 ^ 63 + y / 2 ^ 63 → z / 2 ^ 42 % 2 ^ 21 ≡ x / 2 ^ 42 % 2 ^ 21 + y / 2 ^ 42 % 2 ^ 21 → z / 2 ^ 21 % 2 ^ 21 ≡ x / 2 ^ 21 % 2 ^ 21 + y / 2 ^ 21 % 2 ^ 21
     → z % 2 ^ 21 ≡ x % 2 ^ 21 + y % 2 ^ 21 → z ≡ x + y

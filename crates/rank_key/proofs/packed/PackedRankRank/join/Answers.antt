@@ -1,9 +1,9 @@
 use Rattle.std.proofs.Common.{◌≡◌, ◌+ℤ◌, sym, ap, subst, ◌∙◌}
 use Rattle.std.specs.Prelude.{FitsSigned}
 use Rattle.std.specs.Int.{w128}
-use Rattle.packed_rank.specs.Packed.{packed_key}
-use Rattle.packed_rank.proofs.Adding.{number_sum, number_read, sum_read, read, read_fits}
-use Rattle.packed_rank.proofs.packed.PackedRankRank.join.Goals as goal
+use Rattle.rank_key.specs.Packed.{packed_key}
+use Rattle.rank_key.proofs.Adding.{number_sum, number_read, sum_read, read, read_fits}
+use Rattle.rank_key.proofs.packed.PackedRankRank.join.Goals as goal
 
 pub overflow_add-get : goal.overflow_add-get
 overflow_add-get g c =

@@ -1,11 +1,12 @@
-//! The rank: a number whose digits are a sum and four row numbers.
+//! The packed rank: a number whose digits are a sum and four row numbers.
 ghost use Rattle.std.specs.Prelude.{◌≡◌, ◌^◌, ◌<◌, pos, slice_index_or, FitsSigned};
 ghost use Rattle.std.specs.Int.{w128};
 ghost use Rattle.std.proofs.Common.{rules};
-ghost use Rattle.packed_rank.specs.Packed.{packed_key, number_of, unit_of};
-ghost use Rattle.packed_rank.specs.Digits.{number_fits, key_of_number};
+ghost use Rattle.rank_key.specs.Packed.{packed_key, number_of, unit_of};
+ghost use Rattle.rank_key.specs.Digits.{number_fits, key_of_number};
 
-use rank_key::{Rank, Sum};
+use crate::rank::Rank;
+use crate::sum::Sum;
 use std::sync::ledger::Ledger;
 use step_counter::Steps;
 
