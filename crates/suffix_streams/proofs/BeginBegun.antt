@@ -10,13 +10,13 @@ use Rattle.rankings.specs.KeyTuple.{KeyOf, key_below, key_none}
 use Rattle.rankings.specs.Product.{Pair, run_key}
 use Rattle.tdp_core.specs.TreeView.{NodeView, rows, members, group_count, group_named, child_count}
 use Rattle.tdp_core.specs.WellFormed.{IsFormed, IsTieFreeTree}
-use Rattle.stream_model.specs.Ahead.{IsAhead}
-use Rattle.stream_model.specs.QueueEntries.{IsHeld, places, InRuns}
-use Rattle.stream_model.specs.Reaches.{reaches}
-use Rattle.stream_model.specs.Links.{owned, place_in, IsLinkedAt}
+use Rattle.suffix_streams.specs.Ahead.{IsAhead}
+use Rattle.suffix_streams.specs.QueueEntries.{IsHeld, places, InRuns}
+use Rattle.suffix_streams.specs.Reaches.{reaches}
+use Rattle.suffix_streams.specs.Links.{owned, place_in, IsLinkedAt}
 use Rattle.suffix_streams.specs.declared.stream.Found.{Found}
 use Rattle.suffix_streams.specs.declared.stream.Solved.{Solved}
-use Rattle.stream_cells.specs.declared.source.Source.{Source}
+use Rattle.suffix_streams.specs.declared.source.Source.{Source}
 use Rattle.suffix_streams.specs.ProductView.{ProductView}
 use Rattle.suffix_streams.specs.NodeStreamsView.{NodeStreamsView, known_of}
 use Rattle.suffix_streams.specs.Rankings.{child, part_list, group_list}

@@ -6,15 +6,15 @@ use Rattle.std.proofs.lemmas.List.{length-map}
 use Rattle.stream_store.specs.declared.entry.Linked.{Linked}
 use Rattle.rankings.specs.KeyTuple.{KeyOf, key_none}
 use Rattle.tdp_core.specs.TreeView.{NodeView, group_count}
-use Rattle.stream_model.specs.Links.{owned, place_in}
-use Rattle.stream_model.proofs.Linking.{place_kept}
-use Rattle.stream_cells.specs.declared.cell.Cell.{Cell}
+use Rattle.suffix_streams.specs.Links.{owned, place_in}
+use Rattle.suffix_streams.proofs.Linking.{place_kept}
+use Rattle.suffix_streams.specs.declared.cell.Cell.{Cell}
 use Rattle.suffix_streams.specs.Firsts.{IsFirstCell}
 use Rattle.suffix_streams.specs.declared.stream.Found.{Found}
 use Rattle.suffix_streams.specs.StreamView.{StreamView}
 use Rattle.suffix_streams.specs.NodeStreamsView.{NodeStreamsView}
 use Rattle.suffix_streams.specs.Rankings.{group_list}
-use Rattle.stream_cells.specs.declared.source.Source.{Source}
+use Rattle.suffix_streams.specs.declared.source.Source.{Source}
 use Rattle.take2_heap.specs.declared.entry.Entry.{Entry}
 use Rattle.suffix_streams.specs.TreeStreams.{kept_of, node_list, group_list_of, next_list, node_of, group_of, place_of, next_of, lists_of, stream_of}
 use Rattle.suffix_streams.proofs.BeginOwners.{owned_by, owned_else, map_behind, get_before, get_behind, length_behind, get_past}

@@ -11,7 +11,7 @@ use Rattle.suffix_streams.specs.declared.stream.Found.{Found}
 use Rattle.suffix_streams.specs.StreamView.{StreamView}
 use Rattle.suffix_streams.specs.NodeStreamsView.{NodeStreamsView}
 use Rattle.suffix_streams.specs.Rankings.{part_list, group_list}
-use Rattle.stream_cells.specs.declared.source.Source.{Source}
+use Rattle.suffix_streams.specs.declared.source.Source.{Source}
 use Rattle.take2_heap.specs.declared.entry.Entry.{Entry}
 use Rattle.suffix_streams.specs.TreeStreams.{kept_of, lists_of}
 use Rattle.suffix_streams.specs.Beginnings.{HasFirst, IsEmptyNode, IsBegunFrom, IsBegunIn}

@@ -2,7 +2,7 @@
 use Rattle.std.proofs.Common.{◌≡◌, ◌≢◌, ℕ, zero, suc, ◌+◌, ◌<◌, ◌≤◌, cond, nat_eq, List, [], ◌∷◌, ◌++◌, map, length, take, get_or, refl, ap, ◌∙◌, inl, inr, arith}
 use Rattle.std.proofs.lemmas.Bool.{cases_eq}
 use Rattle.std.proofs.lemmas.Bool.Decides.{nat_tests}
-use Rattle.stream_model.specs.Links.{owned}
+use Rattle.suffix_streams.specs.Links.{owned}
 
 -- an entry's place is below the length of its stream
 pub owned_within : (vs gs : List ℕ) (i q g : ℕ) → length vs ≡ length gs → i < length vs → get_or vs i 0 ≡ q → get_or gs i 0 ≡ g → owned (take i vs) (take i gs) q g < owned vs gs q g

@@ -12,11 +12,11 @@ use Rattle.take2_heap.specs.declared.entry.Entry.{Entry}
 use Rattle.tdp_core.specs.TreeView.{NodeView, parent, item, number, members, group, rank, best}
 use Rattle.tdp_core.specs.WellFormed.{IsFormed, IsTieFreeTree}
 use Rattle.tdp_core.proofs.TreeFacts.{member_is_row, members_apart, tie_free_of}
-use Rattle.stream_model.specs.Ahead.{IsAhead}
-use Rattle.stream_model.specs.QueueEntries.{IsHeld, places, InRuns}
-use Rattle.stream_model.specs.Reaches.{reaches}
-use Rattle.stream_model.proofs.Held.{held_inside}
-use Rattle.stream_model.proofs.Begins.{members_begin}
+use Rattle.suffix_streams.specs.Ahead.{IsAhead}
+use Rattle.suffix_streams.specs.QueueEntries.{IsHeld, places, InRuns}
+use Rattle.suffix_streams.specs.Reaches.{reaches}
+use Rattle.suffix_streams.proofs.Held.{held_inside}
+use Rattle.suffix_streams.proofs.Begins.{members_begin}
 use Rattle.suffix_streams.proofs.BeginFirsts.{group_head, row_head}
 
 module _ {R T : Type 0} (d : ℕ) (key : R → KeyOf d 16) (t : List (NodeView R)) (formed : IsFormed d key t) (free : IsTieFreeTree t) (at : T → Pair) (q g : ℕ) where

@@ -5,7 +5,7 @@ use Rattle.stream_store.specs.declared.entry.Linked.{Linked}
 use Rattle.take2_heap.specs.declared.entry.Entry.{Entry}
 use Rattle.tdp_core.specs.TreeView.{NodeView, rows, child_count, group_count, group_named}
 use Rattle.rankings.specs.KeyTuple.{KeyOf, key_none}
-use Rattle.stream_model.specs.Links.{owned}
+use Rattle.suffix_streams.specs.Links.{owned}
 use Rattle.suffix_streams.specs.declared.stream.Found.{Found}
 use Rattle.suffix_streams.specs.declared.stream.Solved.{Solved}
 use Rattle.suffix_streams.specs.NodeStreamsView.{NodeStreamsView}

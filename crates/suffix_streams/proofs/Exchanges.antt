@@ -3,13 +3,13 @@ use Rattle.std.proofs.Common.{◌≡◌, ℕ, ◌<◌, Option, Some, None, IfSom
 use Rattle.std.proofs.lemmas.List.Elements.{All-get_or}
 use Rattle.rank_key.specs.Keys.{KeyFits, CanSwap}
 use Rattle.stream_store.specs.declared.entry.Linked.{Linked}
-use Rattle.stream_model.specs.QueueEntries.{IsHeld, InProduct}
+use Rattle.suffix_streams.specs.QueueEntries.{IsHeld, InProduct}
 use Rattle.take2_heap.specs.declared.entry.Entry.{Entry}
 use Rattle.tdp_core.specs.TreeView.{NodeView, rows, child_count, group_named}
 use Rattle.rankings.specs.KeyTuple.{KeyOf, key_add, key_none}
 use Rattle.rankings.specs.Product.{pair_key}
-use Rattle.stream_cells.specs.declared.cell.Cell.{Cell}
-use Rattle.stream_cells.specs.Cells.{cell_down}
+use Rattle.suffix_streams.specs.declared.cell.Cell.{Cell}
+use Rattle.suffix_streams.specs.Cells.{cell_down}
 use Rattle.suffix_streams.specs.declared.stream.Found.{Found}
 use Rattle.suffix_streams.specs.NodeStreamsView.{NodeStreamsView}
 use Rattle.suffix_streams.specs.Rankings.{child, part_list, group_list}

@@ -6,8 +6,8 @@ use Rattle.tdp_core.specs.WellFormed.{IsFormed, IsTieFreeTree}
 use Rattle.tdp_core.proofs.TreeFacts.{member_is_row}
 use Rattle.rankings.specs.KeyTuple.{KeyOf, key_add, key_none}
 use Rattle.rankings.specs.Product.{Pair}
-use Rattle.stream_cells.specs.declared.cell.Cell.{Cell}
-use Rattle.stream_cells.specs.declared.source.Source.{Source}
+use Rattle.suffix_streams.specs.declared.cell.Cell.{Cell}
+use Rattle.suffix_streams.specs.declared.source.Source.{Source}
 use Rattle.suffix_streams.specs.declared.stream.Found.{Found}
 use Rattle.suffix_streams.specs.NodeStreamsView.{NodeStreamsView}
 use Rattle.suffix_streams.specs.Rankings.{child, part_list, group_list}

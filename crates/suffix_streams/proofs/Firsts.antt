@@ -7,7 +7,7 @@ use Rattle.tdp_core.specs.WellFormed.{IsFormed, IsTieFreeTree}
 use Rattle.rankings.specs.KeyTuple.{KeyOf, key_add, key_none}
 use Rattle.rankings.specs.Product.{Pair}
 use Rattle.stream_store.specs.declared.entry.Linked.{Linked}
-use Rattle.stream_cells.specs.declared.cell.Cell.{Cell}
+use Rattle.suffix_streams.specs.declared.cell.Cell.{Cell}
 use Rattle.suffix_streams.specs.declared.stream.Found.{Found}
 use Rattle.suffix_streams.specs.NodeStreamsView.{NodeStreamsView}
 use Rattle.suffix_streams.specs.Rankings.{child, part_list, group_list}

@@ -10,13 +10,13 @@ use Rattle.rankings.specs.Remains.{Remains, total}
 use Rattle.rankings.specs.KeyTuple.{KeyOf, key_below, key_add, key_none}
 use Rattle.rankings.proofs.KeyNumbers.{at_most_not_less}
 use Rattle.rankings.specs.Product.{Pair, pair_key, stands_for, run_key}
-use Rattle.stream_model.specs.Offers.{offers}
-use Rattle.stream_model.specs.Ahead.{IsAhead}
-use Rattle.stream_model.specs.QueueEntries.{IsHeld, places, InProduct, InRuns}
-use Rattle.stream_model.specs.Reaches.{reaches, AreHeapOrdered}
-use Rattle.stream_model.proofs.Held.{MaybeHolds, held_inside}
-use Rattle.stream_model.proofs.Reaching.{few_entries}
-use Rattle.stream_model.proofs.Steps.{product_passes, product_shows, product_done, group_passes, group_shows, group_done, IsDown, IsAcross, IsNext, IsBelow}
+use Rattle.suffix_streams.specs.Offers.{offers}
+use Rattle.suffix_streams.specs.Ahead.{IsAhead}
+use Rattle.suffix_streams.specs.QueueEntries.{IsHeld, places, InProduct, InRuns}
+use Rattle.suffix_streams.specs.Reaches.{reaches, AreHeapOrdered}
+use Rattle.suffix_streams.proofs.Held.{MaybeHolds, held_inside}
+use Rattle.suffix_streams.proofs.Reaching.{few_entries}
+use Rattle.suffix_streams.proofs.Steps.{product_passes, product_shows, product_done, group_passes, group_shows, group_done, IsDown, IsAcross, IsNext, IsBelow}
 use Rattle.suffix_streams.specs.Frontiers.{IsFrontier, IsMerge}
 use Rattle.suffix_streams.proofs.State.{first_more, first_more_by, all_more, count_more}
 

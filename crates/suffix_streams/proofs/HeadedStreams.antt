@@ -1,7 +1,7 @@
 -- Streams whose first entries come one after another.
 use Rattle.std.proofs.Common.{◌≡◌, ℕ, zero, suc, ◌+◌, ◌<◌, List, [], ◌∷◌, ◌++◌, length, get_or, slice_set, refl, sym, ap, ◌∙◌, arith}
 use Rattle.take2_heap.specs.Heap.{Heap}
-use Rattle.stream_cells.specs.declared.source.Source.{Source}
+use Rattle.suffix_streams.specs.declared.source.Source.{Source}
 use Rattle.suffix_streams.specs.StreamView.{StreamView, headed, IsNextHead}
 
 module _ {R : Type 0} where

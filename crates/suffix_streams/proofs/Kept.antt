@@ -7,10 +7,10 @@ use Rattle.stream_store.specs.declared.entry.Linked.{Linked}
 use Rattle.tdp_core.specs.TreeView.{NodeView, members, group_named, child_count}
 use Rattle.rankings.specs.KeyTuple.{KeyOf, key_below, key_add, key_none}
 use Rattle.rankings.specs.Product.{Pair, pair_key, stands_for}
-use Rattle.stream_model.specs.Ahead.{IsAhead}
-use Rattle.stream_model.specs.QueueEntries.{InProduct}
-use Rattle.stream_cells.specs.declared.cell.Cell.{Cell}
-use Rattle.stream_cells.specs.declared.source.Source.{Source}
+use Rattle.suffix_streams.specs.Ahead.{IsAhead}
+use Rattle.suffix_streams.specs.QueueEntries.{InProduct}
+use Rattle.suffix_streams.specs.declared.cell.Cell.{Cell}
+use Rattle.suffix_streams.specs.declared.source.Source.{Source}
 use Rattle.suffix_streams.specs.declared.stream.Found.{Found}
 use Rattle.suffix_streams.specs.ProductView.{ProductView}
 use Rattle.suffix_streams.specs.StreamView.{StreamView}

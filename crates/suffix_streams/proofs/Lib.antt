@@ -1,3 +1,11 @@
+pub mod Passing
+pub mod Moves
+pub mod Held
+pub mod Reaching
+pub mod Single
+pub mod Steps
+pub mod Linking
+pub mod Begins
 pub mod Children
 pub mod Rankings
 pub mod State

@@ -16,13 +16,13 @@ use Rattle.rankings.specs.Order.{IsAscending}
 use Rattle.rankings.specs.Remains.{AtMost}
 use Rattle.rankings.specs.KeyTuple.{KeyOf, key_below, key_none}
 use Rattle.rankings.specs.Product.{Pair, run_key}
-use Rattle.stream_model.specs.Offers.{offers}
-use Rattle.stream_model.specs.QueueEntries.{IsHeld, InRuns}
-use Rattle.stream_model.specs.Links.{IsLinked}
-use Rattle.stream_model.specs.Reaches.{AreHeapOrdered}
-use Rattle.stream_model.proofs.Held.{MaybeHolds, all_offers, held_moved}
-use Rattle.stream_model.proofs.Steps.{IsNext, IsBelow}
-use Rattle.stream_cells.specs.declared.source.Source.{Source}
+use Rattle.suffix_streams.specs.Offers.{offers}
+use Rattle.suffix_streams.specs.QueueEntries.{IsHeld, InRuns}
+use Rattle.suffix_streams.specs.Links.{IsLinked}
+use Rattle.suffix_streams.specs.Reaches.{AreHeapOrdered}
+use Rattle.suffix_streams.proofs.Held.{MaybeHolds, all_offers, held_moved}
+use Rattle.suffix_streams.proofs.Steps.{IsNext, IsBelow}
+use Rattle.suffix_streams.specs.declared.source.Source.{Source}
 use Rattle.suffix_streams.specs.declared.stream.Found.{Found}
 use Rattle.suffix_streams.specs.ProductView.{ProductView}
 use Rattle.suffix_streams.specs.StreamView.{StreamView}

@@ -9,7 +9,7 @@ use Rattle.tdp_core.proofs.TreeFacts.{member_is_row}
 use Rattle.rankings.specs.Below.{is_below}
 use Rattle.rankings.specs.KeyTuple.{KeyOf}
 use Rattle.suffix_streams.specs.declared.stream.Found.{Found}
-use Rattle.stream_cells.specs.declared.source.Source.{Source}
+use Rattle.suffix_streams.specs.declared.source.Source.{Source}
 use Rattle.suffix_streams.specs.StreamView.{StreamView}
 use Rattle.suffix_streams.specs.NodeStreamsView.{NodeStreamsView, with_queue}
 use Rattle.suffix_streams.specs.TreeStreams.{lists_of, products_of, stream_of, part_known, row_known, node_of, group_of, node_size, IsStreams}

@@ -9,9 +9,9 @@ use Rattle.tdp_core.specs.WellFormed.{IsTieFreeTree}
 use Rattle.tdp_core.proofs.TreeFacts.{member_is_row}
 use Rattle.rankings.specs.KeyTuple.{KeyOf, key_add, key_none}
 use Rattle.rankings.specs.Product.{pair_key, run_key}
-use Rattle.stream_model.specs.QueueEntries.{IsHeld, InProduct, InRuns}
-use Rattle.stream_cells.specs.declared.cell.Cell.{Cell}
-use Rattle.stream_cells.specs.declared.source.Source.{Source}
+use Rattle.suffix_streams.specs.QueueEntries.{IsHeld, InProduct, InRuns}
+use Rattle.suffix_streams.specs.declared.cell.Cell.{Cell}
+use Rattle.suffix_streams.specs.declared.source.Source.{Source}
 use Rattle.suffix_streams.specs.declared.stream.Found.{Found}
 use Rattle.suffix_streams.specs.declared.stream.Solved.{Solved}
 use Rattle.suffix_streams.specs.NodeStreamsView.{NodeStreamsView}

@@ -8,10 +8,10 @@ use Rattle.take2_heap.specs.declared.entry.Entry.{Entry}
 use Rattle.take2_heap.specs.Order.{IsLeast}
 use Rattle.tdp_core.specs.TreeView.{NodeView, rows, child_count, group_named}
 use Rattle.rankings.specs.KeyTuple.{KeyOf}
-use Rattle.stream_model.specs.Offers.{offers}
-use Rattle.stream_cells.specs.declared.cell.Cell.{Cell}
+use Rattle.suffix_streams.specs.Offers.{offers}
+use Rattle.suffix_streams.specs.declared.cell.Cell.{Cell}
 use Rattle.suffix_streams.specs.declared.stream.Found.{Found}
-use Rattle.stream_cells.specs.Cells.{cell_down}
+use Rattle.suffix_streams.specs.Cells.{cell_down}
 use Rattle.suffix_streams.specs.ProductView.{ProductView, with_rank}
 use Rattle.suffix_streams.specs.NodeStreamsView.{NodeStreamsView, product_at, known_of, with_product}
 use Rattle.suffix_streams.specs.Rankings.{child, part_list, group_list}

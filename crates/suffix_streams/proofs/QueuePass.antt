@@ -10,10 +10,10 @@ use Rattle.tdp_core.specs.TreeView.{NodeView, rows, number, members, child_count
 use Rattle.tdp_core.specs.WellFormed.{IsTieFreeTree}
 use Rattle.rankings.specs.KeyTuple.{KeyOf, key_none}
 use Rattle.rankings.specs.Product.{run_key}
-use Rattle.stream_model.specs.Offers.{offers}
-use Rattle.stream_model.specs.QueueEntries.{IsHeld, InRuns}
-use Rattle.stream_model.specs.Links.{IsLinked}
-use Rattle.stream_cells.specs.declared.source.Source.{Source}
+use Rattle.suffix_streams.specs.Offers.{offers}
+use Rattle.suffix_streams.specs.QueueEntries.{IsHeld, InRuns}
+use Rattle.suffix_streams.specs.Links.{IsLinked}
+use Rattle.suffix_streams.specs.declared.source.Source.{Source}
 use Rattle.suffix_streams.specs.declared.stream.Found.{Found}
 use Rattle.suffix_streams.specs.declared.stream.Solved.{Solved}
 use Rattle.suffix_streams.specs.NodeStreamsView.{NodeStreamsView, with_queue}

@@ -2,7 +2,7 @@
 use Rattle.std.proofs.Common.{◌≡◌, ℕ, ◌<◌, List, [], ◌∷◌, ◌++◌, length, get_or, refl, sym, ap, ◌∙◌, subst, arith}
 use Rattle.take2_heap.specs.declared.entry.Entry.{Entry}
 use Rattle.rankings.specs.KeyTuple.{KeyOf, key_none}
-use Rattle.stream_cells.specs.declared.cell.Cell.{Cell}
+use Rattle.suffix_streams.specs.declared.cell.Cell.{Cell}
 use Rattle.suffix_streams.specs.ProductView.{ProductView, with_rank}
 use Rattle.suffix_streams.specs.Frontiers.{AreFirstBy}
 use Rattle.suffix_streams.specs.TreeStreams.{KeepsRanks}

@@ -3,14 +3,14 @@ use Rattle.std.proofs.Common.{◌≡◌, ℕ, suc, ◌+◌, ◌-◌, ◌<◌, Li
 use Rattle.std.proofs.lemmas.List.Elements.{All-get_or}
 use Rattle.rankings.specs.Order.{IsAscending}
 use Rattle.stream_store.specs.declared.entry.Linked.{Linked}
-use Rattle.stream_model.specs.QueueEntries.{IsHeld, InProduct}
-use Rattle.stream_model.proofs.Steps.{product_shows}
+use Rattle.suffix_streams.specs.QueueEntries.{IsHeld, InProduct}
+use Rattle.suffix_streams.proofs.Steps.{product_shows}
 use Rattle.take2_heap.specs.declared.entry.Entry.{Entry}
 use Rattle.take2_heap.specs.Order.{IsLeast}
 use Rattle.tdp_core.specs.TreeView.{NodeView, rows, group_named}
 use Rattle.rankings.specs.KeyTuple.{KeyOf, key_below, key_add, key_none}
 use Rattle.rankings.specs.Product.{Pair, pair_key}
-use Rattle.stream_cells.specs.declared.cell.Cell.{Cell}
+use Rattle.suffix_streams.specs.declared.cell.Cell.{Cell}
 use Rattle.suffix_streams.specs.declared.stream.Found.{Found}
 use Rattle.suffix_streams.specs.NodeStreamsView.{NodeStreamsView}
 use Rattle.suffix_streams.specs.Rankings.{child, part_list, group_list}

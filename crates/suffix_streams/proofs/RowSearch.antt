@@ -7,7 +7,7 @@ use Rattle.tdp_core.specs.TreeView.{NodeView, parent, rows, child_count, group_n
 use Rattle.rankings.specs.Below.{is_below}
 use Rattle.rankings.specs.KeyTuple.{KeyOf}
 use Rattle.suffix_streams.specs.declared.stream.Found.{Found}
-use Rattle.stream_cells.specs.declared.cell.Cell.{Cell}
+use Rattle.suffix_streams.specs.declared.cell.Cell.{Cell}
 use Rattle.suffix_streams.specs.ProductView.{ProductView}
 use Rattle.suffix_streams.specs.NodeStreamsView.{NodeStreamsView, HasHead, product_at, known_of}
 use Rattle.suffix_streams.specs.Rankings.{child}

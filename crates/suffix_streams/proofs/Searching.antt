@@ -10,16 +10,16 @@ use Rattle.tdp_core.specs.WellFormed.{IsFormed}
 use Rattle.rankings.specs.Below.{is_below}
 use Rattle.rankings.specs.KeyTuple.{KeyOf, key_below, key_add, key_none}
 use Rattle.rankings.specs.Product.{Pair, pair_key, stands_for, run_key}
-use Rattle.stream_model.specs.Reaches.{reaches}
+use Rattle.suffix_streams.specs.Reaches.{reaches}
 use Rattle.rankings.specs.Remains.{total}
 use Rattle.rankings.proofs.Removal.{none_left}
-use Rattle.stream_model.specs.Ahead.{IsAhead}
-use Rattle.stream_model.specs.QueueEntries.{IsHeld, places, InProduct, InRuns}
-use Rattle.stream_model.specs.Links.{IsLinkedAt}
-use Rattle.stream_model.proofs.Linking.{place_once}
-use Rattle.stream_cells.specs.declared.cell.Cell.{Cell}
+use Rattle.suffix_streams.specs.Ahead.{IsAhead}
+use Rattle.suffix_streams.specs.QueueEntries.{IsHeld, places, InProduct, InRuns}
+use Rattle.suffix_streams.specs.Links.{IsLinkedAt}
+use Rattle.suffix_streams.proofs.Linking.{place_once}
+use Rattle.suffix_streams.specs.declared.cell.Cell.{Cell}
 use Rattle.suffix_streams.specs.declared.stream.Found.{Found}
-use Rattle.stream_cells.specs.declared.source.Source.{Source}
+use Rattle.suffix_streams.specs.declared.source.Source.{Source}
 use Rattle.suffix_streams.specs.ProductView.{ProductView}
 use Rattle.suffix_streams.specs.NodeStreamsView.{NodeStreamsView, product_at, with_product}
 use Rattle.suffix_streams.specs.Rankings.{child, part_list, group_list}

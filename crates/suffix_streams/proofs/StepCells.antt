@@ -4,15 +4,15 @@ use Rattle.std.proofs.lemmas.List.Elements.{All-get_or}
 use Rattle.stream_store.specs.declared.entry.Linked.{Linked}
 use Rattle.std.specs.List.Sorted.{IsPermutation}
 use Rattle.std.proofs.lemmas.List.Sorted.{length_permutation}
-use Rattle.stream_model.specs.Offers.{offers}
+use Rattle.suffix_streams.specs.Offers.{offers}
 use Rattle.take2_heap.specs.declared.entry.Entry.{Entry}
 use Rattle.tdp_core.specs.TreeView.{NodeView, rows, child_count, group_named}
 use Rattle.rankings.specs.KeyTuple.{KeyOf}
-use Rattle.stream_model.specs.Links.{IsLinkedAt}
-use Rattle.stream_cells.specs.declared.cell.Cell.{Cell}
+use Rattle.suffix_streams.specs.Links.{IsLinkedAt}
+use Rattle.suffix_streams.specs.declared.cell.Cell.{Cell}
 use Rattle.suffix_streams.specs.declared.stream.Found.{Found}
 use Rattle.suffix_streams.specs.NodeStreamsView.{NodeStreamsView, HasHead, product_at, with_product}
-use Rattle.stream_cells.specs.Cells.{cell_down}
+use Rattle.suffix_streams.specs.Cells.{cell_down}
 use Rattle.suffix_streams.specs.Rankings.{child}
 use Rattle.suffix_streams.specs.TreeStreams.{node_list, group_list_of, node_of, group_of, lists_of, products_of, product_of, stream_of, part_known, IsStreamOf, IsStreams, IsCell, IsOffer}
 use Rattle.suffix_streams.specs.Growing.{IsAnswered}

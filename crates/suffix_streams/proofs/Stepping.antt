@@ -11,17 +11,17 @@ use Rattle.take2_heap.specs.Order.{IsLeast}
 use Rattle.tdp_core.specs.TreeView.{NodeView, rows, child_count, group_named}
 use Rattle.rankings.specs.KeyTuple.{KeyOf, key_add, key_none}
 use Rattle.rankings.specs.Product.{Pair, pair_key}
-use Rattle.stream_model.specs.Offers.{offers}
-use Rattle.stream_model.specs.QueueEntries.{IsHeld, InProduct}
-use Rattle.stream_model.specs.Links.{IsLinkedAt}
-use Rattle.stream_model.proofs.Held.{MaybeHolds, all_offers, held_moved}
-use Rattle.stream_model.proofs.Linking.{place_once}
-use Rattle.stream_model.proofs.Steps.{IsDown, IsAcross}
-use Rattle.stream_cells.specs.declared.cell.Cell.{Cell}
+use Rattle.suffix_streams.specs.Offers.{offers}
+use Rattle.suffix_streams.specs.QueueEntries.{IsHeld, InProduct}
+use Rattle.suffix_streams.specs.Links.{IsLinkedAt}
+use Rattle.suffix_streams.proofs.Held.{MaybeHolds, all_offers, held_moved}
+use Rattle.suffix_streams.proofs.Linking.{place_once}
+use Rattle.suffix_streams.proofs.Steps.{IsDown, IsAcross}
+use Rattle.suffix_streams.specs.declared.cell.Cell.{Cell}
 use Rattle.suffix_streams.specs.declared.stream.Found.{Found}
 use Rattle.suffix_streams.specs.ProductView.{ProductView, with_rank}
 use Rattle.suffix_streams.specs.NodeStreamsView.{NodeStreamsView, with_product}
-use Rattle.stream_cells.specs.Cells.{cell_down}
+use Rattle.suffix_streams.specs.Cells.{cell_down}
 use Rattle.suffix_streams.specs.Rankings.{child, part_list, group_list}
 use Rattle.suffix_streams.specs.Frontiers.{IsFrontier}
 use Rattle.suffix_streams.specs.TreeStreams.{KeepsRanks, node_list, group_list_of, node_of, group_of, place_of, next_of, lists_of, products_of, product_of, stream_of, part_known, pair_of, IsProductOf, IsStreamOf, IsStreams, IsOffer}

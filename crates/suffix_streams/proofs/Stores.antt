@@ -2,8 +2,8 @@
 use Rattle.std.proofs.Common.{◌≡◌, ◌≢◌, ℕ, zero, suc, ◌+◌, ◌<◌, ◌≤◌, ◌⊎◌, Option, Some, None, Bool, true, false, cond, nat_eq, List, [], ◌∷◌, ◌++◌, map, length, get_or, slice_set, refl, sym, ap, ◌∙◌, subst, inl, inr, arith}
 use Rattle.std.proofs.lemmas.Bool.{cases_lt, cases_eq, eq-eqb, ne_eqb}
 use Rattle.stream_store.specs.declared.entry.Linked.{Linked}
-use Rattle.stream_model.specs.Links.{place_in, IsLinked}
-use Rattle.stream_model.proofs.Linking.{link_kept, place_kept}
+use Rattle.suffix_streams.specs.Links.{place_in, IsLinked}
+use Rattle.suffix_streams.proofs.Linking.{link_kept, place_kept}
 use Rattle.suffix_streams.specs.declared.stream.Found.{Found}
 use Rattle.suffix_streams.specs.TreeStreams.{open_rows, node_list, group_list_of, next_list, node_of, group_of, place_of, next_of, stream, node_size}
 use Rattle.suffix_streams.specs.Growing.{IsStoreGrown}

@@ -8,7 +8,7 @@ use Rattle.rankings.specs.KeyTuple.{KeyOf, key_below, key_none}
 use Rattle.rankings.proofs.KeyTuples.{tuple_keys}
 use Rattle.take2_heap.specs.declared.entry.Entry.{Entry}
 use Rattle.tdp_core.specs.TreeView.{NodeView, group_count}
-use Rattle.stream_model.specs.Links.{IsLinkedAt}
+use Rattle.suffix_streams.specs.Links.{IsLinkedAt}
 use Rattle.suffix_streams.specs.declared.stream.Found.{Found}
 use Rattle.suffix_streams.specs.declared.stream.Solved.{Solved}
 use Rattle.suffix_streams.specs.NodeStreamsView.{NodeStreamsView, stream_at}

@@ -4,9 +4,9 @@ use Rattle.stream_store.specs.declared.entry.Linked.{Linked}
 use Rattle.take2_heap.specs.declared.entry.Entry.{Entry}
 use Rattle.tdp_core.specs.TreeView.{NodeView, group_count, child_count, rows}
 use Rattle.rankings.specs.KeyTuple.{KeyOf, key_none}
-use Rattle.stream_model.specs.Links.{owned}
+use Rattle.suffix_streams.specs.Links.{owned}
 use Rattle.suffix_streams.specs.declared.stream.Found.{Found}
-use Rattle.stream_cells.specs.declared.source.Source.{Source}
+use Rattle.suffix_streams.specs.declared.source.Source.{Source}
 use Rattle.suffix_streams.specs.NodeStreamsView.{NodeStreamsView}
 use Rattle.suffix_streams.specs.Firsts.{IsFirstOf}
 use Rattle.suffix_streams.specs.Rankings.{child, group_list}

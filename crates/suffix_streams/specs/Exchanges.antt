@@ -4,7 +4,7 @@ use Rattle.rank_key.specs.Keys.{CanSwap}
 use Rattle.stream_store.specs.declared.entry.Linked.{Linked}
 use Rattle.take2_heap.specs.declared.entry.Entry.{Entry}
 use Rattle.rankings.specs.KeyTuple.{KeyOf, key_add}
-use Rattle.stream_cells.specs.declared.cell.Cell.{Cell}
+use Rattle.suffix_streams.specs.declared.cell.Cell.{Cell}
 use Rattle.suffix_streams.specs.declared.stream.Found.{Found}
 use Rattle.suffix_streams.specs.TreeStreams.{HasKey}
 

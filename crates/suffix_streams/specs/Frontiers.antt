@@ -4,9 +4,9 @@ use Rattle.std.specs.List.{All}
 use Rattle.take2_heap.specs.declared.entry.Entry.{Entry}
 use Rattle.rankings.specs.KeyTuple.{KeyOf, key_below, key_add, key_none}
 use Rattle.rankings.specs.Product.{Pair, pair_key, stands_for, run_key}
-use Rattle.stream_model.specs.Ahead.{IsAhead}
-use Rattle.stream_model.specs.QueueEntries.{IsHeld, places, InProduct, InRuns}
-use Rattle.stream_model.specs.Reaches.{reaches}
+use Rattle.suffix_streams.specs.Ahead.{IsAhead}
+use Rattle.suffix_streams.specs.QueueEntries.{IsHeld, places, InProduct, InRuns}
+use Rattle.suffix_streams.specs.Reaches.{reaches}
 
 -- some of the ranking's first members, by their keys
 abbrev pub AreFirstBy : {X : Type 0} (d : ℕ) → (X → KeyOf d 16) → List X

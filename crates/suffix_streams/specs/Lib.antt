@@ -1,3 +1,10 @@
+pub mod Ahead
+pub mod Links
+pub mod Offers
+pub mod QueueEntries
+pub mod QueueView
+pub mod Reaches
+pub mod Cells
 pub mod ProductView
 pub mod Sums
 pub mod StreamView

@@ -1,7 +1,7 @@
 -- The solutions that a product found, as a list of cells and one of ranks.
 use Rattle.std.specs.Prelude.{ℕ, ◌-◌, List, [], map}
 use Rattle.std.specs.Vec.{vec_len, vec_capacity}
-use Rattle.stream_cells.specs.declared.cell.Cell.{Cell}
+use Rattle.suffix_streams.specs.declared.cell.Cell.{Cell}
 use Rattle.suffix_streams.specs.declared.product.Sums.{Sums}
 use Rattle.suffix_streams.specs.declared.product.Sums.TheVariants.{Cells, Ranked}
 

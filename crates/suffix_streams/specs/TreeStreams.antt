@@ -8,9 +8,9 @@ use Rattle.tdp_core.specs.WellFormed.{IsFormed}
 use Rattle.rank_key.specs.Keys.{KeyFits}
 use Rattle.rankings.specs.KeyTuple.{KeyOf, key_add, key_none}
 use Rattle.rankings.specs.Product.{Pair, pair_key}
-use Rattle.stream_model.specs.Links.{place_in, IsLinked}
-use Rattle.stream_cells.specs.declared.cell.Cell.{Cell}
-use Rattle.stream_cells.specs.declared.source.Source.{Source}
+use Rattle.suffix_streams.specs.Links.{place_in, IsLinked}
+use Rattle.suffix_streams.specs.declared.cell.Cell.{Cell}
+use Rattle.suffix_streams.specs.declared.source.Source.{Source}
 use Rattle.suffix_streams.specs.declared.stream.Found.{Found}
 use Rattle.suffix_streams.specs.declared.stream.Solved.{Solved}
 use Rattle.suffix_streams.specs.ProductView.{ProductView}

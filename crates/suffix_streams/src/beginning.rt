@@ -13,13 +13,13 @@ ghost use Rattle.suffix_streams.specs.Beginnings.{AreChildren, IsEmptyNode, HasF
 use crate::members::first_solution;
 use crate::node::NodeStreams;
 use crate::opened::RowProducts;
+use crate::queue::Queue;
+use crate::source::Source;
 use crate::stream::{Found, Stream, kept_solution};
 use rank_key::Rank;
 use std::alloc::Allocator;
 use std::sync::ledger::Ledger;
 use step_counter::{NoMemory, Steps};
-use stream_cells::Source;
-use stream_model::Queue;
 use stream_store::{EntryId, Store};
 use tdp_core::Tree;
 

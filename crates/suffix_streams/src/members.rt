@@ -11,12 +11,12 @@ ghost use Rattle.suffix_streams.specs.Firsts.{IsFirstOf, IsFirstBelow, AreFirsts
 
 use crate::node::NodeStreams;
 use crate::reads::first_cell;
+use crate::source::{Source, source_row};
 use crate::stream::Found;
 use rank_key::Rank;
 use std::alloc::Allocator;
 use std::sync::ledger::Ledger;
 use step_counter::Steps;
-use stream_cells::{Source, source_row};
 use stream_store::Store;
 use take2_heap::Entry;
 use tdp_core::Tree;

@@ -4,22 +4,23 @@ ghost use Rattle.std.specs.List.Sorted.{IsPermutation};
 ghost use Rattle.rank_key.specs.Bits.{bit_length};
 ghost use Rattle.take2_heap.specs.Order.{IsLeast};
 ghost use Rattle.take2_heap.specs.declared.entry.Entry.{Entry};
-ghost use Rattle.stream_model.specs.Offers.{offers};
-ghost use Rattle.stream_cells.specs.declared.cell.Cell.{Cell};
-ghost use Rattle.stream_cells.specs.declared.source.Source.{Source};
+ghost use Rattle.suffix_streams.specs.Offers.{offers};
+ghost use Rattle.suffix_streams.specs.declared.cell.Cell.{Cell};
+ghost use Rattle.suffix_streams.specs.declared.source.Source.{Source};
 ghost use Rattle.suffix_streams.specs.ProductView.{with_rank};
 ghost use Rattle.suffix_streams.specs.Firsts.{can_enter};
 ghost use Rattle.suffix_streams.specs.NodeStreamsView.{HasHead, known_of, product_at, stream_at, with_product, with_queue};
 
+use crate::cell::Cell;
 use crate::opened::RowProducts;
 use crate::product::Product;
+use crate::source::Source;
 use crate::stream::Stream;
 use rank_key::Rank;
 use std::alloc::Allocator;
 use std::marker::Model;
 use std::sync::ledger::Ledger;
 use step_counter::{NoMemory, Steps};
-use stream_cells::{Cell, Source};
 use stream_store::EntryId;
 use take2_heap::Entry;
 

@@ -4,17 +4,17 @@ ghost use Rattle.std.specs.List.Sorted.{IsPermutation};
 ghost use Rattle.rank_key.specs.Bits.{bit_length};
 ghost use Rattle.take2_heap.specs.Order.{IsMinHeap, IsLeast};
 ghost use Rattle.take2_heap.specs.declared.entry.Entry.{Entry};
-ghost use Rattle.stream_model.specs.Offers.{offers};
-ghost use Rattle.stream_cells.specs.declared.cell.Cell.{Cell};
+ghost use Rattle.suffix_streams.specs.Offers.{offers};
+ghost use Rattle.suffix_streams.specs.declared.cell.Cell.{Cell};
 ghost use Rattle.suffix_streams.specs.ProductView.{with_rank};
 
+use crate::cell::Cell;
+use crate::queue::Queue;
 use rank_key::Rank;
 use std::alloc::Allocator;
 use std::marker::Model;
 use std::sync::ledger::Ledger;
 use step_counter::{NoMemory, Steps};
-use stream_cells::Cell;
-use stream_model::Queue;
 use stream_store::EntryId;
 use take2_heap::Entry;
 

@@ -4,18 +4,19 @@ ghost use Rattle.std.specs.List.Sorted.{IsPermutation};
 ghost use Rattle.rank_key.specs.Bits.{bit_length};
 ghost use Rattle.take2_heap.specs.Order.{IsLeast};
 ghost use Rattle.take2_heap.specs.declared.entry.Entry.{Entry};
-ghost use Rattle.stream_model.specs.Offers.{offers};
-ghost use Rattle.stream_cells.specs.declared.source.Source.{Source};
+ghost use Rattle.suffix_streams.specs.Offers.{offers};
+ghost use Rattle.suffix_streams.specs.declared.source.Source.{Source};
 ghost use Rattle.suffix_streams.specs.Firsts.{can_enter};
 ghost use Rattle.suffix_streams.specs.TreeStreams.{kept_of};
 
+use crate::cell::Cell;
+use crate::queue::Queue;
+use crate::source::Source;
 use rank_key::Rank;
 use std::alloc::Allocator;
 use std::marker::Model;
 use std::sync::ledger::Ledger;
 use step_counter::{NoMemory, Steps};
-use stream_cells::{Cell, Source};
-use stream_model::Queue;
 use take2_heap::Entry;
 
 /// What an entry of the store keeps of the source of its solution, and what the solution's rows are
@@ -65,7 +66,7 @@ pub(crate) struct Stream<R: Rank, A: Allocator> {
 
 impl<R: Rank, A: Allocator> Model for Stream<R, A> {
     ghost use Rattle.take2_heap.specs.Heap.{Heap};
-    ghost use Rattle.stream_cells.specs.declared.source.Source.{Source};
+    ghost use Rattle.suffix_streams.specs.declared.source.Source.{Source};
 
     ghost Value = { Heap R Source };
 

@@ -10,13 +10,13 @@ ghost use Rattle.suffix_streams.specs.TreeStreams.{IsKnownPart, IsSumOf, IsStrea
 ghost use Rattle.suffix_streams.specs.Growing.{subtree_size, kids_size};
 ghost use Rattle.suffix_streams.specs.RowNumbers.{AreAddable, AreAdded};
 
+use crate::cell::Cell;
 use crate::reads::child_head;
 use crate::solutions::Solutions;
 use rank_key::Rank;
 use std::alloc::Allocator;
 use std::sync::ledger::Ledger;
 use step_counter::Steps;
-use stream_cells::Cell;
 use stream_store::EntryId;
 use tdp_core::Tree;
 

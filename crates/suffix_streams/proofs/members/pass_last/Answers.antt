@@ -7,8 +7,8 @@ use Rattle.rankings.specs.KeyTuple.{KeyOf}
 use Rattle.suffix_streams.specs.declared.stream.Found.{Found}
 use Rattle.take2_heap.specs.declared.entry.Entry.{Entry}
 use Rattle.take2_heap.specs.Order.{IsLeast}
-use Rattle.stream_model.specs.Offers.{offers}
-use Rattle.stream_cells.specs.declared.source.Source.{Source}
+use Rattle.suffix_streams.specs.Offers.{offers}
+use Rattle.suffix_streams.specs.declared.source.Source.{Source}
 use Rattle.rank_key.specs.Bits.{bit_length}
 use Rattle.suffix_streams.specs.NodeStreamsView.{NodeStreamsView, stream_at, with_queue}
 use Rattle.suffix_streams.specs.TreeStreams.{IsStreams, lists_of, stream_of}

@@ -1,6 +1,6 @@
 use Rattle.std.proofs.Common.{sym, ◌∙◌, arith}
 use Rattle.take2_heap.specs.declared.entry.Entry.{Entry}
-use Rattle.stream_cells.specs.declared.cell.Cell.{Cell}
+use Rattle.suffix_streams.specs.declared.cell.Cell.{Cell}
 use Rattle.suffix_streams.proofs.Exchanges.{exchanged_none, exchanged}
 use Rattle.suffix_streams.proofs.reads.offer_below.Goals as goal
 

@@ -1,6 +1,6 @@
 use Rattle.std.proofs.Common.{Option, Some, IfSome, refl, sym, subst}
 use Rattle.take2_heap.specs.declared.entry.Entry.{Entry}
-use Rattle.stream_cells.specs.declared.cell.Cell.{Cell}
+use Rattle.suffix_streams.specs.declared.cell.Cell.{Cell}
 use Rattle.suffix_streams.specs.TreeStreams.{IsCell, IsOffer}
 use Rattle.suffix_streams.proofs.reads.offered.Goals as goal
 

@@ -1,7 +1,7 @@
 use Rattle.std.proofs.Common.{None, ◌+◌, ◌<◌, ◌∷◌, IsSome, length, slice_index_or, sym, ap, ◌∙◌, subst, arith}
 use Rattle.std.specs.List.Sorted.{IsPermutation}
 use Rattle.rank_key.specs.Bits.{bit_length}
-use Rattle.stream_model.specs.Offers.{offers}
+use Rattle.suffix_streams.specs.Offers.{offers}
 use Rattle.take2_heap.specs.Order.{IsLeast}
 use Rattle.suffix_streams.specs.StreamView.{StreamView}
 use Rattle.suffix_streams.specs.NodeStreamsView.{stream_at, with_queue}

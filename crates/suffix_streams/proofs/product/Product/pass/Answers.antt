@@ -1,6 +1,6 @@
 use Rattle.std.proofs.Common.{◌<◌, ◌∷◌, length, slice_index_or, sym, ap, subst}
 use Rattle.std.specs.List.Sorted.{IsPermutation}
-use Rattle.stream_model.specs.Offers.{offers}
+use Rattle.suffix_streams.specs.Offers.{offers}
 use Rattle.suffix_streams.specs.ProductView.{ProductView}
 use Rattle.suffix_streams.proofs.product.Product.pass.Goals as goal
 

@@ -2,7 +2,7 @@ use Rattle.std.proofs.Common.{◌<◌, [], ◌∷◌, ◌++◌, length, get_or, 
 use Rattle.std.proofs.lemmas.Bool.{false≢true}
 use Rattle.std.specs.List.Sorted.{IsPermutation}
 use Rattle.take2_heap.specs.Order.{IsLeast}
-use Rattle.stream_model.specs.Offers.{offers}
+use Rattle.suffix_streams.specs.Offers.{offers}
 use Rattle.suffix_streams.specs.ProductView.{with_rank}
 use Rattle.suffix_streams.proofs.product.Product.step.Goals as goal
 

@@ -1,7 +1,7 @@
 use Rattle.std.proofs.Common.{◌≡◌, ◌<◌, ◌^◌, ◌↔◌, IsSome, IfSome, length, slice_index_or, subst}
 use Rattle.take2_heap.specs.Order.{IsLeast}
 use Rattle.take2_heap.specs.declared.entry.Entry.{Entry}
-use Rattle.stream_cells.specs.declared.cell.Cell.{Cell}
+use Rattle.suffix_streams.specs.declared.cell.Cell.{Cell}
 use Rattle.suffix_streams.specs.ProductView.{ProductView}
 use Rattle.suffix_streams.proofs.product.Product.top.Goals as goal
 

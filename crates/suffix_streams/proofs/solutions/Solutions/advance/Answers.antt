@@ -18,7 +18,7 @@ use Rattle.suffix_streams.proofs.Stores.{at_more, next_value, node_length, set_l
 use Rattle.suffix_streams.proofs.Linked.{entry_held}
 use Rattle.rank_key.specs.Bits.{bit_length}
 use Rattle.rank_key.proofs.BitLemmas.{bit_length_rises}
-use Rattle.stream_model.specs.Links.{owned, IsLinkedAt}
+use Rattle.suffix_streams.specs.Links.{owned, IsLinkedAt}
 use Rattle.suffix_streams.specs.Rankings.{part_list, group_list}
 use Rattle.suffix_streams.proofs.QueuePass.{IsGroupTop, IsQueuePassed, IsEntryLinked, whole_stream, group_top, queue_passed, passed_ends, passed_grows, entry_linked}
 use Rattle.suffix_streams.proofs.solutions.Solutions.advance.Given.{Over}

@@ -1,7 +1,7 @@
 use Rattle.std.proofs.Common.{◌≡◌, ℕ, ◌+◌, ◌<◌, ◌≤◌, suc, inl, inr, refl, IfSome, MatchOption, List, [], length, slice_set, get_or, sym, ap, ◌∙◌, subst, arith}
 use Rattle.std.proofs.lemmas.Bool.{cases_lt}
 use Rattle.rank_key.specs.Bits.{bit_length}
-use Rattle.stream_cells.specs.Cells.{cell_down}
+use Rattle.suffix_streams.specs.Cells.{cell_down}
 use Rattle.suffix_streams.specs.ProductView.{ProductView}
 use Rattle.suffix_streams.specs.NodeStreamsView.{NodeStreamsView, product_at, known_of, with_product}
 use Rattle.suffix_streams.specs.TreeStreams.{HasParts, IsCell, IsStreams, lists_of, product_of, stream_of, part_known}

@@ -1,8 +1,8 @@
 use Rattle.std.proofs.Common.{None, ◌∷◌, slice_index_or, subst}
 use Rattle.std.specs.List.Sorted.{IsPermutation}
 use Rattle.take2_heap.specs.Order.{IsLeast}
-use Rattle.stream_model.specs.Offers.{offers}
-use Rattle.stream_model.proofs.Moves.{left_and_offered}
+use Rattle.suffix_streams.specs.Offers.{offers}
+use Rattle.suffix_streams.proofs.Moves.{left_and_offered}
 use Rattle.suffix_streams.proofs.stream.Stream.pass.Goals as goal
 
 pub returns-clause-moved : goal.returns-clause-moved

@@ -11,9 +11,9 @@ use Rattle.rankings.specs.KeyTuple.{KeyOf, key_below}
 use Rattle.rankings.proofs.KeyNumbers.{not_less_at_most}
 use Rattle.take2_heap.specs.declared.entry.Entry.{Entry}
 use Rattle.take2_heap.specs.Order.{IsLeast}
-use Rattle.stream_model.specs.Offers.{offers}
-use Rattle.stream_model.specs.Ahead.{AllInside, NoneBelow}
-use Rattle.stream_model.specs.QueueEntries.{IsHeld, places}
+use Rattle.suffix_streams.specs.Offers.{offers}
+use Rattle.suffix_streams.specs.Ahead.{AllInside, NoneBelow}
+use Rattle.suffix_streams.specs.QueueEntries.{IsHeld, places}
 
 -- what an entry that may be offered counts for
 abbrev pub maybe_count : {E : Type 0} → (E → ℕ) → Option E → ℕ

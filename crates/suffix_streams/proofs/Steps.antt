@@ -12,13 +12,13 @@ use Rattle.rankings.proofs.KeyTuples.{tuple_keys}
 use Rattle.rankings.proofs.Products.{product_divided, same_pair_at, same_pair_only, stands_none}
 use Rattle.take2_heap.specs.declared.entry.Entry.{Entry}
 use Rattle.take2_heap.specs.Order.{IsLeast}
-use Rattle.stream_model.specs.Offers.{offers}
-use Rattle.stream_model.specs.Ahead.{IsAhead}
-use Rattle.stream_model.specs.QueueEntries.{IsHeld, places, InProduct, InRuns}
-use Rattle.stream_model.specs.Reaches.{reaches, AreHeapOrdered}
-use Rattle.stream_model.proofs.Held.{MaybeHolds, maybe_count, held_inside, held_least, held_member, held_moved, moved_total}
-use Rattle.stream_model.proofs.Reaching.{reaches_split, reaches_least, reaches_past, later_none}
-use Rattle.stream_model.proofs.Passing.{ahead_passes, ahead_next, ahead_done}
+use Rattle.suffix_streams.specs.Offers.{offers}
+use Rattle.suffix_streams.specs.Ahead.{IsAhead}
+use Rattle.suffix_streams.specs.QueueEntries.{IsHeld, places, InProduct, InRuns}
+use Rattle.suffix_streams.specs.Reaches.{reaches, AreHeapOrdered}
+use Rattle.suffix_streams.proofs.Held.{MaybeHolds, maybe_count, held_inside, held_least, held_member, held_moved, moved_total}
+use Rattle.suffix_streams.proofs.Reaching.{reaches_split, reaches_least, reaches_past, later_none}
+use Rattle.suffix_streams.proofs.Passing.{ahead_passes, ahead_next, ahead_done}
 
 all_at : {E : Type 0} (P : E → Type 0) (es : List E) (i : ℕ) (e : E) → All P es → i < length es → P (get_or es i e)
 all_at P [] i e a l = absurd (omega arith)

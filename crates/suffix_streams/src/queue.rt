@@ -4,8 +4,8 @@ ghost use Rattle.std.specs.List.Sorted.{IsPermutation};
 ghost use Rattle.rank_key.specs.Bits.{bit_length};
 ghost use Rattle.take2_heap.specs.Order.{IsMinHeap, IsLeast};
 ghost use Rattle.take2_heap.specs.declared.entry.Entry.{Entry};
-ghost use Rattle.stream_model.specs.Offers.{offers};
-ghost use Rattle.stream_model.specs.QueueView.{queue_view};
+ghost use Rattle.suffix_streams.specs.Offers.{offers};
+ghost use Rattle.suffix_streams.specs.QueueView.{queue_view};
 
 use rank_key::Rank;
 use std::alloc::Allocator;
@@ -33,7 +33,7 @@ pub struct Queue<R: Rank, T: Copy, A: Allocator> {
 
 impl<R: Rank, T: Copy, A: Allocator> Model for Queue<R, T, A> {
     ghost use Rattle.take2_heap.specs.Heap.{Heap};
-    ghost use Rattle.stream_model.specs.QueueView.{queue_view};
+    ghost use Rattle.suffix_streams.specs.QueueView.{queue_view};
 
     ghost Value = { Heap R T };
 

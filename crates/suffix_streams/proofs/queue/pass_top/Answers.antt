@@ -3,8 +3,8 @@ use Rattle.std.specs.List.Sorted.{IsPermutation}
 use Rattle.std.proofs.lemmas.List.{get_or_default}
 use Rattle.rank_key.specs.Bits.{bit_length}
 use Rattle.take2_heap.specs.declared.entry.Entry.{Entry}
-use Rattle.stream_model.proofs.Moves.{left_and_put, same_length}
-use Rattle.stream_model.proofs.queue.pass_top.Goals as goal
+use Rattle.suffix_streams.proofs.Moves.{left_and_put, same_length}
+use Rattle.suffix_streams.proofs.queue.pass_top.Goals as goal
 
 pub returns-in-Some-Some-clause-moved : goal.returns-in-Some-Some-clause-moved
 returns-in-Some-Some-clause-moved g c d =

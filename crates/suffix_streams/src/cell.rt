@@ -1,7 +1,7 @@
 //! The cells of a product of two rankings, and which cells follow a cell.
 
 ghost use Rattle.std.specs.Prelude.{◌≡◌, ℕ, ◌+◌, ◌<◌, ◌≤◌, MatchOption};
-ghost use Rattle.stream_cells.specs.Cells.{cell_down};
+ghost use Rattle.suffix_streams.specs.Cells.{cell_down};
 
 use stream_store::EntryId;
 

@@ -1,9 +1,9 @@
 use Rattle.std.proofs.Common.{subst, sym, ap, ◌∙◌}
 use Rattle.take2_heap.specs.Heap.{Heap}
 use Rattle.take2_heap.specs.Order.{IsLeast}
-use Rattle.stream_model.specs.QueueView.{queue_view}
-use Rattle.stream_model.proofs.Single.{held_least}
-use Rattle.stream_model.proofs.queue.Queue.top.Goals as goal
+use Rattle.suffix_streams.specs.QueueView.{queue_view}
+use Rattle.suffix_streams.proofs.Single.{held_least}
+use Rattle.suffix_streams.proofs.queue.Queue.top.Goals as goal
 
 pub returns-in-One-clause-least : goal.returns-in-One-clause-least
 returns-in-One-clause-least g c =

@@ -1,8 +1,8 @@
 use Rattle.std.proofs.Common.{subst, sym, arith}
 use Rattle.take2_heap.specs.Heap.{Heap}
 use Rattle.take2_heap.specs.Order.{IsMinHeap}
-use Rattle.stream_model.proofs.Single.{least_many, least_single, passed_single, single_heap, spare_none}
-use Rattle.stream_model.proofs.queue.Queue.pass.Goals as goal
+use Rattle.suffix_streams.proofs.Single.{least_many, least_single, passed_single, single_heap, spare_none}
+use Rattle.suffix_streams.proofs.queue.Queue.pass.Goals as goal
 
 pub returns-in-Many-clause-least : goal.returns-in-Many-clause-least
 returns-in-Many-clause-least g c d =

@@ -1,6 +1,6 @@
 -- The cells that follow a cell.
 use Rattle.std.specs.Prelude.{ℕ, Option, Some, None}
-use Rattle.stream_cells.specs.declared.cell.Cell.{Cell}
+use Rattle.suffix_streams.specs.declared.cell.Cell.{Cell}
 
 -- the same left part, with the entry after the right part
 abbrev pub cell_down : Cell → Option ℕ → Option Cell

@@ -5,7 +5,7 @@ use Rattle.rankings.specs.Order.{IsOrder, IsMember}
 use Rattle.rankings.specs.Remains.{AtMost, Remains, total}
 use Rattle.rankings.proofs.Removal.{take_least, none_left}
 use Rattle.rankings.proofs.Keys.{at_most_trans}
-use Rattle.stream_model.specs.Ahead.{AllInside, NoneBelow, IsAhead}
+use Rattle.suffix_streams.specs.Ahead.{AllInside, NoneBelow, IsAhead}
 
 -- a list that is empty has no first element
 nil_cons : {K : Type 0} (k : K) (ks : List K) → [] ≡ k ∷ ks → ⊥

@@ -2,7 +2,7 @@ use Rattle.std.proofs.Common.{◌≡◌, ◌+◌, ◌∷◌, length, ap, arith}
 use Rattle.std.proofs.lemmas.List.Sorted.{length_permutation}
 use Rattle.rank_key.specs.Bits.{bit_length}
 use Rattle.take2_heap.specs.declared.entry.Entry.{Entry}
-use Rattle.stream_model.proofs.queue.push_offered.Goals as goal
+use Rattle.suffix_streams.proofs.queue.push_offered.Goals as goal
 
 pub returns-in-Some-clause-cost : goal.returns-in-Some-clause-cost
 returns-in-Some-clause-cost g c =

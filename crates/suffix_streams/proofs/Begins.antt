@@ -12,8 +12,8 @@ use Rattle.rankings.proofs.Ties.{slot_zero}
 use Rattle.rankings.proofs.Descent.{below_less}
 use Rattle.rankings.proofs.SubtreeTies.{kid_yes, kid_no, slot_outside}
 use Rattle.rankings.proofs.Streams.{group_remains}
-use Rattle.stream_model.specs.Reaches.{reaches}
-use Rattle.stream_model.proofs.Reaching.{root_stands}
+use Rattle.suffix_streams.specs.Reaches.{reaches}
+use Rattle.suffix_streams.proofs.Reaching.{root_stands}
 
 module _ {K : Type 0} (Below : K → K → Type 0) (add : K → K → K) (none : K) (keys : IsKeys K Below add none)
     (m : ℕ) (parent : ℕ → ℕ) (rank : ℕ → ℕ → K) (group : ℕ → ℕ → List ℕ) (parents_first : (q : ℕ) → 0 < q → q < m → parent q < q)

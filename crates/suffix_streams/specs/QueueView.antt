@@ -2,8 +2,8 @@
 -- has room for.
 use Rattle.std.specs.Prelude.{[], ◌∷◌}
 use Rattle.take2_heap.specs.Heap.{Heap}
-use Rattle.stream_model.specs.declared.queue.Held.{Held}
-use Rattle.stream_model.specs.declared.queue.Held.TheVariants.{Empty, One, Many}
+use Rattle.suffix_streams.specs.declared.queue.Held.{Held}
+use Rattle.suffix_streams.specs.declared.queue.Held.TheVariants.{Empty, One, Many}
 
 -- one entry alone has no room beside it
 abbrev pub queue_view : {R T A : Type 0} → Held R T A → Heap R T

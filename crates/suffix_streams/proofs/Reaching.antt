@@ -11,9 +11,9 @@ use Rattle.rankings.proofs.Subtrees.{same, climbs_split, climbs_above, climbs_al
 use Rattle.rankings.proofs.Keys.{at_most_trans, ascending_at_most}
 use Rattle.rankings.proofs.KeyTuples.{tuple_keys}
 use Rattle.rankings.proofs.Runs.{run_divided, runs_none}
-use Rattle.stream_model.specs.Ahead.{AllInside}
-use Rattle.stream_model.specs.QueueEntries.{InRuns}
-use Rattle.stream_model.specs.Reaches.{reaches, AreHeapOrdered}
+use Rattle.suffix_streams.specs.Ahead.{AllInside}
+use Rattle.suffix_streams.specs.QueueEntries.{InRuns}
+use Rattle.suffix_streams.specs.Reaches.{reaches, AreHeapOrdered}
 
 -- a later solution stands for the rest of its member's list
 reaches_later : (m : ℕ) (sizes : ℕ → ℕ) (f p : Pair) → f.right ≢ 0 → reaches m sizes f p ≡ runs_to m sizes f p

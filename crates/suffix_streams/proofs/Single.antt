@@ -9,11 +9,11 @@ use Rattle.rank_key.proofs.KeyOrder.{less_itself}
 use Rattle.take2_heap.specs.Heap.{Heap}
 use Rattle.take2_heap.specs.Order.{IsLeast, IsMinHeap}
 use Rattle.take2_heap.specs.declared.entry.Entry.{Entry}
-use Rattle.stream_model.specs.Offers.{offers}
-use Rattle.stream_model.specs.QueueView.{queue_view}
-use Rattle.stream_model.specs.declared.queue.Held.{Held}
-use Rattle.stream_model.specs.declared.queue.Held.TheVariants.{Empty, One, Many}
-use Rattle.stream_model.proofs.Moves.{exchange}
+use Rattle.suffix_streams.specs.Offers.{offers}
+use Rattle.suffix_streams.specs.QueueView.{queue_view}
+use Rattle.suffix_streams.specs.declared.queue.Held.{Held}
+use Rattle.suffix_streams.specs.declared.queue.Held.TheVariants.{Empty, One, Many}
+use Rattle.suffix_streams.proofs.Moves.{exchange}
 
 -- the one entry is replaced by what follows it
 one_moved : {X : Type 0} (e : X) (next other : Option X) → (IsSome next → IsSome other → 0 < 0) → IsPermutation (offers next other (e ∷ [])) (e ∷ option_to_list (option_or next other))
