@@ -199,6 +199,12 @@ def processors():
     return len(os.sched_getaffinity(0))
 
 
+def shared(lanes, places, running, ready):
+    """How many processes work at each of the crates that are ready, beside those that run: one, or more where processors would have
+    nothing to do. Several take more processor time than one."""
+    return max(1, min((lanes - running) // ready, SHARED, places - running))
+
+
 def times_of(text):
     """The seconds that the proof of each crate takes, by the lines of a table that have the form of one."""
     times = {}
@@ -399,21 +405,19 @@ class Proofs:
         for it in self.done:
             tell(it, "anyk: it was proved before\n")
 
+    def jobs(self):
+        """How many processes work at the crates whose proofs run."""
+        return sum(it.jobs for it in self.running.values())
+
     def waits(self, crate):
         """Whether a crate has to wait though the crates that it uses are proved: for a processor, or, if its check or one that runs was
         killed before, until nothing else runs."""
         is_alone = crate in self.killed or not self.killed.isdisjoint(self.running)
-        return len(self.running) >= self.lanes or is_alone and bool(self.running)
+        return self.jobs() >= self.lanes or is_alone and bool(self.running)
 
     def share(self, crate, ready):
-        """How many processes work at a crate: one, or more if the chain that begins with it would outlast all else that is left, or if
-        processors have nothing to do. `ready` is how many crates could begin now."""
-        if crate in self.killed:
-            return 1
-        work, jobs = sum(self.seconds[it] for it in self.crates if it not in self.done), [it.jobs for it in self.running.values()]
-        is_last = self.chains[crate] * self.lanes >= work and max(jobs, default=1) == 1
-        wanted = self.lanes if is_last else (self.lanes - len(jobs)) // ready
-        return max(1, min(wanted, SHARED, self.places - sum(jobs)))
+        """How many processes work at a crate that begins now, where `ready` is how many could begin."""
+        return 1 if crate in self.killed else shared(self.lanes, self.places, self.jobs(), ready)
 
     def begin(self):
         """Begins the proofs that can begin, first that with the longest chain behind it."""
