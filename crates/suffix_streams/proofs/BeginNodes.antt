@@ -78,10 +78,6 @@ module _ {R : Type 0} (d : ℕ) (key : R → KeyOf d 16) (t : List (NodeView R))
   abbrev pub rows_from : ℕ → ℕ
   rows_from v = sum_from ◌+◌ 0 (rows t) (length t - v) v
 
-  pub rows_none : (v : ℕ) → v ≡ length t → rows_from v ≡ 0
-  unfolding sum_from
-  rows_none v e = let none : length t - v ≡ 0 = omega arith in ap (λ n. sum_from ◌+◌ 0 (rows t) n v) none
-
   pub rows_more : (v w : ℕ) → v < length t → w ≡ v + 1 → rows_from v ≡ rows t v + rows_from w
   unfolding sum_from
   rows_more v w l e =

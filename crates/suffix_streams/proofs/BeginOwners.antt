@@ -81,22 +81,6 @@ get_taken (x ∷ xs) zero i d l = absurd (omega arith)
 get_taken (x ∷ xs) (suc n) zero d l = refl
 get_taken (x ∷ xs) (suc n) (suc i) d l = get_taken xs n i d (omega arith)
 
-pub take_taken : {A : Type 0} (xs : List A) (n i : ℕ) → i ≤ n → take i (take n xs) ≡ take i xs
-take_taken [] zero zero l = refl
-take_taken [] zero (suc i) l = refl
-take_taken [] (suc n) zero l = refl
-take_taken [] (suc n) (suc i) l = refl
-take_taken (x ∷ xs) zero zero l = refl
-take_taken (x ∷ xs) zero (suc i) l = absurd (omega arith)
-take_taken (x ∷ xs) (suc n) zero l = refl
-take_taken (x ∷ xs) (suc n) (suc i) l = ap (λ z. x ∷ z) (take_taken xs n i (omega arith))
-
-pub map_taken : {A B : Type 0} (f : A → B) (xs : List A) (n : ℕ) → map f (take n xs) ≡ take n (map f xs)
-map_taken f [] zero = refl
-map_taken f [] (suc n) = refl
-map_taken f (x ∷ xs) zero = refl
-map_taken f (x ∷ xs) (suc n) = ap (λ z. f x ∷ z) (map_taken f xs n)
-
 pub map_twice : {A B C : Type 0} (f : A → B) (g : B → C) (xs : List A) → map g (map f xs) ≡ map (λ x. g (f x)) xs
 map_twice f g [] = refl
 map_twice f g (x ∷ xs) = ap (λ z. g (f x) ∷ z) (map_twice f g xs)

@@ -9,9 +9,6 @@ use Rattle.suffix_streams.specs.Rankings.{child_among}
 picked : (n p v k c x y : ℕ) → 0 < n → p ≡ v → k ≡ c → cond (nat_lt 0 n) (cond (nat_eq p v) (cond (nat_eq k c) x y) y) y ≡ x
 picked n p v k c x y h e f = grind (arith, nat_tests)
 
-skipped_first : (p v k c x y : ℕ) → cond (nat_lt 0 0) (cond (nat_eq p v) (cond (nat_eq k c) x y) y) y ≡ y
-skipped_first p v k c x y = grind (arith, nat_tests)
-
 skipped_node : (n p v k c x y : ℕ) → p ≢ v → cond (nat_lt 0 n) (cond (nat_eq p v) (cond (nat_eq k c) x y) y) y ≡ y
 skipped_node n p v k c x y h = grind (arith, nat_tests)
 

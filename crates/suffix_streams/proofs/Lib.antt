@@ -3,6 +3,7 @@ pub mod Moves
 pub mod Held
 pub mod Reaching
 pub mod Single
+pub mod TopPass
 pub mod Steps
 pub mod Linking
 pub mod Begins

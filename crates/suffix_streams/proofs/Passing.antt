@@ -67,18 +67,6 @@ module _ {X K : Type 0} (Below : K → K → Type 0) (o : IsOrder K Below) (key 
   unfolding total
   drop_end whole n q = drop_none whole n (none_left Below key (total count []) (λ x. refl) (drop n whole) q)
 
-  -- an empty queue: all is known
-  pub ahead_ends : (whole : List K) (found : ℕ) → IsAhead X K Below key count InRange whole found [] → found ≡ length whole
-  ahead_ends whole found a = omega (arith, a.within, drop_end whole found a.remains)
-
-  -- a queue from the ranking's start: one member is known
-  pub ahead_begins : (whole : List K) (f : X) (queue : List X) (d : K) → IsMember f queue → AllInside InRange queue → NoneBelow Below key (key f) queue → Remains X K Below key (total count queue) whole
-      → IsAhead X K Below key count InRange whole 1 queue × (get_or whole 0 d ≡ key f)
-  ahead_begins whole f [] d m r t q = absurd m
-  ahead_begins whole f (c ∷ cs) d m r t q =
-      let s : (ks' : List K) × (whole ≡ key f ∷ ks') = shows f (c ∷ cs) whole m r t q in
-      (record { inside = r; some = omega arith; within = subst (λ z. 1 ≤ length z) (sym s.1) (omega arith); remains = q }, ap (λ z. get_or z 0 d) s.1)
-
   -- the last one known is passed
   pub ahead_passes : (whole : List K) (found : ℕ) (f : X) (queue after : List X) → IsMember f queue → NoneBelow Below key (key f) queue
       → ((x : X) → total count queue x ≡ one f x + total count after x) → IsAhead X K Below key count InRange whole found queue → Remains X K Below key (total count after) (drop found whole)

@@ -1,5 +1,5 @@
 -- The facts of a group's queue after its last solution was passed, and of the store after the next one was linked.
-use Rattle.std.proofs.Common.{◌≡◌, ◌≢◌, ℕ, ◌+◌, ◌*◌, ◌<◌, ◌≤◌, ◌⊎◌, Option, Some, None, true, false, IsSome, IfSome, IfNone, List, [], ◌∷◌, ◌++◌, cond, nat_eq, length, get_or, slice_set, refl, sym, ap, ◌∙◌, subst, arith}
+use Rattle.std.proofs.Common.{◌≡◌, ◌≢◌, ℕ, ◌+◌, ◌*◌, ◌<◌, ◌≤◌, ◌⊎◌, Option, Some, None, IfSome, IfNone, List, [], ◌∷◌, ◌++◌, cond, nat_eq, length, get_or, slice_set, refl, sym, ap, ◌∙◌, subst, arith}
 use Rattle.std.specs.List.{All}
 use Rattle.std.specs.List.Sorted.{IsPermutation}
 use Rattle.std.proofs.lemmas.List.Elements.{All-get_or}
@@ -74,14 +74,6 @@ roomed {R} d key t es n m v g h l in_group is =
       streams = ap (λ z. z.streams) (queued_at d key t es es n h (held_itself es) v g l in_group q k)
           ∙ ap (λ r. (with_queue (lists_of n v) g q r).streams) (sym (ap (λ z. z.room) (queued_stream d key t es es n h (held_itself es) v g l in_group q k)));
     })
-
--- if there is a first solution of a member below, the group has that member
-pub below_within : {R : Type 0} (d : ℕ) (key : R → KeyOf d 16) (t : List (NodeView R)) (es : List (Linked (Found R))) (v g place j : ℕ) (o : Option (Entry R Source)) → IsFirstBelow d key t es v g place j o → IsSome o → j < length (members t v g)
-below_within d key t es v g place j (Some e) below some = below.1
-below_within d key t es v g place j None below some = absurd (clash some)
-  where
-    clash : false ≡ true → ⊥
-    clash s = cc
 
 -- # The queue after that
 

@@ -13,10 +13,6 @@ pub rank_more : {R : Type 0} (xs : List R) (x : R) → 0 < length xs → with_ra
 rank_more [] x l = absurd (omega arith)
 rank_more (y ∷ xs) x l = refl
 
-pub rank_none : {R : Type 0} (xs : List R) (x : R) → length xs ≡ 0 → with_rank xs x ≡ xs
-rank_none [] x e = refl
-rank_none (y ∷ xs) x e = absurd (omega arith)
-
 -- one more solution is kept, with its rank
 pub ranks_more : {R : Type 0} (d : ℕ) (key : R → KeyOf d 16) (ks : List (KeyOf d 16)) (p q : ProductView R) (next : Entry R Cell) → q.found ≡ p.found ++ (next.tag ∷ []) → q.ranks ≡ with_rank p.ranks next.rank
     → length p.found < length ks → get_or ks (length p.found) (key_none d 16) ≡ key next.rank → KeepsRanks d key ks p → KeepsRanks d key ks q

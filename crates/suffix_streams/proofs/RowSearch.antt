@@ -191,9 +191,6 @@ module _ {R : Type 0} {d : ℕ} {key : R → KeyOf d 16} {t u : List (NodeView R
       (search_within d key t v r (count - 1) a.node a.row es b e m o z a.formed k.formed l.searched.formed a.still_in_row k.grown l.searched.extended s0 s1 s2 s3 s4 k.queues k.steps read l.searched.steps
       (subst (λ (p : ProductView R). s4 ≤ s3 + 9 + 3 * bit_length (length p.frontier + 1)) l.product step))
 
-  pub left_unstepped : AreUnstepped v o z → AreUnstepped v n z
-  left_unstepped same = unstepped_on v n o z (asked_unstepped a k) same
-
   -- # And the product has one solution more
 
   module _ (y : List (NodeStreamsView R)) (other : HasOtherProduct z v r (count - 1) y) where

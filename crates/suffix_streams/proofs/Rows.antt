@@ -51,9 +51,6 @@ module _ {R : Type 0} (d : ℕ) (key : R → KeyOf d 16) (t : List (NodeView R))
   own_slot : slot_of d 16 (item t v) (rank t d key v r) ≡ number t v r
   own_slot = (formed.rows_fit v r l row).2 (item t v) (formed.shaped.items v l) ∙ cond-true (nat_eq (item t v) (item t v)) (number t v r) 0 (eq-eqb (item t v) (item t v) refl)
 
-  pub own_fits : AreAddable d numbers (rank t d key v r) → get_or numbers (item t v) 0 + number t v r < 2 ^ 32
-  own_fits f = omega (arith, f (item t v) (formed.shaped.items v l), own_slot)
-
   pub own_added : length numbers ≡ 16 → AreAdded d numbers (rank t d key v r) (slice_set numbers (item t v) (get_or numbers (item t v) 0 + number t v r))
   own_added long i b = elim (cases_eq i (item t v)) [
     | inl s ↦

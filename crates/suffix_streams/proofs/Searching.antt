@@ -150,10 +150,6 @@ module _ {R : Type 0} (d : ℕ) (key : R → KeyOf d 16) (t : List (NodeView R))
           growth = λ w. omega (arith, g.growth w, y.growth w);
         }
 
-    pub queues_on : (n m o : List (NodeStreamsView R)) → AreQueuesGrown (is_below (parent t) (child t v c)) n m → AreQueuesGrown (λ w. below_kids t v c w + cond (nat_eq w v) 1 0) m o
-        → AreQueuesGrown (λ w. below_kids t v (suc c) w + cond (nat_eq w v) 1 0) n o
-    queues_on n m o a b w s k = omega (arith, a w s k, b w s k)
-
     pub queues_child : (n m : List (NodeStreamsView R)) → AreQueuesGrown (is_below (parent t) (child t v c)) n m → AreQueuesGrown (λ w. below_kids t v (suc c) w + cond (nat_eq w v) 1 0) n m
     queues_child n m a w s k = omega (arith, a w s k)
 

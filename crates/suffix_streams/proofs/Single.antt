@@ -1,5 +1,6 @@
 -- The steps of a queue, by what it holds: no entry, one entry, or a heap.
-use Rattle.std.proofs.Common.{◌≡◌, ◌<◌, ℕ, Option, Some, None, [], ◌∷◌, length, slice_index_or, refl, sym, ap, subst, ◌∙◌, arith, IsSome, List}
+use Rattle.std.proofs.Common.{◌≡◌, ◌<◌, ℕ, Option, Some, None, [], ◌∷◌, length, slice_index_or, refl, sym, ap, subst, ◌∙◌, arith, IsSome, IfSome, List, get_or}
+use Rattle.std.proofs.lemmas.Bool.{false≢true}
 use Rattle.std.specs.Prelude.{option_to_list}
 use Rattle.std.specs.Option.{option_or}
 use Rattle.std.specs.List.Sorted.{IsPermutation}
@@ -22,13 +23,11 @@ one_moved e (Some x) None room = exchange x e []
 one_moved e None (Some y) room = exchange y e []
 one_moved e None None room = IsPermutation-refl (e ∷ [])
 
--- nothing is offered where there is no room
-none_offered : {X : Type 0} (es : List X) (entry : Option X) → (IsSome entry → 0 < 0) → IsPermutation (offers entry None es) es
-none_offered es None room = IsPermutation-refl es
-none_offered es (Some x) room = absurd (let l : 0 < 0 = room refl in omega (arith, l))
-
 pub held_least : {R T : Type 0} (keys : ℕ) (key : R → KeyOf keys 16) (tag : T) (rank : R) → IsLeast keys key (record { rank = rank; tag = tag }) (record { rank = rank; tag = tag } ∷ [])
 held_least keys key tag rank = (less_itself keys 16 (key rank), tt)
+
+no_less : 0 < 0 → ⊥
+no_less l = omega (arith, l)
 
 module _ {R T A : Type 0} where
   -- without a heap
@@ -45,11 +44,14 @@ module _ {R T A : Type 0} where
   least_lem keys key (One tag rank) none d = held_least keys key tag rank
   least_lem keys key (Many heap) none d = absurd (none heap refl)
 
-  offered_lem : (held : Held R T A) (entry : Option (Entry R T)) → ((heap : Heap R T) → held ≡ Many heap → ⊥) → (IsSome entry → 0 < (queue_view held).spare)
-      → IsPermutation (offers entry None (queue_view held).entries) (queue_view held).entries
-  offered_lem Empty entry none room = none_offered [] entry room
-  offered_lem (One tag rank) entry none room = none_offered (record { rank = rank; tag = tag } ∷ []) entry room
-  offered_lem (Many heap) entry none room = absurd (none heap refl)
+  -- o is the one entry that there is, if there is one
+  pub alone : (held : Held R T A) → ((heap : Heap R T) → held ≡ Many heap → ⊥) → (o : Option (Entry R T)) → (IsSome o → 0 < length (queue_view held).entries) → (0 < length (queue_view held).entries → IsSome o) → IfSome o (λ e. (d : Entry R T) → e ≡ get_or (queue_view held).entries 0 d)
+      → offers o None [] ≡ (queue_view held).entries
+  alone Empty n None there some top = refl
+  alone Empty n (Some e) there some top = absurd (no_less (there refl))
+  alone (One tag rank) n None there some top = absurd (false≢true (some (omega arith)))
+  alone (One tag rank) n (Some e) there some top = ap (λ z. z ∷ []) (top e)
+  alone (Many heap) n o there some top = absurd (n heap refl)
 
 module _ {R T A : Type 0} (held : Held R T A) (old : Heap R T) (shown : queue_view held ≡ old) where
   module _ (none : (heap : Heap R T) → held ≡ Many heap → ⊥) where

@@ -23,3 +23,4 @@ pub mod Refusals
 pub mod RowNumbers
 pub mod LastEntries
 pub mod ProductTops
+pub mod TopPassed

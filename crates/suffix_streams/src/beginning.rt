@@ -1,15 +1,12 @@
 //! The streams of a tree at their start, when each has only its head.
-ghost use Rattle.std.specs.Prelude.{◌≡◌, ◌≢◌, ℕ, ◌+◌, ◌*◌, ◌^◌, ◌<◌, ◌≤◌, [], ◌∷◌, ◌++◌, None, length, slice_index, slice_index_or, IfOk, OnOk};
-ghost use Rattle.stream_store.specs.declared.entry.Linked.{Linked};
-ghost use Rattle.take2_heap.specs.declared.entry.Entry.{Entry};
-ghost use Rattle.tdp_core.specs.TreeView.{rows, row_count, group_count, child_count, members};
+ghost use Rattle.std.specs.Prelude.{◌≡◌, ℕ, ◌+◌, ◌*◌, ◌^◌, ◌<◌, ◌≤◌, [], ◌∷◌, ◌++◌, length, IfOk, OnOk};
+ghost use Rattle.tdp_core.specs.TreeView.{rows, row_count, group_count};
 ghost use Rattle.tdp_core.specs.WellFormed.{IsFormed};
-ghost use Rattle.rankings.specs.KeyTuple.{key_none};
-ghost use Rattle.suffix_streams.specs.Rankings.{group_list};
 ghost use Rattle.suffix_streams.specs.StreamView.{IsNextHead};
-ghost use Rattle.suffix_streams.specs.TreeStreams.{open_rows, kept_of, lists_of, IsHeaded};
-ghost use Rattle.suffix_streams.specs.Beginnings.{AreChildren, IsEmptyNode, HasFirst, IsBegunFrom};
+ghost use Rattle.suffix_streams.specs.TreeStreams.{open_rows, lists_of};
+ghost use Rattle.suffix_streams.specs.Beginnings.{AreChildren, IsEmptyNode, IsBegunIn, IsBegunFrom};
 
+use crate::lists::list_with_room;
 use crate::members::first_solution;
 use crate::node::NodeStreams;
 use crate::opened::RowProducts;
@@ -21,6 +18,7 @@ use std::alloc::Allocator;
 use std::sync::ledger::Ledger;
 use step_counter::{NoMemory, Steps};
 use stream_store::{EntryId, Store};
+use take2_heap::Entry;
 use tdp_core::Tree;
 
 /// The children of a node, in ascending order.
@@ -49,18 +47,6 @@ fn rows_to_open(children: usize, rows: u32) -> u32
     if children == 0 { 0 } else { rows }
 }
 
-/// Room for the streams of a number of groups. `NoMemory` if memory is refused.
-fn empty_streams<R: Rank, A: Allocator + Clone>(
-    alloc: &A,
-    groups: u32,
-) -> Result<Vec<Stream<R, A>, A>, NoMemory>
-    ensures { IfOk result (λ streams. streams.items ≡ []) }
-{
-    let own = alloc.clone()?;
-    let streams = Vec::with_capacity(own, groups as usize)?;
-    Ok(streams)
-}
-
 /// A node without streams.
 fn empty_node<R: Rank, A: Allocator + Clone>(
     alloc: &A,
@@ -73,7 +59,7 @@ fn empty_node<R: Rank, A: Allocator + Clone>(
     let children = children_of(alloc, tree, node)?;
     let rows = rows_to_open(children.len(), tree.len(node));
     let products = RowProducts::with_rows(alloc, rows, children.len())?;
-    let streams = empty_streams(alloc, tree.groups(node))?;
+    let streams = list_with_room(alloc, tree.groups(node) as usize)?;
     Ok(NodeStreams {
         children,
         first_head: EntryId::first(),
@@ -82,86 +68,88 @@ fn empty_node<R: Rank, A: Allocator + Clone>(
     })
 }
 
-/// All nodes of a tree, without streams. `NoMemory` if memory is refused.
-pub(crate) fn empty_nodes<R: Rank, A: Allocator + Clone>(
+/// Adds all nodes of a tree, without streams, to a list that is empty. `NoMemory` if memory is
+/// refused.
+fn add_empty_nodes<R: Rank, A: Allocator + Clone>(
     alloc: &A,
     tree: &Tree<R>,
-) -> Result<Vec<NodeStreams<R, A>, A>, NoMemory>
-    ensures count { IfOk result (λ nodes. length nodes.items ≡ length tree.now) }
-    ensures empty { IfOk result
-        (λ nodes. (v : ℕ) → v < length tree.now → IsEmptyNode tree.now v (lists_of nodes.items v)) }
+    nodes: &mut Vec<NodeStreams<R, A>, A>,
+) -> Result<(), NoMemory>
+    requires { nodes.old.items ≡ [] }
+    ensures count { OnOk result (length nodes.new.items ≡ length tree.now) }
+    ensures empty { OnOk result
+        ((v : ℕ) → v < length tree.now → IsEmptyNode tree.now v (lists_of nodes.new.items v)) }
 {
-    let mut nodes = Vec::new(alloc.clone()?);
     for node in 0..tree.nodes() {
         let empty = empty_node(alloc, tree, node)?;
         nodes.push(empty)?;
     }
-    Ok(nodes)
-}
-
-/// The stream of a group, after its head was added to the store. The queue has the first solution of
-/// the group's first member.
-fn first_stream<R: Rank, A: Allocator + Clone, L: Ledger>(
-    tree: &Tree<R>,
-    nodes: &[NodeStreams<R, A>],
-    entries: &mut Store<Found<R>, A>,
-    node: u32,
-    group: u32,
-    steps: &mut Steps<L>,
-) -> Result<Stream<R, A>, NoMemory>
-    requires formed { IsFormed R.KEYS R.key tree.now }
-    requires node { node < length tree.now }
-    requires group { group < group_count tree.now node }
-    requires headed { IsHeaded R.KEYS R.key tree.now entries.old.entries nodes.now node
-        (slice_index (members tree.now node group) 0) }
-    ensures only { IfOk result
-        (λ s. HasFirst R.KEYS R.key tree.now entries.old.entries node group s.entries) }
-    ensures entry { IfOk result (λ s.
-        (e : Linked (Found R)) × (entries.new.entries ≡ entries.old.entries ++ e ∷ [])
-        × (e.value.node ≡ node) × (e.value.group ≡ group) × (e.next ≡ None)
-        × (R.key e.value.solution.rank
-        ≡ slice_index_or (group_list R.KEYS R.key tree.now node group) 0 (key_none R.KEYS 16))
-        × ((d : Entry R Source) → e.value.solution ≡ kept_of (slice_index_or s.entries 0 d))) }
-    ensures cost { steps.new ≤ steps.old + 5 }
-{
-    let solution = first_solution(tree, nodes, entries, node, group, 0, steps);
-    entries.reserve(1)?;
-    entries.push_reserved(
-        Found {
-            node,
-            group,
-            solution: kept_solution(solution),
-        },
-        steps,
-    );
-    Ok(Stream {
-        queue: Queue::of(solution),
-    })
+    Ok(())
 }
 
 impl<R: Rank, A: Allocator> NodeStreams<R, A> {
-    /// Adds the stream of the next group. Its head comes after that of the group before it.
-    /// `NoMemory` if memory is refused.
-    fn add_stream(&mut self, head: EntryId, stream: Stream<R, A>) -> Result<(), NoMemory>
+    /// Adds the stream of the next group, whose queue has this solution. Its head comes after that of
+    /// the group before it. `NoMemory` if memory is refused.
+    fn add_stream(&mut self, head: EntryId, first: Entry<R, Source>) -> Result<(), NoMemory>
         requires next { IsNextHead self.old.streams head }
         requires fits { head < 2 ^ 32 }
         ensures { OnOk result
             (self.new ≡ record self.old {
               streams = self.old.streams
-                  ++ record { head = head; queue = stream.entries; room = stream.spare } ∷ [];
+                  ++ record { head = head; queue = first ∷ []; room = 0 } ∷ [];
             }) }
     {
         if self.streams.is_empty() {
             self.first_head = head;
         }
-        self.streams.push(stream)?;
+        self.streams.reserve(1)?;
+        self.streams.push_reserved(Stream {
+            queue: Queue::of(first),
+        });
         Ok(())
     }
 }
 
+/// Makes the stream of the next group of a node, and adds its head to the store. The queue has the
+/// first solution of the group's first member. `NoMemory` if memory is refused.
+fn begin_group<R: Rank, A: Allocator + Clone, L: Ledger>(
+    tree: &Tree<R>,
+    nodes: &mut Vec<NodeStreams<R, A>, A>,
+    entries: &mut Store<Found<R>, A>,
+    node: u32,
+    group: u32,
+    steps: &mut Steps<L>,
+) -> Result<(), NoMemory>
+    requires formed { IsFormed R.KEYS R.key tree.now }
+    requires node { node < length tree.now }
+    requires group { group < group_count tree.now node }
+    requires begun { IsBegunIn R.KEYS R.key tree.now entries.old.entries nodes.old.items node
+        group }
+    requires heads { IsNextHead (lists_of nodes.old.items node).streams
+        (length entries.old.entries) }
+    ensures begun { OnOk result
+        (IsBegunIn R.KEYS R.key tree.now entries.new.entries nodes.new.items node (group + 1)) }
+    ensures heads { OnOk result
+        (IsNextHead (lists_of nodes.new.items node).streams (length entries.new.entries)) }
+    ensures cost { steps.new ≤ steps.old + 5 }
+{
+    let head = entries.next_id();
+    let first = first_solution(tree, nodes.as_slice(), entries, node, group, 0, steps);
+    entries.reserve(1)?;
+    entries.push_reserved(
+        Found {
+            node,
+            group,
+            solution: kept_solution(first),
+        },
+        steps,
+    );
+    nodes[node as usize].add_stream(head, first)
+}
+
 /// Makes the streams of a node. The streams of all later nodes must be there. `NoMemory` if memory
 /// is refused.
-pub(crate) fn begin_node<R: Rank, A: Allocator + Clone, L: Ledger>(
+fn begin_node<R: Rank, A: Allocator + Clone, L: Ledger>(
     tree: &Tree<R>,
     nodes: &mut Vec<NodeStreams<R, A>, A>,
     entries: &mut Store<Found<R>, A>,
@@ -177,29 +165,30 @@ pub(crate) fn begin_node<R: Rank, A: Allocator + Clone, L: Ledger>(
     ensures cost { steps.new ≤ steps.old + 5 * rows tree.now node }
 {
     for group in 0..tree.groups(node) {
-        let head = entries.next_id();
-        let stream = first_stream(tree, nodes.as_slice(), entries, node, group, steps)?;
-        nodes[node as usize].add_stream(head, stream)?;
+        begin_group(tree, nodes, entries, node, group, steps)?;
     }
     Ok(())
 }
 
-/// All nodes of a tree, each of whose streams has its head. `NoMemory` if memory is refused.
-pub(crate) fn begun_nodes<R: Rank, A: Allocator + Clone, L: Ledger>(
+/// Adds all nodes of a tree, each of whose streams has its head, to a list that is empty. `NoMemory`
+/// if memory is refused.
+pub(crate) fn begin_nodes<R: Rank, A: Allocator + Clone, L: Ledger>(
     alloc: &A,
     tree: &Tree<R>,
+    nodes: &mut Vec<NodeStreams<R, A>, A>,
     entries: &mut Store<Found<R>, A>,
     steps: &mut Steps<L>,
-) -> Result<Vec<NodeStreams<R, A>, A>, NoMemory>
-    requires { entries.old.entries ≡ [] }
+) -> Result<(), NoMemory>
+    requires nodes { nodes.old.items ≡ [] }
+    requires entries { entries.old.entries ≡ [] }
     ensures formed { OnOk result (IsFormed R.KEYS R.key tree.now) }
-    ensures begun { IfOk result
-        (λ nodes. IsBegunFrom R.KEYS R.key tree.now entries.new.entries nodes.items 0) }
+    ensures begun { OnOk result
+        (IsBegunFrom R.KEYS R.key tree.now entries.new.entries nodes.new.items 0) }
     ensures cost { steps.new ≤ steps.old + 16 * length tree.now * (1 + row_count tree.now) }
 {
-    let mut nodes = empty_nodes(alloc, tree)?;
+    add_empty_nodes(alloc, tree, nodes)?;
     for node in (0..tree.nodes()).rev() {
-        begin_node(tree, &mut nodes, entries, node, steps)?;
+        begin_node(tree, nodes, entries, node, steps)?;
     }
-    Ok(nodes)
+    Ok(())
 }

@@ -141,8 +141,8 @@ impl<R: Rank, A: Allocator> RowProducts<R, A> {
 
 /// Makes a chunk with this room at the end, unless there is one of this number, from 0. `NoMemory`
 /// if memory is refused.
-fn make_chunk<R: Rank, A: Allocator + Clone>(
-    chunks: &mut Vec<Vec<Product<R, A>, A>, A>,
+fn make_chunk<T: Drop, A: Allocator + Clone>(
+    chunks: &mut Vec<Vec<T, A>, A>,
     number: usize,
     room: usize,
 ) -> Result<(), NoMemory>
@@ -157,6 +157,7 @@ fn make_chunk<R: Rank, A: Allocator + Clone>(
     }
     let alloc = chunks.allocator().clone()?;
     chunks.reserve(1)?;
-    chunks.push_reserved(Vec::with_capacity(alloc, room)?);
+    let chunk = Vec::with_capacity(alloc, room)?;
+    chunks.push_reserved(chunk);
     Ok(())
 }

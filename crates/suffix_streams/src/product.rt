@@ -9,6 +9,7 @@ ghost use Rattle.suffix_streams.specs.declared.cell.Cell.{Cell};
 ghost use Rattle.suffix_streams.specs.ProductView.{with_rank};
 
 use crate::cell::Cell;
+use crate::lists::list_of;
 use crate::queue::Queue;
 use rank_key::Rank;
 use std::alloc::Allocator;
@@ -299,18 +300,4 @@ impl<R: Rank, A: Allocator> Sums<R, A> {
             Sums::Ranked(sums) => sums.push_reserved(sum),
         }
     }
-}
-
-/// A list of this item alone, with room for so many. `NoMemory` if memory is refused.
-fn list_of<T: Copy, A: Allocator + Clone>(
-    alloc: &A,
-    item: T,
-    room: usize,
-) -> Result<Vec<T, A>, NoMemory>
-    requires { 0 < room }
-    ensures { IfOk result (λ list. list.items ≡ item ∷ []) }
-{
-    let mut list = Vec::with_capacity(alloc.clone()?, room)?;
-    list.push_reserved(item);
-    Ok(list)
 }

@@ -6,7 +6,9 @@ ghost use Rattle.take2_heap.specs.Order.{IsMinHeap, IsLeast};
 ghost use Rattle.take2_heap.specs.declared.entry.Entry.{Entry};
 ghost use Rattle.suffix_streams.specs.Offers.{offers};
 ghost use Rattle.suffix_streams.specs.QueueView.{queue_view};
+ghost use Rattle.suffix_streams.specs.TopPassed.{IsTopPassed};
 
+use crate::lists::list_with_room;
 use rank_key::Rank;
 use std::alloc::Allocator;
 use std::marker::Model;
@@ -140,15 +142,10 @@ impl<R: Rank, T: Copy, A: Allocator + Clone> Queue<R, T, A> {
         if count == 0 {
             return Ok(());
         }
-        let held = match &mut self.held {
-            Held::Empty => None,
-            Held::One(tag, rank) => Some(Entry {
-                rank: *rank,
-                tag: *tag,
-            }),
-            Held::Many(heap) => return heap.reserve(count),
-        };
-        let heap = heap_with_room(alloc, held, count)?;
+        if let Held::Many(heap) = &mut self.held {
+            return heap.reserve(count);
+        }
+        let heap = heap_with_room(alloc, self.top(), count)?;
         self.held = Held::Many(heap);
         Ok(())
     }
@@ -179,7 +176,7 @@ fn heap_with_room<R: Rank, T: Copy, A: Allocator + Clone>(
     ensures spare { IfOk result (λ h. count ≤ h.spare) }
 {
     let size = count.checked_add(1 + MORE_ROOM).ok_or(NoMemory)?;
-    let mut entries = Vec::with_capacity(alloc.clone()?, size)?;
+    let mut entries = list_with_room(alloc, size)?;
     if let Some(entry) = entry {
         entries.push_reserved(entry);
     }
@@ -195,16 +192,7 @@ fn pass_top<R: Rank, T: Copy, A: Allocator, L: Ledger>(
 )
     requires top { 0 < length heap.old.entries }
     requires room { IsSome next → IsSome other → 0 < heap.old.spare }
-    ensures moved { (d : Entry R T)
-        → IsPermutation (offers next other heap.old.entries)
-        (slice_index_or heap.old.entries 0 d ∷ heap.new.entries) }
-    ensures least { (d : Entry R T)
-        → IsLeast R.KEYS R.key (slice_index_or heap.old.entries 0 d) heap.old.entries }
-    ensures heap_order { IsMinHeap R.KEYS R.key heap.new.entries }
-    ensures cost { steps.new
-        ≤ steps.old + 2 * bit_length (length heap.old.entries)
-        + bit_length (length heap.old.entries + 1) }
-    ensures spare { heap.old.spare ≤ heap.new.spare + 1 }
+    ensures { IsTopPassed R.KEYS R.key next other heap.old heap.new steps.old steps.new }
 {
     match (next, other) {
         (Some(next), Some(other)) => {

@@ -41,6 +41,7 @@ pub(crate) fn child_head<R: Rank, A: Allocator + Clone, L: Ledger>(
     ensures head { result
         ≡ (stream_of nodes.now (child_node tree.now node child)
         (group_named tree.now node row child)).head }
+    ensures within { result < length entries.now.entries }
     ensures cost { steps.new ≡ steps.old + 1 }
 {
     let _store = entries;

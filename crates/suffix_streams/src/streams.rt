@@ -7,7 +7,7 @@ ghost use Rattle.tdp_core.specs.AnswerView.{rows_of_key, counted};
 ghost use Rattle.suffix_streams.specs.StreamsView.{IsStreamsView, entry_node, entry_group, entry_place, entry_key, size_of_node, ArePrefixes, AreKept, IsEntry, Follows};
 ghost use Rattle.suffix_streams.specs.TreeStreams.{next_of};
 
-use crate::beginning::begun_nodes;
+use crate::beginning::begin_nodes;
 use crate::solutions::Solutions;
 use rank_key::Rank;
 use std::alloc::Allocator;
@@ -62,7 +62,8 @@ impl<'t, R: Rank, A: Allocator + Clone> Streams<'t, R, A> {
     {
         let mut entries = Store::new(alloc.clone()?);
         let made = Vec::new(alloc.clone()?);
-        let nodes = begun_nodes(&alloc, tree, &mut entries, steps)?;
+        let mut nodes = Vec::new(alloc.clone()?);
+        begin_nodes(&alloc, tree, &mut nodes, &mut entries, steps)?;
         let solutions = Solutions {
             tree,
             alloc,

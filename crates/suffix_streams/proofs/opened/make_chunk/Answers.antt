@@ -1,4 +1,4 @@
-use Rattle.std.proofs.Common.{◌≡◌, ℕ, ◌+◌, ◌<◌, ◌≤◌, List, [], ◌∷◌, ◌++◌, length, length-append, get_or, ap, ◌∙◌, arith}
+use Rattle.std.proofs.Common.{◌≡◌, ℕ, ◌+◌, ◌<◌, ◌≤◌, List, [], ◌∷◌, ◌++◌, length, length-append, get_or, refl, ap, ◌∙◌, arith}
 use Rattle.suffix_streams.proofs.Errors.{none_done}
 use Rattle.suffix_streams.proofs.OpenedRows.{items_of, empty_behind}
 use Rattle.suffix_streams.proofs.opened.make_chunk.Goals as goal
@@ -22,14 +22,30 @@ returns g c =
       there = in_longer _ _ _ c.requires longer;
       longer = more_long _ _ longer;
       same = λ j.
-          ap (λ vs. get_or (items_of vs) j []) c.push_reserved.ensures.items ∙ empty_behind c.reserve.new.self.items c.in_ok-with_capacity.field-0 c.in_ok-with_capacity.ensures.items j
+          ap (λ vs. get_or (items_of vs) j []) c.push_reserved.ensures.items ∙ empty_behind c.reserve.new.self.items c.in_ok-chunk.chunk c.in_ok-chunk.ensures.items j
           ∙ ap (λ vs. get_or (items_of vs) j []) c.in_ok-reserve.ensures.items;
     }
 
-pub returns-in_err-with_capacity : goal.returns-in_err-with_capacity
-returns-in_err-with_capacity g c =
+pub returns-in_err-chunk : goal.returns-in_err-chunk
+returns-in_err-chunk g c =
     record {
-      there = none_done _ c.from_residual-in_err-with_capacity.result c.from_residual-in_err-with_capacity.ensures.0;
+      there = none_done _ c.from_residual-in_err-chunk.result c.from_residual-in_err-chunk.ensures.0;
       longer = same_long _ _ (ap length c.in_ok-reserve.ensures.items);
       same = λ j. ap (λ vs. get_or (items_of vs) j []) c.in_ok-reserve.ensures.items;
+    }
+
+pub returns-in_err-alloc : goal.returns-in_err-alloc
+returns-in_err-alloc g c =
+    record {
+      there = none_done _ c.from_residual.result c.from_residual.ensures.0;
+      longer = same_long _ _ refl;
+      same = λ j. refl;
+    }
+
+pub returns-in_err-reserve : goal.returns-in_err-reserve
+returns-in_err-reserve g c =
+    record {
+      there = none_done _ c.from_residual-in_err-reserve.result c.from_residual-in_err-reserve.ensures.0;
+      longer = same_long _ _ (ap length c.reserve.ensures.items);
+      same = λ j. ap (λ vs. get_or (items_of vs) j []) c.reserve.ensures.items;
     }

@@ -1,26 +1,24 @@
-use Rattle.std.proofs.Common.{◌≡◌, ◌+◌, ◌∷◌, length, get_or, arith, subst, ap, ◌∙◌}
-use Rattle.std.specs.List.Sorted.{IsPermutation}
-use Rattle.std.proofs.lemmas.List.{get_or_default}
-use Rattle.rank_key.specs.Bits.{bit_length}
-use Rattle.take2_heap.specs.declared.entry.Entry.{Entry}
-use Rattle.suffix_streams.proofs.Moves.{left_and_put, same_length}
+use Rattle.suffix_streams.proofs.TopPass.{next_passed, other_passed, both_passed, none_passed}
 use Rattle.suffix_streams.proofs.queue.pass_top.Goals as goal
 
-pub returns-in-Some-Some-clause-moved : goal.returns-in-Some-Some-clause-moved
-returns-in-Some-Some-clause-moved g c d =
-    let old = c.args.heap.now.entries in
-    let new = c.push_reserved.new.self.entries in
-    let x : Entry g.row.R.Denot g.row.T.Denot = record { rank = c.in-Some-Some.next.rank; tag = c.in-Some-Some.next.tag } in
-    let y : Entry g.row.R.Denot g.row.T.Denot = record { rank = c.in-Some-Some.other.rank; tag = c.in-Some-Some.other.tag } in
-    let t = c.replace_top.result in
-    let same : t ≡ get_or old 0 d = c.replace_top.ensures.top ∙ get_or_default old 0 t d c.requires.top in
-    rw (c.in-Some-Some.is-0, c.in-Some-Some.is-1) (subst (λ z. IsPermutation (y ∷ (x ∷ old)) (z ∷ new)) same
-    (left_and_put y t (x ∷ old) c.replace_top.new.self.entries new c.replace_top.ensures.permutation c.push_reserved.ensures.permutation))
+pub returns-in-Some-Some : goal.returns-in-Some-Some
+returns-in-Some-Some g c =
+    let old = c.args.heap.now in
+    let r = c.replace_top in
+    let p = c.push_reserved in
+    rw (c.in-Some-Some.is-0, c.in-Some-Some.is-1) (both_passed g.R.Rank.KEYS g.R.Rank.key old c.requires.top c.args.steps.now r.result r.ensures.top r.ensures.least c.in-Some-Some.next r.new.self r.new.steps r.ensures.permutation r.ensures.spare r.ensures.cost c.in-Some-Some.other p.new.self p.new.steps p.ensures.permutation p.ensures.heap_order p.ensures.spare p.ensures.cost)
 
-pub returns-in-Some-Some-clause-cost : goal.returns-in-Some-Some-clause-cost
-returns-in-Some-Some-clause-cost g c =
-    let old = c.args.heap.now.entries in
-    let mid = c.replace_top.new.self.entries in
-    let same : bit_length (length mid + 1) ≡ bit_length (length old + 1) =
-    ap (λ z. bit_length (z + 1)) (same_length (record { rank = c.in-Some-Some.next.rank; tag = c.in-Some-Some.next.tag }) c.replace_top.result old mid c.replace_top.ensures.permutation) in
-    omega (arith, same, c.replace_top.ensures.cost, c.push_reserved.ensures.cost)
+pub returns-in-Some-None : goal.returns-in-Some-None
+returns-in-Some-None g c =
+    let r = c.replace_top-in-Some-None in
+    rw (c.in-Some-None.is-0, c.in-Some-None.is-1) (next_passed g.R.Rank.KEYS g.R.Rank.key c.args.heap.now c.requires.top c.args.steps.now r.result r.ensures.top r.ensures.least c.in-Some-None.next r.new.self r.new.steps r.ensures.permutation r.ensures.spare r.ensures.cost r.ensures.heap_order)
+
+pub returns-in-None-Some : goal.returns-in-None-Some
+returns-in-None-Some g c =
+    let r = c.replace_top-in-None-Some in
+    rw (c.in-None-Some.is-0, c.in-None-Some.is-1) (other_passed g.R.Rank.KEYS g.R.Rank.key c.args.heap.now c.requires.top c.args.steps.now r.result r.ensures.top r.ensures.least c.in-None-Some.other r.new.self r.new.steps r.ensures.permutation r.ensures.spare r.ensures.cost r.ensures.heap_order)
+
+pub returns-in-None-None : goal.returns-in-None-None
+returns-in-None-None g c =
+    let p = c.pop in
+    rw (c.in-None-None.is-0, c.in-None-None.is-1) (none_passed g.R.Rank.KEYS g.R.Rank.key c.args.heap.now c.requires.top c.args.steps.now p.result p.new.self p.new.steps p.ensures.variant.1 p.ensures.top p.ensures.least p.ensures.permutation p.ensures.spare p.ensures.heap_order p.ensures.cost)

@@ -1,8 +1,11 @@
-use Rattle.std.proofs.Common.{length, arith}
+use Rattle.std.proofs.Common.{◌≡◌, ℕ, ◌<◌, length, arith}
 use Rattle.tdp_core.specs.TreeView.{parent}
 use Rattle.tdp_core.proofs.Children.{kids_below_most}
 use Rattle.suffix_streams.proofs.Heads.{children_count, kid_within, stream_within, head_is}
 use Rattle.suffix_streams.proofs.reads.child_head.Goals as goal
+
+same_in : (v u n : ℕ) → v ≡ u → u < n → v < n
+same_in v u n e l = omega arith
 
 pub overflow_cast-child : goal.overflow_cast-child
 overflow_cast-child g c =
@@ -20,10 +23,16 @@ head-requires g c =
     stream_within g.R.Rank.KEYS g.R.Rank.key c.args.tree.now c.requires.formed c.args.entries.now.entries c.args.nodes.now c.args.node c.args.row c.args.child c.requires.headed c.requires.node c.requires.child
     c.index-nodes-node.result c.index-nodes-node.is c.child-child_node.result c.index-nodes-child_node.result c.group_of-group.result c.child-child_node.ensures c.index-nodes-child_node.is c.group_of-group.ensures.named
 
-pub returns-clause-head : goal.returns-clause-head
-returns-clause-head g c =
+pub returns : goal.returns
+returns g c =
+    let head =
     head_is g.R.Rank.KEYS g.R.Rank.key c.args.tree.now c.requires.formed c.args.entries.now.entries c.args.nodes.now c.args.node c.args.row c.args.child c.requires.headed c.requires.node c.requires.child
-    c.index-nodes-node.result c.index-nodes-node.is c.child-child_node.result c.index-nodes-child_node.result c.group_of-group.result c.head.result c.child-child_node.ensures c.index-nodes-child_node.is c.group_of-group.ensures.named c.head.ensures
+    c.index-nodes-node.result c.index-nodes-node.is c.child-child_node.result c.index-nodes-child_node.result c.group_of-group.result c.head.result c.child-child_node.ensures c.index-nodes-child_node.is c.group_of-group.ensures.named c.head.ensures in
+    record {
+      head = head;
+      within = same_in _ _ _ head (c.requires.headed.heads c.args.child c.requires.child);
+      cost = c.group_of-group.ensures.counted;
+    }
 
 pub offset_bounds-nodes-child_node : goal.offset_bounds-nodes-child_node
 offset_bounds-nodes-child_node g c =

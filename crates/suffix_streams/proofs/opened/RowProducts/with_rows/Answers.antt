@@ -1,5 +1,6 @@
 use Rattle.std.proofs.Common.{◌≡◌, ℕ, suc, zero, List, [], length, map, get_or, replicate, refl, ap, ◌∙◌, arith}
 use Rattle.suffix_streams.specs.OpenedRows.{HaveOwnLists, list_numbered}
+use Rattle.suffix_streams.proofs.Errors.{none_given}
 use Rattle.suffix_streams.proofs.Stores.{map_length}
 use Rattle.suffix_streams.proofs.OpenedRows.{items_of, none_chunked}
 use Rattle.suffix_streams.proofs.opened.RowProducts.with_rows.Goals as goal
@@ -25,9 +26,26 @@ all (suc n) = ap suc (all n)
 pub invariant_of-result : goal.invariant_of-result
 invariant_of-result g c = rw (c.in_ok-opened.ensures.items_if_clones_equal (λ y same. same)) (own c.args.rows 0, none_chunked c.args.width _ (ap (λ vs. items_of vs) c.new-chunks.ensures.items), omega arith, λ some. absurd (omega (arith, some)))
 
-pub returns-clause-count : goal.returns-clause-count
-returns-clause-count g c = rw (c.in_ok-opened.ensures.items_if_clones_equal (λ y same. same)) (map_length _ (replicate c.args.rows 0) ∙ all c.args.rows)
+pub returns : goal.returns
+returns g c =
+    record {
+      width = refl;
+      count = rw (c.in_ok-opened.ensures.items_if_clones_equal (λ y same. same)) (map_length _ (replicate c.args.rows 0) ∙ all c.args.rows);
+      none = λ r. rw (c.in_ok-opened.ensures.items_if_clones_equal (λ y same. same)) (unopened c.args.width _ c.args.rows r);
+    }
 
-pub returns-clause-none : goal.returns-clause-none
-returns-clause-none g c r =
-    rw (c.in_ok-opened.ensures.items_if_clones_equal (λ y same. same)) (unopened c.args.width _ c.args.rows r)
+pub returns-in_err-opened : goal.returns-in_err-opened
+returns-in_err-opened g c =
+    record {
+      width = none_given _ c.from_residual-in_err-opened.result c.from_residual-in_err-opened.ensures.0;
+      count = none_given _ c.from_residual-in_err-opened.result c.from_residual-in_err-opened.ensures.0;
+      none = none_given _ c.from_residual-in_err-opened.result c.from_residual-in_err-opened.ensures.0;
+    }
+
+pub returns-in_err-clone-2 : goal.returns-in_err-clone-2
+returns-in_err-clone-2 g c =
+    record {
+      width = none_given _ c.from_residual-in_err-clone-2.result c.from_residual-in_err-clone-2.ensures.0;
+      count = none_given _ c.from_residual-in_err-clone-2.result c.from_residual-in_err-clone-2.ensures.0;
+      none = none_given _ c.from_residual-in_err-clone-2.result c.from_residual-in_err-clone-2.ensures.0;
+    }

@@ -1,4 +1,4 @@
-use Rattle.std.proofs.Common.{◌≡◌, ◌≢◌, ℕ, ◌+◌, ◌*◌, ◌<◌, ◌≤◌, None, Some, IfSome, IfNone, is_some, List, [], ◌∷◌, ◌++◌, length, get_or, refl, sym, ap, ◌∙◌, subst, arith}
+use Rattle.std.proofs.Common.{◌≡◌, ◌≢◌, ℕ, suc, ◌+◌, ◌*◌, ◌<◌, ◌≤◌, None, Some, IfSome, IfNone, is_some, List, [], ◌∷◌, ◌++◌, length, get_or, refl, sym, ap, ◌∙◌, subst, arith}
 use Rattle.tdp_core.specs.TreeView.{number, members, child_count}
 use Rattle.rankings.specs.KeyTuple.{key_none}
 use Rattle.stream_store.specs.declared.entry.Linked.{Linked}
@@ -22,8 +22,34 @@ use Rattle.suffix_streams.specs.Links.{owned, IsLinkedAt}
 use Rattle.suffix_streams.specs.Rankings.{part_list, group_list}
 use Rattle.suffix_streams.proofs.QueuePass.{IsGroupTop, IsQueuePassed, IsEntryLinked, whole_stream, group_top, queue_passed, passed_ends, passed_grows, entry_linked}
 use Rattle.suffix_streams.proofs.solutions.Solutions.advance.Given.{Over}
-use Rattle.suffix_streams.proofs.solutions.Solutions.advance.Goals.{After-as_slice, After-pass_last, After-push_reserved-next, After-set_next, In_ok-top}
+use Rattle.suffix_streams.proofs.solutions.Solutions.advance.Goals.{After-as_slice, After-pass_last, After-push_reserved-next, After-set_next}
 use Rattle.suffix_streams.proofs.solutions.Solutions.advance.Goals as goal
+
+-- # Numbers
+
+next_some : (x p : ℕ) → x + 1 ≡ p → 0 < p
+next_some x p e = omega arith
+
+in_streams : (v n k m : ℕ) → v < n → k ≡ n → m ≡ k → v < m
+in_streams v n k m l e f = omega arith
+
+in_nodes : (v n k m : ℕ) → v < n → m ≡ k → k ≡ n → v < m
+in_nodes v n k m l e f = omega arith
+
+one_longer : (n k m : ℕ) → m ≡ k → k ≡ suc n → m ≡ n + 1
+one_longer n k m e f = omega arith
+
+in_longer : (v n m : ℕ) → v < n → m ≡ n + 1 → v < m
+in_longer v n m l e = omega arith
+
+at_end : (v n m : ℕ) → v ≡ n → m ≡ n + 1 → v < m
+at_end v n m e f = omega arith
+
+no_more : (n m : ℕ) → n ≤ n + m
+no_more n m = omega arith
+
+two_more : (s s' k b : ℕ) → s' ≤ s + 8 + 3 * k + 4 * b → s' ≤ s + 10 + 3 * k + 4 * b
+two_more s s' k b h = omega arith
 
 -- # What the proofs share
 
@@ -74,7 +100,7 @@ module _ (g : Over) where
   pushed_of : (c : After-push_reserved-next g) → length c.push_reserved-next.new.self.entries ≡ length c.args.self.now.entries.entries + 1
   pushed_of c =
       let e : Linked (Found g.row.R.Denot) = record { value = record { node = c.args.node; group = c.args.group; solution = c.kept_solution.result }; next = None } in
-      omega (arith, ap length c.push_reserved-next.ensures.entries, count_more c.args.self.now.entries.entries e)
+      one_longer _ _ _ (ap length c.push_reserved-next.ensures.entries) (count_more c.args.self.now.entries.entries e)
 
   linked_of : (c : After-set_next g) → IsGroupTop g.R.Rank.KEYS g.R.Rank.key c.args.self.now.tree.now c.args.self.now.entries.entries c.args.self.now.nodes.items c.args.last c.args.node c.args.group c.args.row → IsEntryLinked c.args.self.now.tree.now c.args.self.now.entries.entries c.set_next.new.self.entries c.args.last (record { node = c.args.node; group = c.args.group; solution = c.kept_solution.result })
   linked_of c o = entry_linked o c.kept_solution.result c.push_reserved-next.new.self.entries c.set_next.new.self.entries c.push_reserved-next.result c.requires.formed c.requires.last.within c.requires.last.node c.requires.last.group c.requires.last.none c.push_reserved-next.ensures.id c.push_reserved-next.ensures.entries c.set_next.ensures.entries
@@ -88,7 +114,7 @@ pub row_offer-offer-requires-clause-place : goal.row_offer-offer-requires-clause
 row_offer-offer-requires-clause-place g c =
     let x = first_of (stream_of c.args.self.now.nodes.items c.args.node c.args.group).queue c.requires.top.some in
     let place : x.0.tag.place + 1 ≡ c.args.place = ap (λ e. e.tag.place + 1) x.1 ∙ c.requires.top.after x.0 in
-    omega (arith, place)
+    next_some _ _ place
 
 pub top-requires-clause-group : goal.top-requires-clause-group
 top-requires-clause-group g c =
@@ -98,7 +124,7 @@ top-requires-clause-group g c =
     let queued = with_queue (lists_of n c.args.node) c.args.group (stream_of c.pass_last.new.nodes.items c.args.node c.args.group).queue (stream_of c.pass_last.new.nodes.items c.args.node c.args.group).room in
     let streams = ap (λ (z : List (NodeStreamsView g.row.R.Denot)). length (lists_of z c.args.node).streams) c.pass_last.ensures.changed ∙ ap (λ (m : NodeStreamsView g.row.R.Denot). length m.streams) (lists_same n c.args.node queued o.in_nodes)
     ∙ set_length (lists_of n c.args.node).streams c.args.group (record (stream_of n c.args.node c.args.group) { queue = (stream_of c.pass_last.new.nodes.items c.args.node c.args.group).queue; room = (stream_of c.pass_last.new.nodes.items c.args.node c.args.group).room }) in
-    omega (arith, o.group, c.requires.formed.all_streams c.args.node o.node, streams)
+    in_streams _ _ _ _ o.group (c.requires.formed.all_streams c.args.node o.node) streams
 
 pub pass_last-requires-clause-group : goal.pass_last-requires-clause-group
 pass_last-requires-clause-group g c =
@@ -139,7 +165,7 @@ top-requires-clause-node g c =
     let at = goal.at.top-requires-clause-node g c in
     let o = top_of g at.After-as_slice in
     let long = set_length c.args.self.now.nodes.items c.args.node (with_queue (lists_of c.args.self.now.nodes.items c.args.node) c.args.group (stream_of c.pass_last.new.nodes.items c.args.node c.args.group).queue (stream_of c.pass_last.new.nodes.items c.args.node c.args.group).room) in
-    omega (arith, o.in_nodes, ap length c.pass_last.ensures.changed, long)
+    in_nodes _ _ _ _ o.in_nodes (ap length c.pass_last.ensures.changed) long
 
 pub returns-in_err-top : goal.returns-in_err-top
 returns-in_err-top g c =
@@ -155,27 +181,25 @@ returns-in_err-top g c =
           (ap (λ z. length (group_list g.R.Rank.KEYS g.R.Rank.key c.args.self.now.tree.now z (group_of c.args.self.now.entries.entries c.args.last))) c.requires.last.node ∙ ap (λ z. length (group_list g.R.Rank.KEYS g.R.Rank.key c.args.self.now.tree.now c.args.node z)) c.requires.last.group ∙ sym (whole_stream p empty) ∙ stream_owned c.args.self.now.entries.entries c.args.node c.args.group
           ∙ ap (λ z. owned (node_list c.args.self.now.entries.entries) (group_list_of c.args.self.now.entries.entries) z c.args.group) (sym c.requires.last.node) ∙ ap (λ z. owned (node_list c.args.self.now.entries.entries) (group_list_of c.args.self.now.entries.entries) (node_of c.args.self.now.entries.entries c.args.last) z) (sym c.requires.last.group) ∙ sym link);
       formed = subst (λ (z : List (NodeStreamsView g.row.R.Denot)). IsStreams g.R.Rank.KEYS g.R.Rank.key c.args.self.now.tree.now c.args.self.now.entries.entries z) (sym changed) (passed_ends p (stream_of c.pass_last.new.nodes.items c.args.node c.args.group).room empty);
-      growth = λ v. omega arith;
+      growth = λ v. no_more _ _;
       store = store_stays c.args.node c.args.self.now.entries.entries;
       products = ap (λ (z : List (NodeStreamsView g.row.R.Denot)). (lists_of z c.args.node).products) changed ∙ queued_products g.R.Rank.KEYS g.R.Rank.key c.args.self.now.tree.now c.args.self.now.entries.entries c.args.self.now.entries.entries c.args.self.now.nodes.items c.requires.formed (held_itself c.args.self.now.entries.entries) c.args.node c.args.group o.node o.group (stream_of c.pass_last.new.nodes.items c.args.node c.args.group).queue (stream_of c.pass_last.new.nodes.items c.args.node c.args.group).room c.args.node;
       above = λ v other. others_of g at.After-pass_last v other;
       tree = refl;
-      cost =
-          let digits = digits_of g at.After-pass_last o in
-          omega (arith, digits);
+      cost = two_more _ _ _ _ (digits_of g at.After-pass_last o);
     }
 
 pub set_next-requires-clause-id : goal.set_next-requires-clause-id
 set_next-requires-clause-id g c =
     let at = goal.at.set_next-requires-clause-id g c in
     let pushed = pushed_of g at.After-push_reserved-next in
-    omega (arith, c.requires.last.within, pushed)
+    in_longer _ _ _ c.requires.last.within pushed
 
 pub set_next-requires-clause-to : goal.set_next-requires-clause-to
 set_next-requires-clause-to g c =
     let at = goal.at.set_next-requires-clause-to g c in
     let pushed = pushed_of g at.After-push_reserved-next in
-    omega (arith, c.push_reserved-next.ensures.id, pushed)
+    at_end _ _ _ c.push_reserved-next.ensures.id pushed
 
 pub set_next-requires-clause-none : goal.set_next-requires-clause-none
 set_next-requires-clause-none g c d =

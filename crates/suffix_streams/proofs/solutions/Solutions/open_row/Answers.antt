@@ -21,6 +21,9 @@ use Rattle.suffix_streams.proofs.solutions.Solutions.open_row.Goals as goal
 in_same : (v n m : ℕ) → v < n → m ≡ n → v < m
 in_same v n m l e = omega arith
 
+in_rows : (r n k m : ℕ) → r < n → m ≡ k → k ≡ n → r < m
+in_rows r n k m l e f = omega arith
+
 queue_itself : (n more : ℕ) → n ≤ max 1 n + more
 queue_itself n more = omega arith
 
@@ -59,7 +62,7 @@ set_products-requires-clause-row g c =
     let inside : c.args.node < length c.make_queue_room.new.nodes.items = in_same _ _ _ c.requires.node (room_of g at.After-make_queue_room).formed.all_nodes in
     let few = row_lacks g.R.Rank.KEYS g.R.Rank.key c.args.self.now.tree.now c.args.self.now.entries.entries c.make_queue_room.new.nodes.items (room_of g at.After-make_queue_room).formed c.args.node c.args.row c.requires.node c.requires.row c.index-lists.result.now c.index-lists.ensures c.product_count.result c.child_count.result c.product_count.ensures c.child_count.ensures c.if-product_count-child_count.true in
     subst (λ n. c.args.row < length n.products) (lists_at c.make_queue_room.new.nodes.items c.args.node c.index_mut.result.now c.index_mut.ensures.value inside)
-    (omega (arith, c.requires.row, (room_of g at.After-make_queue_room).formed.all_rows c.args.node c.requires.node, open_all (child_count c.args.self.now.tree.now c.args.node) (rows c.args.self.now.tree.now c.args.node) few.1))
+    (in_rows _ _ _ _ c.requires.row ((room_of g at.After-make_queue_room).formed.all_rows c.args.node c.requires.node) (open_all (child_count c.args.self.now.tree.now c.args.node) (rows c.args.self.now.tree.now c.args.node) few.1))
 
 pub set_products-requires-clause-count : goal.set_products-requires-clause-count
 set_products-requires-clause-count g c =

@@ -23,6 +23,9 @@ use Rattle.suffix_streams.proofs.solutions.Solutions.step.Goals as goal
 in_same : (v n m : ℕ) → v < n → m ≡ n → v < m
 in_same v n m l e = omega arith
 
+in_equal : (v n m : ℕ) → v < n → n ≡ m → v < m
+in_equal v n m l e = omega arith
+
 -- # What the proofs share
 
 -- the first entry of the stream of the group that a row names for a child
@@ -78,7 +81,7 @@ pub cell_beside-across-requires : goal.cell_beside-across-requires
 cell_beside-across-requires g c =
     let at = goal.at.cell_beside-across-requires g c in
     let known = known_is g at.After-known-known in
-    omega (arith, known, (cell_known g.R.Rank.KEYS g.R.Rank.key c.args.self.now.tree.now c.args.self.now.entries.entries c.args.self.now.nodes.items c.requires.formed c.args.node c.args.row c.args.child c.requires.node c.requires.row c.requires.child c.args.top.now.tag c.requires.top.some (λ x. ap (λ e. e.tag) (c.requires.top.first x))).left)
+    in_same _ _ _ (cell_known g.R.Rank.KEYS g.R.Rank.key c.args.self.now.tree.now c.args.self.now.entries.entries c.args.self.now.nodes.items c.requires.formed c.args.node c.args.row c.args.child c.requires.node c.requires.row c.requires.child c.args.top.now.tag c.requires.top.some (λ x. ap (λ e. e.tag) (c.requires.top.first x))).left known
 
 pub offered-across-requires-clause-parts : goal.offered-across-requires-clause-parts
 offered-across-requires-clause-parts g c = subst (λ (z : List (NodeStreamsView g.row.R.Denot)). HasParts g.R.Rank.KEYS g.R.Rank.key c.args.self.now.tree.now c.args.self.now.entries.entries z c.args.node c.args.row c.args.child) (sym c.as_slice.ensures.value) (parts_of g.R.Rank.KEYS g.R.Rank.key c.args.self.now.tree.now c.args.self.now.entries.entries c.args.self.now.nodes.items c.requires.formed c.args.node c.args.row c.args.child c.requires.node c.requires.row c.requires.child)
@@ -123,7 +126,7 @@ step_product-requires-clause-frontier_room g c _ across =
 pub step_product-requires-clause-child : goal.step_product-requires-clause-child
 step_product-requires-clause-child g c =
     let inside : c.args.node < length c.args.self.now.nodes.items = in_same _ _ _ c.requires.node c.requires.formed.all_nodes in
-    omega (arith, c.requires.child, ap (λ n. length (get_or n.products c.args.row [])) (lists_at c.args.self.now.nodes.items c.args.node c.index_mut.result.now c.index_mut.ensures.value inside))
+    in_equal _ _ _ c.requires.child (ap (λ n. length (get_or n.products c.args.row [])) (lists_at c.args.self.now.nodes.items c.args.node c.index_mut.result.now c.index_mut.ensures.value inside))
 
 pub step_product-requires-clause-top : goal.step_product-requires-clause-top
 step_product-requires-clause-top g c =

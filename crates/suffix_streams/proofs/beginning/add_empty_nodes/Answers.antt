@@ -4,8 +4,8 @@ use Rattle.suffix_streams.specs.TreeStreams.{lists_of}
 use Rattle.suffix_streams.specs.Beginnings.{IsEmptyNode}
 use Rattle.suffix_streams.proofs.BeginOwners.{length_behind}
 use Rattle.suffix_streams.proofs.BeginNodes.{empties_more}
-use Rattle.suffix_streams.proofs.Errors.{none_given}
-use Rattle.suffix_streams.proofs.beginning.empty_nodes.Goals as goal
+use Rattle.suffix_streams.proofs.Errors.{none_done}
+use Rattle.suffix_streams.proofs.beginning.add_empty_nodes.Goals as goal
 
 pub loop-node-preserved : goal.loop-node-preserved
 loop-node-preserved g c =
@@ -17,23 +17,16 @@ loop-node-preserved g c =
           (empties_more g.R.Rank.KEYS g.R.Rank.key t c.loop-node.nodes.items c.in_ok-empty.empty c.loop-node.node c.loop-node.invariant.count c.loop-node.invariant.empty c.in_ok-empty.ensures v l);
     }
 
-pub returns-in_err-clone : goal.returns-in_err-clone
-returns-in_err-clone g c =
-    record {
-      count = none_given _ c.from_residual.result c.from_residual.ensures.0;
-      empty = none_given _ c.from_residual.result c.from_residual.ensures.0;
-    }
-
 pub returns-in_err-empty : goal.returns-in_err-empty
 returns-in_err-empty g c =
     record {
-      count = none_given _ c.from_residual-in_err-empty.result c.from_residual-in_err-empty.ensures.0;
-      empty = none_given _ c.from_residual-in_err-empty.result c.from_residual-in_err-empty.ensures.0;
+      count = none_done _ c.from_residual.result c.from_residual.ensures.0;
+      empty = none_done _ c.from_residual.result c.from_residual.ensures.0;
     }
 
 pub returns-in_err-push : goal.returns-in_err-push
 returns-in_err-push g c =
     record {
-      count = none_given _ c.from_residual-in_err-push.result c.from_residual-in_err-push.ensures.0;
-      empty = none_given _ c.from_residual-in_err-push.result c.from_residual-in_err-push.ensures.0;
+      count = none_done _ c.from_residual-in_err-push.result c.from_residual-in_err-push.ensures.0;
+      empty = none_done _ c.from_residual-in_err-push.result c.from_residual-in_err-push.ensures.0;
     }

@@ -1,7 +1,7 @@
 use Rattle.std.proofs.Common.{◌≡◌, ℕ, ◌<◌, length}
 use Rattle.suffix_streams.specs.TreeStreams.{lists_of}
 use Rattle.suffix_streams.specs.Beginnings.{IsEmptyNode}
-use Rattle.suffix_streams.proofs.beginning.empty_nodes.Given as goal
+use Rattle.suffix_streams.proofs.beginning.add_empty_nodes.Given as goal
 
 -- the first nodes are there
 abbrev pub invariant-loop-node : goal.invariant-loop-node

@@ -1,4 +1,4 @@
-use Rattle.suffix_streams.proofs.Errors.{none_given, none_done}
+use Rattle.suffix_streams.proofs.Errors.{none_done}
 use Rattle.std.proofs.Common.{◌≡◌, ℕ, ◌+◌, ◌-◌, ◌*◌, ◌<◌, ◌≤◌, List, [], length, sym, subst, arith}
 use Rattle.tdp_core.specs.TreeView.{row_count}
 use Rattle.stream_store.specs.declared.entry.Linked.{Linked}
@@ -6,7 +6,7 @@ use Rattle.suffix_streams.specs.declared.stream.Found.{Found}
 use Rattle.suffix_streams.specs.Beginnings.{IsBegunFrom}
 use Rattle.suffix_streams.proofs.BeginNodes.{from_none, rows_more}
 use Rattle.suffix_streams.proofs.ViewStart.{start_steps}
-use Rattle.suffix_streams.proofs.beginning.begun_nodes.Goals as goal
+use Rattle.suffix_streams.proofs.beginning.begin_nodes.Goals as goal
 
 below_start : (v n : ℕ) → 0 < v → v ≤ n → v - 1 < n
 below_start v n some few = omega arith
@@ -21,9 +21,9 @@ pub loop-node-init : goal.loop-node-init
 loop-node-init g c =
     let t = c.args.tree.now in
     record {
-      begun = subst (λ (es : List (Linked (Found g.row.R.Denot))). IsBegunFrom g.R.Rank.KEYS g.R.Rank.key t es c.in_ok-nodes.nodes.items c.nodes-node.result) (sym c.requires)
-          (subst (IsBegunFrom g.R.Rank.KEYS g.R.Rank.key t [] c.in_ok-nodes.nodes.items) (sym c.nodes-node.ensures.count)
-          (from_none g.R.Rank.KEYS g.R.Rank.key t c.in_ok-nodes.nodes.items c.in_ok-nodes.ensures.count c.in_ok-nodes.ensures.empty));
+      begun = subst (λ (es : List (Linked (Found g.row.R.Denot))). IsBegunFrom g.R.Rank.KEYS g.R.Rank.key t es c.add_empty_nodes.new.nodes.items c.nodes-node.result) (sym c.requires.entries)
+          (subst (IsBegunFrom g.R.Rank.KEYS g.R.Rank.key t [] c.add_empty_nodes.new.nodes.items) (sym c.nodes-node.ensures.count)
+          (from_none g.R.Rank.KEYS g.R.Rank.key t c.add_empty_nodes.new.nodes.items c.in_ok-add_empty_nodes.ensures.count c.in_ok-add_empty_nodes.ensures.empty));
       cost = omega arith;
       within = omega (arith, c.nodes-node.ensures.count);
     }
@@ -46,19 +46,19 @@ begin_node-requires-clause-formed g c = c.nodes-node.ensures.formed
 pub begin_node-requires-clause-begun : goal.begin_node-requires-clause-begun
 begin_node-requires-clause-begun g c = subst (IsBegunFrom g.R.Rank.KEYS g.R.Rank.key c.args.tree.now c.loop-node.entries.entries c.loop-node.nodes.items) (one_back c.loop-node.node c.loop-node-test.true) c.loop-node.invariant.begun
 
-pub returns-in_err-nodes : goal.returns-in_err-nodes
-returns-in_err-nodes g c =
+pub returns-in_err-add_empty_nodes : goal.returns-in_err-add_empty_nodes
+returns-in_err-add_empty_nodes g c =
     record {
       cost = more_within c.args.steps.now (16 * length c.args.tree.now * (1 + row_count c.args.tree.now));
       formed = none_done _ c.from_residual.result c.from_residual.ensures.0;
-      begun = none_given _ c.from_residual.result c.from_residual.ensures.0;
+      begun = none_done _ c.from_residual.result c.from_residual.ensures.0;
     }
 
 pub returns-in_err-begin_node : goal.returns-in_err-begin_node
 returns-in_err-begin_node g c =
     record {
       formed = none_done _ c.from_residual-in_err-begin_node.result c.from_residual-in_err-begin_node.ensures.0;
-      begun = none_given _ c.from_residual-in_err-begin_node.result c.from_residual-in_err-begin_node.ensures.0;
+      begun = none_done _ c.from_residual-in_err-begin_node.result c.from_residual-in_err-begin_node.ensures.0;
       cost =
           let t = c.args.tree.now in
           omega (

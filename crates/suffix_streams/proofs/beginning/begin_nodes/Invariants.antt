@@ -1,7 +1,7 @@
 use Rattle.std.proofs.Common.{◌+◌, ◌*◌, ◌≤◌, length}
 use Rattle.suffix_streams.specs.Beginnings.{IsBegunFrom}
 use Rattle.suffix_streams.proofs.BeginNodes.{rows_from}
-use Rattle.suffix_streams.proofs.beginning.begun_nodes.Given as goal
+use Rattle.suffix_streams.proofs.beginning.begin_nodes.Given as goal
 
 -- the streams of the nodes from `node` are there
 abbrev pub invariant-loop-node : goal.invariant-loop-node
