@@ -2,7 +2,7 @@
 ghost use Rattle.std.specs.Prelude.{◌≡◌, ◌≢◌, ℕ, ◌+◌, ◌*◌, ◌<◌, ◌≤◌, ◌↔◌, Option, cond, nat_eq, length, slice_set, slice_index, slice_index_or, IfOk, MatchOption, IfSome, OnOk, OnErr, IsOk, IsSome, IsTrue, IsFalse};
 ghost use Rattle.take2_heap.specs.declared.entry.Entry.{Entry};
 ghost use Rattle.take2_heap.specs.Order.{IsLeast};
-ghost use Rattle.tdp_core.specs.TreeView.{parent, rows, number as row_number, child_count, group_count, group_named, members};
+ghost use Rattle.tdp_core.specs.TreeView.{parent, rows, child_count, group_count, group_named, members};
 ghost use Rattle.tdp_core.specs.WellFormed.{IsTieFreeTree};
 ghost use Rattle.rankings.specs.Below.{is_below};
 ghost use Rattle.rank_key.specs.Bits.{bit_length};
@@ -11,8 +11,8 @@ ghost use Rattle.suffix_streams.specs.declared.source.Source.{Source};
 ghost use Rattle.suffix_streams.specs.TreeStreams.{IsStreams, node_of, next_of, node_size, lists_of, stream_of, product_of, products_of, part_known, row_known};
 ghost use Rattle.suffix_streams.specs.NodeStreamsView.{HasHead, with_queue};
 ghost use Rattle.suffix_streams.specs.Firsts.{can_enter};
-ghost use Rattle.suffix_streams.specs.LastEntries.{IsLast, IsQueueTop};
-ghost use Rattle.suffix_streams.specs.ProductTops.{IsProductTop};
+ghost use Rattle.suffix_streams.specs.LastEntries.{IsLast, IsRowReady};
+ghost use Rattle.suffix_streams.specs.ProductTops.{IsStepReady};
 ghost use Rattle.suffix_streams.specs.Refusals.{AreUnstepped};
 ghost use Rattle.suffix_streams.specs.Growing.{IsStoreGrown, IsGrown, IsExtended, IsReached, IsAnswered, HasOtherProduct, AreQueuesGrown, IsWithinSteps, below_kids, kids_size};
 
@@ -328,15 +328,8 @@ impl<'t, R: Rank, A: Allocator + Clone> Solutions<'t, R, A> {
         requires node { node < length self.old.tree.now }
         requires row { row < rows self.old.tree.now node }
         requires child { child < length (products_of self.old.nodes.items node row) }
-        requires top { IsProductTop (product_of self.old.nodes.items node row child) child top.now }
-        requires beside { 0 < child → (IsTrue beside ↔ (top.now.tag.right
-            ≡ (stream_of self.old.nodes.items (child_node self.old.tree.now node child)
-            (group_named self.old.tree.now node row child)).head)) }
-        requires below { IsAnswered R.KEYS R.key self.old.tree.now self.old.entries.entries
-            top.now.tag.right below }
-        requires across { 0 < child → IsTrue beside
-            → IsReached R.KEYS R.key self.old.tree.now self.old.nodes.items node row child
-            (top.now.tag.left + 1) }
+        requires step { IsStepReady R.KEYS R.key self.old.tree.now self.old.entries.entries
+            self.old.nodes.items node row child top.now below beside }
         ensures formed { IsStreams R.KEYS R.key self.new.tree.now self.new.entries.entries
             self.new.nodes.items }
         ensures tree { self.new.tree.now ≡ self.old.tree.now }
@@ -384,15 +377,8 @@ impl<'t, R: Rank, A: Allocator + Clone> Solutions<'t, R, A> {
             self.old.nodes.items }
         requires tie_free { IsTieFreeTree self.old.tree.now }
         requires last { IsLast self.old.entries.entries last node group }
-        requires top { IsQueueTop (stream_of self.old.nodes.items node group).queue member place }
-        requires row { row ≡ slice_index (members self.old.tree.now node group) member }
-        requires number { number ≡ row_number self.old.tree.now node row }
-        requires count { length (products_of self.old.nodes.items node row)
-            ≡ child_count self.old.tree.now node }
-        requires place { IsReached R.KEYS R.key self.old.tree.now self.old.nodes.items node row
-            (child_count self.old.tree.now node) place }
-        requires queue_room { place ≡ 1 → can_enter (length (members self.old.tree.now node group))
-            ≤ (stream_of self.old.nodes.items node group).room }
+        requires row { IsRowReady R.KEYS R.key self.old.tree.now self.old.nodes.items node group row
+            number member place }
         requires room { 0 < self.old.entries.spare }
         ensures formed { IsStreams R.KEYS R.key self.new.tree.now self.new.entries.entries
             self.new.nodes.items }

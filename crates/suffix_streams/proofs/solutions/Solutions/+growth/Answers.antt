@@ -235,57 +235,34 @@ after-extend-requires g t c κs within =
     let k = counted_of g t at.After-place_after-count o a in
     (row_smaller _ _ _ _ _ _ c.decreases o.node_is (ap length c.open_row.ensures.tree) o.node (kids_few _ _ _ _ k.all (kids_below_most (parent c.args.self.now.tree.now) c.get-found.result.now.node (length c.args.self.now.tree.now)) o.formed.tree.shaped.few_nodes), (within.0, (within.1.0, (within.1.1, (c.open_row.ensures.formed, (subst IsTieFreeTree (sym c.open_row.ensures.tree) c.requires.tie_free, (subst (λ z. c.get-found.result.now.node < length z) (sym c.open_row.ensures.tree) o.node, (subst (λ z. c.in-Some-top.top.tag.row < rows z c.get-found.result.now.node) (sym c.open_row.ensures.tree) a.row, (k.within, next_within _ _ _ k.known c.place_after-count.ensures.place)))))))))
 
-pub after-advance-requires-clause-top : goal.after-advance-requires-clause-top
-after-advance-requires-clause-top g t c =
-    let at = goal.at.after-advance-requires-clause-top g t c in
-    let o = entry_owned g t at.After-get-found in
-    let p = top_of g t at.In-Some-top o in
-    let a = row_of g t at.After-open_row o p in
-    let k = counted_of g t at.After-place_after-count o a in
-    let s = search_of g t at.After-extend in
-    let same = searched_queue o a k s in
-    let first : (x : Entry g.row.R.Denot Source) → get_or (stream_of c.extend.new.self.nodes.items c.get-found.result.now.node c.get-found.result.now.group).queue 0 x ≡ c.in-Some-top.top = λ x. ap (λ z. get_or z 0 x) same ∙ any_default (stream_of c.args.self.now.nodes.items c.get-found.result.now.node c.get-found.result.now.group).queue 0 x c.in-Some-top.top p.some ∙ sym p.first in
-    record {
-      some = subst (λ z. 0 < length z) (sym same) p.some;
-      member = λ x. ap (λ e. e.tag.member) (first x);
-      after = λ x. ap (λ e. e.tag.place + 1) (first x) ∙ sym c.place_after-count.ensures.place;
-    }
-
-pub after-advance-requires-clause-queue_room : goal.after-advance-requires-clause-queue_room
-after-advance-requires-clause-queue_room g t c one =
-    let at = goal.at.after-advance-requires-clause-queue_room g t c in
-    let o = entry_owned g t at.After-get-found in
-    let p = top_of g t at.In-Some-top o in
-    let a = row_of g t at.After-open_row o p in
-    let k = counted_of g t at.After-place_after-count o a in
-    let s = search_of g t at.After-extend in
-    subst (λ (z : List (NodeView g.row.R.Denot)). can_enter (length (members z c.get-found.result.now.node c.get-found.result.now.group)) ≤ (stream_of c.extend.new.self.nodes.items c.get-found.result.now.node c.get-found.result.now.group).room) (sym (c.extend.ensures.tree ∙ c.open_row.ensures.tree))
-    (subst (λ (z : StreamView g.row.R.Denot). can_enter (length (members c.args.self.now.tree.now c.get-found.result.now.node c.get-found.result.now.group)) ≤ z.room) (sym (searched_stream o a k s)) (c.in_ok-open_row.ensures.room (none_before _ _ one c.place_after-count.ensures.place)))
-
 pub after-advance-requires-clause-row : goal.after-advance-requires-clause-row
 after-advance-requires-clause-row g t c =
     let at = goal.at.after-advance-requires-clause-row g t c in
     let o = entry_owned g t at.After-get-found in
     let p = top_of g t at.In-Some-top o in
-    subst (λ (z : List (NodeView g.row.R.Denot)). c.in-Some-top.top.tag.row ≡ get_or (members z c.get-found.result.now.node c.get-found.result.now.group) c.in-Some-top.top.tag.member 0) (sym (c.extend.ensures.tree ∙ c.open_row.ensures.tree)) p.row
-
-pub after-advance-requires-clause-number : goal.after-advance-requires-clause-number
-after-advance-requires-clause-number g t c =
-    let at = goal.at.after-advance-requires-clause-number g t c in
-    let o = entry_owned g t at.After-get-found in
-    let p = top_of g t at.In-Some-top o in
-    p.numbered ∙ ap (number c.args.self.now.tree.now c.get-found.result.now.node) (sym p.row)
-    ∙ ap (λ (z : List (NodeView g.row.R.Denot)). number z c.get-found.result.now.node c.in-Some-top.top.tag.row) (sym (c.extend.ensures.tree ∙ c.open_row.ensures.tree))
-
-pub after-advance-requires-clause-place : goal.after-advance-requires-clause-place
-after-advance-requires-clause-place g t c =
-    let at = goal.at.after-advance-requires-clause-place g t c in
-    let o = entry_owned g t at.After-get-found in
-    let p = top_of g t at.In-Some-top o in
     let a = row_of g t at.After-open_row o p in
     let k = counted_of g t at.After-place_after-count o a in
-    subst (λ z. IsReached g.R.Rank.KEYS g.R.Rank.key c.extend.new.self.tree.now c.extend.new.self.nodes.items c.get-found.result.now.node c.in-Some-top.top.tag.row z c.place_after-count.result.1) (k.all ∙ ap (λ z. child_count z c.get-found.result.now.node) (sym (c.extend.ensures.tree ∙ c.open_row.ensures.tree)))
-    (subst (λ z. IsReached g.R.Rank.KEYS g.R.Rank.key z c.extend.new.self.nodes.items c.get-found.result.now.node c.in-Some-top.top.tag.row c.place_after-count.result.0 c.place_after-count.result.1) (sym c.extend.ensures.tree) c.in_ok-extend.ensures.reached)
+    let s = search_of g t at.After-extend in
+    let tree = sym (c.extend.ensures.tree ∙ c.open_row.ensures.tree) in
+    let same = searched_queue o a k s in
+    let first : (x : Entry g.row.R.Denot Source) → get_or (stream_of c.extend.new.self.nodes.items c.get-found.result.now.node c.get-found.result.now.group).queue 0 x ≡ c.in-Some-top.top = λ x. ap (λ z. get_or z 0 x) same ∙ any_default (stream_of c.args.self.now.nodes.items c.get-found.result.now.node c.get-found.result.now.group).queue 0 x c.in-Some-top.top p.some ∙ sym p.first in
+    record {
+      top = record {
+        some = subst (λ z. 0 < length z) (sym same) p.some;
+        member = λ x. ap (λ e. e.tag.member) (first x);
+        after = λ x. ap (λ e. e.tag.place + 1) (first x) ∙ sym c.place_after-count.ensures.place;
+      };
+      row = subst (λ (z : List (NodeView g.row.R.Denot)). c.in-Some-top.top.tag.row ≡ get_or (members z c.get-found.result.now.node c.get-found.result.now.group) c.in-Some-top.top.tag.member 0) tree p.row;
+      number = p.numbered ∙ ap (number c.args.self.now.tree.now c.get-found.result.now.node) (sym p.row) ∙ ap (λ (z : List (NodeView g.row.R.Denot)). number z c.get-found.result.now.node c.in-Some-top.top.tag.row) tree;
+      count = c.extend.ensures.extended.count ∙ c.in_ok-open_row.ensures.count ∙ ap (λ z. child_count z c.get-found.result.now.node) tree;
+      place =
+          subst (λ z. IsReached g.R.Rank.KEYS g.R.Rank.key c.extend.new.self.tree.now c.extend.new.self.nodes.items c.get-found.result.now.node c.in-Some-top.top.tag.row z c.place_after-count.result.1) (k.all ∙ ap (λ z. child_count z c.get-found.result.now.node) tree)
+          (subst (λ z. IsReached g.R.Rank.KEYS g.R.Rank.key z c.extend.new.self.nodes.items c.get-found.result.now.node c.in-Some-top.top.tag.row c.place_after-count.result.0 c.place_after-count.result.1) (sym c.extend.ensures.tree) c.in_ok-extend.ensures.reached);
+      queue_room =
+          λ one.
+          subst (λ (z : List (NodeView g.row.R.Denot)). can_enter (length (members z c.get-found.result.now.node c.get-found.result.now.group)) ≤ (stream_of c.extend.new.self.nodes.items c.get-found.result.now.node c.get-found.result.now.group).room) tree
+          (subst (λ (z : StreamView g.row.R.Denot). can_enter (length (members c.args.self.now.tree.now c.get-found.result.now.node c.get-found.result.now.group)) ≤ z.room) (sym (searched_stream o a k s)) (c.in_ok-open_row.ensures.room (none_before _ _ one c.place_after-count.ensures.place)));
+    }
 
 pub search-after-requires : goal.search-after-requires
 search-after-requires g t c κs within =
@@ -340,35 +317,24 @@ search-step-requires-clause-child g t c =
     let l = left_of g t at.After-extend a b in
     l.in_row
 
-pub search-step-requires-clause-top : goal.search-step-requires-clause-top
-search-step-requires-clause-top g t c =
-    let at = goal.at.search-step-requires-clause-top g t c in
+pub search-step-requires-clause-step : goal.search-step-requires-clause-step
+search-step-requires-clause-step g t c =
+    let at = goal.at.search-step-requires-clause-step g t c in
     let a = room_of g t at.After-make_room in
     let b = child_of g t at.After-after a in
     let l = left_of g t at.After-extend a b in
-    subst (λ (z : ProductView g.row.R.Denot). IsProductTop z (c.args.count - 1) c.in-Some.top) (sym l.product) (record { some = a.some; first = a.first; room = c.in_ok-make_room.ensures.room; frontier_room = c.in_ok-make_room.ensures.frontier_room })
-
-pub search-step-requires-clause-beside : goal.search-step-requires-clause-beside
-search-step-requires-clause-beside g t c later =
-    let at = goal.at.search-step-requires-clause-beside g t c in
-    let a = room_of g t at.After-make_room in
-    let b = child_of g t at.After-after a in
-    let l = left_of g t at.After-extend a b in
-    let told = subst (λ z. IsTrue c.has_beside-beside.result ↔ (c.in-Some.top.tag.right ≡ z)) (sym l.head) (asked_beside a b c.has_beside-beside.result (subst (λ n. IsTrue c.has_beside-beside.result ↔ ((0 < c.args.count - 1) × HasHead (lists_of n (slice_index (lists_of n c.args.node).children (c.args.count - 1))) c.in-Some.top.tag.right)) c.as_slice.ensures.value c.has_beside-beside.ensures) later) in
-    subst (λ (y : List (NodeView g.row.R.Denot)). IsTrue c.has_beside-beside.result ↔ (c.in-Some.top.tag.right ≡ (stream_of c.extend.new.self.nodes.items (child y c.args.node (c.args.count - 1)) (group_named y c.args.node c.args.row (c.args.count - 1))).head)) (sym l.searched.tree) told
-
-pub search-step-requires-clause-below : goal.search-step-requires-clause-below
-search-step-requires-clause-below g t c =
-    let at = goal.at.search-step-requires-clause-below g t c in
-    let a = room_of g t at.After-make_room in
-    let b = child_of g t at.After-after a in
-    let l = left_of g t at.After-extend a b in
-    subst (λ (y : List (NodeView g.row.R.Denot)). IsAnswered g.R.Rank.KEYS g.R.Rank.key y c.extend.new.self.entries.entries c.in-Some.top.tag.right c.in_ok-below.below) (sym l.searched.tree)
-    (answered_stays g.R.Rank.KEYS g.R.Rank.key c.args.self.now.tree.now (suc c.args.node) c.after.new.self.entries.entries c.extend.new.self.entries.entries c.in-Some.top.tag.right c.in_ok-below.below (in_longer _ _ _ a.known.right b.grown.store.longer) l.searched.extended.store c.in_ok-below.ensures.answer)
-
-pub search-step-requires-clause-across : goal.search-step-requires-clause-across
-search-step-requires-clause-across g t c =
-    λ later e. left_reached g.R.Rank.KEYS g.R.Rank.key c.extend.new.self.tree.now c.after.new.self.tree.now c.extend.new.self.nodes.items c.args.node c.args.row (c.args.count - 1) c.left_search-earlier.result.0 c.left_search-earlier.result.1 (c.in-Some.top.tag.left + 1) (sym c.extend.ensures.tree) (c.left_search-earlier.ensures.beside e).0 (c.left_search-earlier.ensures.beside e).1 c.in_ok-extend.ensures.reached
+    record {
+      top = subst (λ (z : ProductView g.row.R.Denot). IsProductTop z (c.args.count - 1) c.in-Some.top) (sym l.product) (record { some = a.some; first = a.first; room = c.in_ok-make_room.ensures.room; frontier_room = c.in_ok-make_room.ensures.frontier_room });
+      beside =
+          λ later.
+          subst (λ (y : List (NodeView g.row.R.Denot)). IsTrue c.has_beside-beside.result ↔ (c.in-Some.top.tag.right ≡ (stream_of c.extend.new.self.nodes.items (child y c.args.node (c.args.count - 1)) (group_named y c.args.node c.args.row (c.args.count - 1))).head)) (sym l.searched.tree)
+          (subst (λ z. IsTrue c.has_beside-beside.result ↔ (c.in-Some.top.tag.right ≡ z)) (sym l.head)
+          (asked_beside a b c.has_beside-beside.result (subst (λ n. IsTrue c.has_beside-beside.result ↔ ((0 < c.args.count - 1) × HasHead (lists_of n (slice_index (lists_of n c.args.node).children (c.args.count - 1))) c.in-Some.top.tag.right)) c.as_slice.ensures.value c.has_beside-beside.ensures) later));
+      below =
+          subst (λ (y : List (NodeView g.row.R.Denot)). IsAnswered g.R.Rank.KEYS g.R.Rank.key y c.extend.new.self.entries.entries c.in-Some.top.tag.right c.in_ok-below.below) (sym l.searched.tree)
+          (answered_stays g.R.Rank.KEYS g.R.Rank.key c.args.self.now.tree.now (suc c.args.node) c.after.new.self.entries.entries c.extend.new.self.entries.entries c.in-Some.top.tag.right c.in_ok-below.below (in_longer _ _ _ a.known.right b.grown.store.longer) l.searched.extended.store c.in_ok-below.ensures.answer);
+      across = λ later e. left_reached g.R.Rank.KEYS g.R.Rank.key c.extend.new.self.tree.now c.after.new.self.tree.now c.extend.new.self.nodes.items c.args.node c.args.row (c.args.count - 1) c.left_search-earlier.result.0 c.left_search-earlier.result.1 (c.in-Some.top.tag.left + 1) (sym c.extend.ensures.tree) (c.left_search-earlier.ensures.beside e).0 (c.left_search-earlier.ensures.beside e).1 c.in_ok-extend.ensures.reached;
+    }
 
 pub search-left_search-earlier-requires-clause-node : goal.search-left_search-earlier-requires-clause-node
 search-left_search-earlier-requires-clause-node g t c =
@@ -469,10 +435,6 @@ after-advance-requires-clause-last g t c =
       group = s.extended.store.groups c.args.entry c.requires.entry ∙ o.group_is;
       none = s.extended.store.above c.args.entry c.requires.entry (below_next _ _ o.node_is) ∙ none;
     }
-
-pub after-advance-requires-clause-count : goal.after-advance-requires-clause-count
-after-advance-requires-clause-count g t c =
-    c.extend.ensures.extended.count ∙ c.in_ok-open_row.ensures.count ∙ ap (λ z. child_count z c.get-found.result.now.node) (sym (c.extend.ensures.tree ∙ c.open_row.ensures.tree))
 
 pub after-advance-requires-clause-room : goal.after-advance-requires-clause-room
 after-advance-requires-clause-room g t c =

@@ -56,7 +56,7 @@ two_more s s' k b h = omega arith
 module _ (g : Over) where
   top_of : (c : After-as_slice g) → IsGroupTop g.R.Rank.KEYS g.R.Rank.key c.args.self.now.tree.now c.args.self.now.entries.entries c.args.self.now.nodes.items c.args.last c.args.node c.args.group c.args.row
   top_of c =
-      group_top g.R.Rank.KEYS g.R.Rank.key c.args.self.now.tree.now c.args.self.now.entries.entries c.args.self.now.nodes.items c.args.last c.args.node c.args.group c.args.row c.args.member c.requires.formed c.requires.last.within c.requires.last.node c.requires.last.group c.requires.top.some c.requires.top.member c.requires.row
+      group_top g.R.Rank.KEYS g.R.Rank.key c.args.self.now.tree.now c.args.self.now.entries.entries c.args.self.now.nodes.items c.args.last c.args.node c.args.group c.args.row c.args.member c.requires.formed c.requires.last.within c.requires.last.node c.requires.last.group c.requires.row.top.some c.requires.row.top.member c.requires.row.row
 
   -- the offer, in terms of the nodes
   offer_of : (c : After-pass_last g) → IfNone c.row_offer-offer.result (row_known c.args.self.now.nodes.items c.args.node c.args.row ≤ c.args.place) × IfSome c.row_offer-offer.result (λ e. (e.tag.member ≡ c.args.member) × (e.tag.place ≡ c.args.place)) × IfSome c.row_offer-offer.result (λ e. c.args.place < row_known c.args.self.now.nodes.items c.args.node c.args.row) × IfSome c.row_offer-offer.result (λ e. (e.tag.row ≡ c.args.row) × (e.tag.number ≡ number c.args.self.now.tree.now c.args.node c.args.row) × ((i : ℕ) → child_count c.args.self.now.tree.now c.args.node ≡ i + 1 → IsSumOf g.R.Rank.KEYS g.R.Rank.key c.args.self.now.tree.now c.args.self.now.entries.entries c.args.self.now.nodes.items c.args.node c.args.row i c.args.place e.tag.cell))
@@ -69,7 +69,7 @@ module _ (g : Over) where
   passed_of : (c : After-pass_last g) → IsGroupTop g.R.Rank.KEYS g.R.Rank.key c.args.self.now.tree.now c.args.self.now.entries.entries c.args.self.now.nodes.items c.args.last c.args.node c.args.group c.args.row → IsQueuePassed g.R.Rank.KEYS g.R.Rank.key c.args.self.now.tree.now c.args.self.now.entries.entries c.args.self.now.nodes.items c.args.node c.args.group (stream_of c.pass_last.new.nodes.items c.args.node c.args.group).queue
   passed_of c o =
       let f = offer_of c in
-      queue_passed o c.requires.tie_free c.args.member c.args.place c.row_offer-offer.result (stream_of c.pass_last.new.nodes.items c.args.node c.args.group).queue c.requires.formed c.pass_last.ensures.moved c.requires.top.some c.requires.top.member c.requires.top.after c.requires.row c.requires.count c.requires.place f.0 f.1 f.2 f.3 f.4 c.pass_last.ensures.least
+      queue_passed o c.requires.tie_free c.args.member c.args.place c.row_offer-offer.result (stream_of c.pass_last.new.nodes.items c.args.node c.args.group).queue c.requires.formed c.pass_last.ensures.moved c.requires.row.top.some c.requires.row.top.member c.requires.row.top.after c.requires.row.row c.requires.row.count c.requires.row.place f.0 f.1 f.2 f.3 f.4 c.pass_last.ensures.least
 
   old_queue : (c : After-pass_last g) → IsGroupTop g.R.Rank.KEYS g.R.Rank.key c.args.self.now.tree.now c.args.self.now.entries.entries c.args.self.now.nodes.items c.args.last c.args.node c.args.group c.args.row → length (stream_of c.args.self.now.nodes.items c.args.node c.args.group).queue ≤ length (members c.args.self.now.tree.now c.args.node c.args.group)
   old_queue c o = (c.requires.formed.streams c.args.node c.args.group o.node o.group).few
@@ -112,8 +112,8 @@ row_offer-offer-requires-clause-row g c =
 
 pub row_offer-offer-requires-clause-place : goal.row_offer-offer-requires-clause-place
 row_offer-offer-requires-clause-place g c =
-    let x = first_of (stream_of c.args.self.now.nodes.items c.args.node c.args.group).queue c.requires.top.some in
-    let place : x.0.tag.place + 1 ≡ c.args.place = ap (λ e. e.tag.place + 1) x.1 ∙ c.requires.top.after x.0 in
+    let x = first_of (stream_of c.args.self.now.nodes.items c.args.node c.args.group).queue c.requires.row.top.some in
+    let place : x.0.tag.place + 1 ≡ c.args.place = ap (λ e. e.tag.place + 1) x.1 ∙ c.requires.row.top.after x.0 in
     next_some _ _ place
 
 pub top-requires-clause-group : goal.top-requires-clause-group
@@ -141,10 +141,10 @@ row_offer-offer-requires-clause-node g c =
     (top_of g at.After-as_slice).node
 
 pub row_offer-offer-requires-clause-number : goal.row_offer-offer-requires-clause-number
-row_offer-offer-requires-clause-number g c = c.requires.number
+row_offer-offer-requires-clause-number g c = c.requires.row.number
 
 pub row_offer-offer-requires-clause-opened : goal.row_offer-offer-requires-clause-opened
-row_offer-offer-requires-clause-opened g c = ap (λ (z : List (NodeStreamsView g.row.R.Denot)). length (products_of z c.args.node c.args.row)) c.as_slice.ensures.value ∙ c.requires.count
+row_offer-offer-requires-clause-opened g c = ap (λ (z : List (NodeStreamsView g.row.R.Denot)). length (products_of z c.args.node c.args.row)) c.as_slice.ensures.value ∙ c.requires.row.count
 
 pub pass_last-requires-clause-formed : goal.pass_last-requires-clause-formed
 pass_last-requires-clause-formed g c = c.requires.formed
@@ -155,10 +155,10 @@ pass_last-requires-clause-node g c =
     (top_of g at.After-as_slice).node
 
 pub pass_last-requires-clause-top : goal.pass_last-requires-clause-top
-pass_last-requires-clause-top g c = c.requires.top.some
+pass_last-requires-clause-top g c = c.requires.row.top.some
 
 pub pass_last-requires-clause-room : goal.pass_last-requires-clause-room
-pass_last-requires-clause-room g c = c.requires.queue_room
+pass_last-requires-clause-room g c = c.requires.row.queue_room
 
 pub top-requires-clause-node : goal.top-requires-clause-node
 top-requires-clause-node g c =

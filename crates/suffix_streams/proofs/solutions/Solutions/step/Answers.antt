@@ -39,7 +39,7 @@ module _ (g : Over) where
   -- the place of the next left part is reached if the right part is the head
   ready_of : (c : After-step_product g) → c.args.top.now.tag.right ≡ head_of c.args.self.now.tree.now c.args.self.now.nodes.items c.args.node c.args.row c.args.child → IsReached g.R.Rank.KEYS g.R.Rank.key c.args.self.now.tree.now c.args.self.now.nodes.items c.args.node c.args.row c.args.child (c.args.top.now.tag.left + 1)
   ready_of c e = elim (cases_lt 0 c.args.child) [
-    | inl later ↦ c.requires.across later ((c.requires.beside later).1 e)
+    | inl later ↦ c.requires.step.across later ((c.requires.step.beside later).1 e)
     | inr none ↦
         let first : 0 ≡ c.args.child = omega (arith, none) in
         subst (λ k. IsReached g.R.Rank.KEYS g.R.Rank.key c.args.self.now.tree.now c.args.self.now.nodes.items c.args.node c.args.row k (c.args.top.now.tag.left + 1)) first
@@ -59,7 +59,7 @@ module _ (g : Over) where
   passed_of : (c : After-step_product g) → IsProductPassed g.R.Rank.KEYS g.R.Rank.key c.args.self.now.tree.now c.args.self.now.entries.entries c.args.self.now.nodes.items c.args.node c.args.row c.args.child (passed c)
   passed_of c =
       product_passed g.R.Rank.KEYS g.R.Rank.key c.args.self.now.tree.now c.args.self.now.entries.entries c.args.self.now.nodes.items c.args.node c.args.row c.args.child (passed c) c.index.result.now c.index_mut.result.now c.known-known.result c.args.top.now.tag c.args.below (head_of c.args.self.now.tree.now c.args.self.now.nodes.items c.args.node c.args.row c.args.child) (cell_down c.args.top.now.tag c.args.below) c.cell_beside-across.result c.offer_below-down.result c.offered-across.result
-      c.requires.formed c.requires.node c.requires.row c.requires.child c.requires.top.some (λ x. ap (λ e. e.tag) (c.requires.top.first x)) refl c.requires.below (ready_of c) c.index.ensures c.index_mut.ensures.value c.known-known.ensures refl (at_head c.args.child c.known-known.result (head_of c.args.self.now.tree.now c.args.self.now.nodes.items c.args.node c.args.row c.args.child) c.args.top.now.tag c.args.beside c.requires.beside (λ none. c.known-known.ensures ∙ ap (λ k. known_of c.index.result.now c.args.row k) none) c.cell_beside-across.result c.cell_beside-across.ensures) (exchanged_offer g.R.Rank.KEYS g.R.Rank.key c.args.self.now.tree.now c.args.self.now.entries.entries c.args.self.now.nodes.items c.requires.formed c.args.node c.args.row c.args.child c.requires.node c.requires.row c.requires.child c.args.top.now c.requires.top.some c.requires.top.first c.args.below c.offer_below-down.result c.requires.below c.offer_below-down.ensures.offer) c.offered-across.ensures.offer refl refl c.step_product.ensures.moved c.step_product.ensures.least
+      c.requires.formed c.requires.node c.requires.row c.requires.child c.requires.step.top.some (λ x. ap (λ e. e.tag) (c.requires.step.top.first x)) refl c.requires.step.below (ready_of c) c.index.ensures c.index_mut.ensures.value c.known-known.ensures refl (at_head c.args.child c.known-known.result (head_of c.args.self.now.tree.now c.args.self.now.nodes.items c.args.node c.args.row c.args.child) c.args.top.now.tag c.args.beside c.requires.step.beside (λ none. c.known-known.ensures ∙ ap (λ k. known_of c.index.result.now c.args.row k) none) c.cell_beside-across.result c.cell_beside-across.ensures) (exchanged_offer g.R.Rank.KEYS g.R.Rank.key c.args.self.now.tree.now c.args.self.now.entries.entries c.args.self.now.nodes.items c.requires.formed c.args.node c.args.row c.args.child c.requires.node c.requires.row c.requires.child c.args.top.now c.requires.step.top.some c.requires.step.top.first c.args.below c.offer_below-down.result c.requires.step.below c.offer_below-down.ensures.offer) c.offered-across.ensures.offer refl refl c.step_product.ensures.moved c.step_product.ensures.least
 
   -- the nodes then
   changed_of : (c : After-step_product g) → slice_set c.args.self.now.nodes.items c.args.node c.step_product.new.self ≡ slice_set c.args.self.now.nodes.items c.args.node (with_product (lists_of c.args.self.now.nodes.items c.args.node) c.args.row c.args.child (product_at c.step_product.new.self c.args.row c.args.child))
@@ -69,19 +69,19 @@ module _ (g : Over) where
   product_is c = ap (λ (m : NodeStreamsView g.row.R.Denot). product_at m c.args.row c.args.child) (lists_same c.args.self.now.nodes.items c.args.node c.step_product.new.self (in_same _ _ _ c.requires.node c.requires.formed.all_nodes))
 
 pub offer_below-down-requires-clause-right : goal.offer_below-down-requires-clause-right
-offer_below-down-requires-clause-right g c = top_right g.R.Rank.KEYS g.R.Rank.key c.args.self.now.tree.now c.args.self.now.entries.entries c.args.self.now.nodes.items c.requires.formed c.args.node c.args.row c.args.child c.requires.node c.requires.row c.requires.child c.args.top.now c.requires.top.some c.requires.top.first
+offer_below-down-requires-clause-right g c = top_right g.R.Rank.KEYS g.R.Rank.key c.args.self.now.tree.now c.args.self.now.entries.entries c.args.self.now.nodes.items c.requires.formed c.args.node c.args.row c.args.child c.requires.node c.requires.row c.requires.child c.args.top.now c.requires.step.top.some c.requires.step.top.first
 
 pub offer_below-down-requires-clause-below : goal.offer_below-down-requires-clause-below
-offer_below-down-requires-clause-below g c = below_right g.R.Rank.KEYS g.R.Rank.key c.args.self.now.tree.now c.args.self.now.entries.entries c.args.self.now.nodes.items c.requires.formed c.args.node c.args.row c.args.child c.requires.node c.requires.row c.requires.child c.args.top.now c.requires.top.some c.requires.top.first c.args.below c.requires.below
+offer_below-down-requires-clause-below g c = below_right g.R.Rank.KEYS g.R.Rank.key c.args.self.now.tree.now c.args.self.now.entries.entries c.args.self.now.nodes.items c.requires.formed c.args.node c.args.row c.args.child c.requires.node c.requires.row c.requires.child c.args.top.now c.requires.step.top.some c.requires.step.top.first c.args.below c.requires.step.below
 
 pub offer_below-down-requires-clause-exchange : goal.offer_below-down-requires-clause-exchange
-offer_below-down-requires-clause-exchange g c = can_exchange g.R.Rank.KEYS g.R.Rank.key c.args.self.now.tree.now c.args.self.now.entries.entries c.args.self.now.nodes.items c.requires.formed c.args.node c.args.row c.args.child c.requires.node c.requires.row c.requires.child c.args.top.now c.requires.top.some c.requires.top.first c.args.below c.requires.below
+offer_below-down-requires-clause-exchange g c = can_exchange g.R.Rank.KEYS g.R.Rank.key c.args.self.now.tree.now c.args.self.now.entries.entries c.args.self.now.nodes.items c.requires.formed c.args.node c.args.row c.args.child c.requires.node c.requires.row c.requires.child c.args.top.now c.requires.step.top.some c.requires.step.top.first c.args.below c.requires.step.below
 
 pub cell_beside-across-requires : goal.cell_beside-across-requires
 cell_beside-across-requires g c =
     let at = goal.at.cell_beside-across-requires g c in
     let known = known_is g at.After-known-known in
-    in_same _ _ _ (cell_known g.R.Rank.KEYS g.R.Rank.key c.args.self.now.tree.now c.args.self.now.entries.entries c.args.self.now.nodes.items c.requires.formed c.args.node c.args.row c.args.child c.requires.node c.requires.row c.requires.child c.args.top.now.tag c.requires.top.some (λ x. ap (λ e. e.tag) (c.requires.top.first x))).left known
+    in_same _ _ _ (cell_known g.R.Rank.KEYS g.R.Rank.key c.args.self.now.tree.now c.args.self.now.entries.entries c.args.self.now.nodes.items c.requires.formed c.args.node c.args.row c.args.child c.requires.node c.requires.row c.requires.child c.args.top.now.tag c.requires.step.top.some (λ x. ap (λ e. e.tag) (c.requires.step.top.first x))).left known
 
 pub offered-across-requires-clause-parts : goal.offered-across-requires-clause-parts
 offered-across-requires-clause-parts g c = subst (λ (z : List (NodeStreamsView g.row.R.Denot)). HasParts g.R.Rank.KEYS g.R.Rank.key c.args.self.now.tree.now c.args.self.now.entries.entries z c.args.node c.args.row c.args.child) (sym c.as_slice.ensures.value) (parts_of g.R.Rank.KEYS g.R.Rank.key c.args.self.now.tree.now c.args.self.now.entries.entries c.args.self.now.nodes.items c.requires.formed c.args.node c.args.row c.args.child c.requires.node c.requires.row c.requires.child)
@@ -92,9 +92,9 @@ offered-across-requires-clause-cell g c =
     let known = known_is g at.After-known-known in
     let head = head_of c.args.self.now.tree.now c.args.self.now.nodes.items c.args.node c.args.row c.args.child in
     let beside = subst (λ k. MatchOption c.cell_beside-across.result (c.args.top.now.tag.right ≡ head → k ≤ c.args.top.now.tag.left + 1) (λ x. (c.args.top.now.tag.right ≡ head) × (c.args.top.now.tag.left + 1 < k) × (x ≡ record { left = c.args.top.now.tag.left + 1; right = head }))) known
-    (at_head c.args.child c.known-known.result head c.args.top.now.tag c.args.beside c.requires.beside (λ none. c.known-known.ensures ∙ ap (λ k. known_of c.index.result.now c.args.row k) none) c.cell_beside-across.result c.cell_beside-across.ensures) in
+    (at_head c.args.child c.known-known.result head c.args.top.now.tag c.args.beside c.requires.step.beside (λ none. c.known-known.ensures ∙ ap (λ k. known_of c.index.result.now c.args.row k) none) c.cell_beside-across.result c.cell_beside-across.ensures) in
     subst (λ (z : List (NodeStreamsView g.row.R.Denot)). IfSome c.cell_beside-across.result (IsCell g.R.Rank.KEYS g.R.Rank.key c.args.self.now.tree.now c.args.self.now.entries.entries z c.args.node c.args.row c.args.child)) (sym c.as_slice.ensures.value)
-    (beside_cell_known g.R.Rank.KEYS g.R.Rank.key c.args.self.now.tree.now c.args.self.now.entries.entries c.args.self.now.nodes.items c.requires.formed c.args.node c.args.row c.args.child c.requires.node c.requires.row c.requires.child c.args.top.now.tag c.requires.top.some (λ x. ap (λ e. e.tag) (c.requires.top.first x)) (head_of c.args.self.now.tree.now c.args.self.now.nodes.items c.args.node c.args.row c.args.child) refl c.cell_beside-across.result beside)
+    (beside_cell_known g.R.Rank.KEYS g.R.Rank.key c.args.self.now.tree.now c.args.self.now.entries.entries c.args.self.now.nodes.items c.requires.formed c.args.node c.args.row c.args.child c.requires.node c.requires.row c.requires.child c.args.top.now.tag c.requires.step.top.some (λ x. ap (λ e. e.tag) (c.requires.step.top.first x)) (head_of c.args.self.now.tree.now c.args.self.now.nodes.items c.args.node c.args.row c.args.child) refl c.cell_beside-across.result beside)
 
 pub offered-across-requires-clause-formed : goal.offered-across-requires-clause-formed
 offered-across-requires-clause-formed g c =
@@ -116,7 +116,7 @@ pub step_product-requires-clause-frontier_room : goal.step_product-requires-clau
 step_product-requires-clause-frontier_room g c _ across =
     let lists = lists_at c.args.self.now.nodes.items c.args.node c.index_mut.result.now c.index_mut.ensures.value (in_same _ _ _ c.requires.node c.requires.formed.all_nodes) in
     elim (cases_lt 0 c.args.child) [
-      | inl l ↦ subst (λ n. 0 < (product_at n c.args.row c.args.child).frontier_room) lists (c.requires.top.frontier_room l)
+      | inl l ↦ subst (λ n. 0 < (product_at n c.args.row c.args.child).frontier_room) lists (c.requires.step.top.frontier_room l)
       | inr l ↦
           let first : c.args.child ≡ 0 = omega (arith, l) in
           let one : c.known-known.result ≡ 1 = c.known-known.ensures ∙ ap (λ k. known_of c.index.result.now c.args.row k) first in
@@ -131,12 +131,12 @@ step_product-requires-clause-child g c =
 pub step_product-requires-clause-top : goal.step_product-requires-clause-top
 step_product-requires-clause-top g c =
     let inside : c.args.node < length c.args.self.now.nodes.items = in_same _ _ _ c.requires.node c.requires.formed.all_nodes in
-    subst (λ n. 0 < length (product_at n c.args.row c.args.child).frontier) (lists_at c.args.self.now.nodes.items c.args.node c.index_mut.result.now c.index_mut.ensures.value inside) c.requires.top.some
+    subst (λ n. 0 < length (product_at n c.args.row c.args.child).frontier) (lists_at c.args.self.now.nodes.items c.args.node c.index_mut.result.now c.index_mut.ensures.value inside) c.requires.step.top.some
 
 pub step_product-requires-clause-room : goal.step_product-requires-clause-room
 step_product-requires-clause-room g c =
     let inside : c.args.node < length c.args.self.now.nodes.items = in_same _ _ _ c.requires.node c.requires.formed.all_nodes in
-    subst (λ n. 0 < (product_at n c.args.row c.args.child).room) (lists_at c.args.self.now.nodes.items c.args.node c.index_mut.result.now c.index_mut.ensures.value inside) c.requires.top.room
+    subst (λ n. 0 < (product_at n c.args.row c.args.child).room) (lists_at c.args.self.now.nodes.items c.args.node c.index_mut.result.now c.index_mut.ensures.value inside) c.requires.step.top.room
 
 pub returns : goal.returns
 returns g c =
