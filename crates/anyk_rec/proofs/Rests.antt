@@ -73,6 +73,10 @@ pub given_kept : {R : Type 0} (s s' : StreamsView R) (last : Option ℕ) → Are
 given_kept s s' None k root = refl
 given_kept s s' (Some e) k root = ap (λ n. n + 1) (k.places e root.within)
 
+pub root_kept : {R : Type 0} (s s' : StreamsView R) (last : Option ℕ) → AreKept s s' → IfSome last (IsRootEntry s) → IfSome last (IsRootEntry s')
+root_kept s s' None k root = tt
+root_kept s s' (Some e) k root = record { within = omega (arith, root.within, k.longer); node = k.nodes e root.within ∙ root.node; group = k.groups e root.within ∙ root.group }
+
 -- # Steps
 
 some_digit : (n : ℕ) → 1 ≤ n → 1 ≤ bit_length n
