@@ -1,5 +1,5 @@
 -- The answers that are left, from call to call, and the steps of a call.
-use Rattle.std.proofs.Common.{◌≡◌, ℕ, ℤ, zero, suc, ◌+◌, ◌*◌, ◌^◌, ◌<◌, ◌≤◌, cond, nat_lt, Option, Some, None, IfSome, List, [], ◌∷◌, length, drop, get_or, refl, sym, ap, ◌∙◌, arith}
+use Rattle.std.proofs.Common.{◌≡◌, ℕ, ℤ, zero, suc, ◌+◌, ◌*◌, ◌^◌, ◌<◌, ◌≤◌, cond, nat_lt, Option, Some, None, IfSome, IfNone, List, [], ◌∷◌, length, drop, get_or, refl, sym, ap, ◌∙◌, subst, arith}
 use Rattle.std.proofs.lemmas.Bool.Decides.{nat_tests}
 use Rattle.rank_key.specs.Bits.{bit_length}
 use Rattle.rank_key.proofs.BitLemmas.{bit_length_rises, bit_length_below}
@@ -12,7 +12,7 @@ use Rattle.tdp_core.specs.TreeView.{NodeView, group_count, row_count}
 use Rattle.tdp_core.specs.WellFormed.{IsFormed, IsTieFreeTree}
 use Rattle.tdp_core.specs.Solutions.{IsTreeRanking}
 use Rattle.suffix_streams.specs.Rankings.{group_list}
-use Rattle.suffix_streams.specs.StreamsView.{StreamsView, AreKept, entry_group, entry_place, entry_key}
+use Rattle.suffix_streams.specs.StreamsView.{StreamsView, AreKept, Follows, entry_group, entry_place, entry_key}
 use Rattle.suffix_streams.proofs.BeginRankings.{root_list_empty, root_ranks}
 use Rattle.anyk_rec.specs.RecView.{RecView, rest_of, IsRootEntry, given_of}
 
@@ -76,6 +76,31 @@ given_kept s s' (Some e) k root = ap (λ n. n + 1) (k.places e root.within)
 pub root_kept : {R : Type 0} (s s' : StreamsView R) (last : Option ℕ) → AreKept s s' → IfSome last (IsRootEntry s) → IfSome last (IsRootEntry s')
 root_kept s s' None k root = tt
 root_kept s s' (Some e) k root = record { within = omega (arith, root.within, k.longer); node = k.nodes e root.within ∙ root.node; group = k.groups e root.within ∙ root.group }
+
+-- the entry after one of the root's stream
+module _ {R : Type 0} (d : ℕ) (key : R → KeyOf d 16) (s s' : StreamsView R) (e : ℕ) (kept : AreKept s s') (root : IsRootEntry s e) where
+  -- e in the streams that may have grown
+  still : IsRootEntry s' e
+  still = root_kept s s' (Some e) kept root
+
+  pub next_root : (o : Option ℕ) → Follows d key s' e o → IfSome o (IsRootEntry s')
+  next_root None f = tt
+  next_root (Some n) f = record { within = f.0.within; node = f.0.node ∙ still.node; group = f.0.group ∙ still.group }
+
+  pub next_place : s'.tree ≡ s.tree → (o : Option ℕ) → Follows d key s' e o → IfSome o (λ n. (entry_place s' n ≡ entry_place s e + 1) × (entry_place s' n < length (group_list d key s.tree 0 0)))
+  next_place same None f = tt
+  next_place same (Some n) f =
+      let own = next_root (Some n) f in (
+        f.0.place ∙ ap (λ k. k + 1) (kept.places e root.within),
+        subst (λ t. entry_place s' n < length (group_list d key t 0 0)) same
+            (subst (λ g. entry_place s' n < length (group_list d key s'.tree 0 g)) own.group (subst (λ q. entry_place s' n < length (group_list d key s'.tree q (entry_group s' n))) own.node f.1)),
+      )
+
+  pub next_end : s'.tree ≡ s.tree → (o : Option ℕ) → Follows d key s' e o → IfNone o (length (group_list d key s.tree 0 0) ≡ entry_place s e + 1)
+  next_end same (Some n) f = tt
+  next_end same None f =
+      ap (λ t. length (group_list d key t 0 0)) (sym same) ∙ ap (λ g. length (group_list d key s'.tree 0 g)) (sym still.group) ∙ ap (λ q. length (group_list d key s'.tree q (entry_group s' e))) (sym still.node)
+      ∙ f ∙ ap (λ k. k + 1) (kept.places e root.within)
 
 -- # Steps
 
