@@ -75,10 +75,6 @@ module _ {R T A : Type 0} (held : Held R T A) (old : Heap R T) (shown : queue_vi
     pub spare_none : old.spare ≡ 0
     spare_none = sym (ap (λ (q : Heap R T). q.spare) shown) ∙ spare_lem held none
 
-  pub least_many : (keys : ℕ) (key : R → KeyOf keys 16) (heap : Heap R T) → held ≡ Many heap → (d : Entry R T) → IsLeast keys key (slice_index_or heap.entries 0 d) heap.entries
-      → IsLeast keys key (slice_index_or old.entries 0 d) old.entries
-  least_many keys key heap is d h = subst (λ (q : Heap R T). IsLeast keys key (slice_index_or q.entries 0 d) q.entries) (ap queue_view (sym is) ∙ shown) h
-
 -- no entry is before another one among at most one
 pub single_heap : {R T : Type 0} (keys : ℕ) (key : R → KeyOf keys 16) (o : Option (Entry R T)) → IsMinHeap keys key (option_to_list o)
 single_heap keys key None i d some inside = absurd (omega (arith, inside))

@@ -20,6 +20,15 @@ use Rattle.suffix_streams.proofs.members.pass_last.Goals as goal
 in_same : (v n m : ℕ) → v < n → m ≡ n → v < m
 in_same v n m l e = omega arith
 
+in_streams : (v n k m : ℕ) → v < n → k ≡ n → k ≡ m → v < m
+in_streams v n k m l e f = omega arith
+
+room_left : (j r r' : ℕ) → min 2 (2 * j + 1) ≤ r → r ≡ r' → 0 < r'
+room_left j r r' few e = omega arith
+
+room_right : (j r r' : ℕ) → min 2 (2 * j + 2) ≤ r → r ≡ r' → 1 < r'
+room_right j r r' few e = omega arith
+
 -- only the queue of group k of node v changed
 queue_alone : {R : Type 0} (n : List (NodeStreamsView R)) (v k : ℕ) (old new : NodeStreamsView R) → v < length n → old ≡ get_or n v old → new ≡ with_queue old k (stream_at new k).queue (stream_at new k).room
     → slice_set n v new ≡ slice_set n v (with_queue (lists_of n v) k (stream_of (slice_set n v new) v k).queue (stream_of (slice_set n v new) v k).room)
@@ -37,7 +46,7 @@ pub pass-requires-clause-group : goal.pass-requires-clause-group
 pass-requires-clause-group g c =
     let inside : c.args.node < length c.args.nodes.now.items = in_same _ _ _ c.requires.node c.requires.formed.all_nodes in
     let same = lists_at c.args.nodes.now.items c.args.node c.index_mut.result.now c.index_mut.ensures.value inside in
-    omega (arith, c.requires.group, c.requires.formed.all_streams c.args.node c.requires.node, ap (λ (z : NodeStreamsView g.row.R.Denot). length z.streams) same)
+    in_streams _ _ _ _ c.requires.group (c.requires.formed.all_streams c.args.node c.requires.node) (ap (λ (z : NodeStreamsView g.row.R.Denot). length z.streams) same)
 
 pub pass-requires-clause-top : goal.pass-requires-clause-top
 pass-requires-clause-top g c =
@@ -89,7 +98,7 @@ pub pass-requires-else-place-eq1-clause-group : goal.pass-requires-else-place-eq
 pass-requires-else-place-eq1-clause-group g c =
     let inside : c.args.node < length c.args.nodes.now.items = in_same _ _ _ c.requires.node c.requires.formed.all_nodes in
     let same = lists_at c.args.nodes.now.items c.args.node c.index_mut-else-place-eq1.result.now c.index_mut-else-place-eq1.ensures.value inside in
-    omega (arith, c.requires.group, c.requires.formed.all_streams c.args.node c.requires.node, ap (λ (z : NodeStreamsView g.row.R.Denot). length z.streams) same)
+    in_streams _ _ _ _ c.requires.group (c.requires.formed.all_streams c.args.node c.requires.node) (ap (λ (z : NodeStreamsView g.row.R.Denot). length z.streams) same)
 
 pub pass-requires-else-place-eq1-clause-top : goal.pass-requires-else-place-eq1-clause-top
 pass-requires-else-place-eq1-clause-top g c =
@@ -142,18 +151,18 @@ pass-requires-clause-left_room g c some =
     let n = c.args.nodes.now.items in
     let inside : c.args.node < length n = in_same _ _ _ c.requires.node c.requires.formed.all_nodes in
     let same = lists_at n c.args.node c.index_mut.result.now c.index_mut.ensures.value inside in
-    let room = c.requires.room (omega (arith, c.if-place-eq1.true)) in
+    let room = c.requires.room c.if-place-eq1.true in
     let enters = room_below g.R.Rank.KEYS g.R.Rank.key c.args.tree.now c.args.entries.now.entries c.args.node c.args.group (2 * c.args.member + 1) (stream_of n c.args.node c.args.group).room c.firsts_below-left.result.0 c.firsts_below-left.ensures.left some room in
-    omega (arith, enters, ap (λ (z : NodeStreamsView g.row.R.Denot). (stream_at z c.args.group).room) same)
+    room_left c.args.member _ _ enters (ap (λ (z : NodeStreamsView g.row.R.Denot). (stream_at z c.args.group).room) same)
 
 pub pass-requires-clause-right_room : goal.pass-requires-clause-right_room
 pass-requires-clause-right_room g c some =
     let n = c.args.nodes.now.items in
     let inside : c.args.node < length n = in_same _ _ _ c.requires.node c.requires.formed.all_nodes in
     let same = lists_at n c.args.node c.index_mut.result.now c.index_mut.ensures.value inside in
-    let room = c.requires.room (omega (arith, c.if-place-eq1.true)) in
+    let room = c.requires.room c.if-place-eq1.true in
     let enters = room_below g.R.Rank.KEYS g.R.Rank.key c.args.tree.now c.args.entries.now.entries c.args.node c.args.group (2 * c.args.member + 2) (stream_of n c.args.node c.args.group).room c.firsts_below-left.result.1 c.firsts_below-left.ensures.right some room in
-    omega (arith, enters, ap (λ (z : NodeStreamsView g.row.R.Denot). (stream_at z c.args.group).room) same)
+    room_right c.args.member _ _ enters (ap (λ (z : NodeStreamsView g.row.R.Denot). (stream_at z c.args.group).room) same)
 
 pub pass-requires-else-place-eq1-clause-left_room : goal.pass-requires-else-place-eq1-clause-left_room
 pass-requires-else-place-eq1-clause-left_room g c some = absurd (false≢true some)

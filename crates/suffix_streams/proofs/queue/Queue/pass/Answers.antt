@@ -1,12 +1,16 @@
-use Rattle.std.proofs.Common.{subst, sym, arith}
+use Rattle.std.proofs.Common.{subst, sym, ap, ◌∙◌, arith}
 use Rattle.take2_heap.specs.Heap.{Heap}
 use Rattle.take2_heap.specs.Order.{IsMinHeap}
-use Rattle.suffix_streams.proofs.Single.{least_many, least_single, passed_single, single_heap, spare_none}
+use Rattle.suffix_streams.specs.QueueView.{queue_view}
+use Rattle.suffix_streams.specs.TopPassed.{IsTopPassed}
+use Rattle.suffix_streams.proofs.Single.{least_single, passed_single, single_heap, spare_none}
 use Rattle.suffix_streams.proofs.queue.Queue.pass.Goals as goal
 
-pub returns-in-Many-clause-least : goal.returns-in-Many-clause-least
-returns-in-Many-clause-least g c d =
-    least_many c.self.inside.held c.args.self.now c.self.view_is g.R.Rank.KEYS g.R.Rank.key c.in-Many.heap c.in-Many.is d (c.pass_top.ensures.least d)
+pub returns-in-Many : goal.returns-in-Many
+returns-in-Many g c =
+    let same = ap queue_view (sym c.in-Many.is) ∙ c.self.view_is in
+    let p = subst (λ (q : Heap g.row.R.Denot g.row.T.Denot). IsTopPassed g.R.Rank.KEYS g.R.Rank.key c.args.next c.args.other q c.pass_top.new.heap c.args.steps.now c.pass_top.new.steps) same c.pass_top.ensures in
+    record { moved = p.moved; least = p.least; heap_order = p.heap_order; cost = p.cost; spare = p.spare }
 
 pub returns : goal.returns
 returns g c =
