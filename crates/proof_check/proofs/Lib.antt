@@ -45,3 +45,5 @@ pub mod Testing
 pub mod Preparing
 pub mod Nothing
 pub mod Parts
+pub mod Counts
+pub mod Naming

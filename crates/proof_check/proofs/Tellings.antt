@@ -1,5 +1,6 @@
 -- Faults that tell the first flaw.
-use Rattle.std.proofs.Common.{ℕ, Ok, List, refl, sym, subst, inl, inr}
+use Rattle.std.proofs.Common.{◌≡◌, ℕ, Result, Ok, Err, IfErr, List, refl, sym, subst, inl, inr}
+use Rattle.std.specs.Result.{IsErrAnd}
 use Rattle.anyk_model.specs.Table.{Table}
 use Rattle.anyk_model.specs.Query.{Query}
 use Rattle.join_tree.specs.declared.tree.JoinTree.{JoinTree}
@@ -10,6 +11,12 @@ use Rattle.proof_model.specs.Faults.{TellsFlaw}
 use Rattle.proof_model.specs.QueryProblem.{problem_in}
 use Rattle.proof_model.specs.Valid.{IsFirst, no_answer, not_in_order}
 use Rattle.proof_check.specs.Solutions.{IsFirstBad, IsFirstBehind, TellsBad, TellsBehind}
+
+-- what is told of the fault that `?` hands on
+pub told_err : {T : Type 0} (r : Result T ProofFault) (x : ProofFault) (P : ProofFault → Type 0)
+    → IsErrAnd r (λ e. e ≡ x) → P x → IfErr r P
+told_err (Ok y) x P is told = tt
+told_err (Err e) x P is told = subst P (sym is) told
 
 module _ (query : Query) (tables : List Table) (join : JoinTree) (c : Certificate) (shape : Shape)
     (is_shape : IsShape query tables (Ok shape)) (told : ProofFault) where

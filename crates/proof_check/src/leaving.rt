@@ -140,7 +140,8 @@ fn branch_leaves_after<R: Rank, L: Ledger>(
     last: &Option<R>,
     steps: &mut Steps<L>,
 ) -> bool
-    requires { (b : Branch R) → branch ≡ Some b
+    requires group { (b : Branch R) → branch ≡ Some b → b.group < length lists.now }
+    requires fits { (b : Branch R) → branch ≡ Some b
         → FitOffers R.KEYS R.key b (map (λ l. l.items) lists.now) }
     ensures passed { result ≡ true → (b : Branch R) → branch ≡ Some b
         → IsFirstPast R.KEYS R.key taken.now number (option_map R.key last.now) b

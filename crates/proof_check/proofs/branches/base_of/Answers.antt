@@ -11,6 +11,7 @@ use Rattle.proof_model.specs.QueryProblem.{problem_in}
 use Rattle.proof_check.proofs.Nodes.{all_nodes}
 use Rattle.proof_check.specs.Levels.{IsBase, base_part}
 use Rattle.proof_check.proofs.Known.{part_key, sum_fits}
+use Rattle.proof_check.proofs.Counts.{at_list, below_count, ended}
 use Rattle.proof_check.proofs.branches.base_of.Goals as goal
 
 pub loop-at-init : goal.loop-at-init
@@ -56,9 +57,9 @@ join-base-requires g c =
     let is : key c.in_ok-part.part ≡ part at = ap (λ z. unwrap_or z (key_none d 16)) here in
     let long = c.requires.ready.long in
     let node : c.args.node < t.nodes =
-    omega (arith, all_nodes b.query b.tables join c.requires.ready.ordered long, c.requires.ready.node) in
+    at_list _ _ _ c.requires.ready.node (all_nodes b.query b.tables join c.requires.ready.ordered long) in
     let l : at < t.nodes =
-    omega (arith, c.loop-at-test.true, c.nodes-at-end.ensures.count, ap (λ z. length z.raw.shapes) c.tree.view_is, b.bounded.rows.nodes) in
+    below_count _ _ _ c.loop-at-test.true (c.nodes-at-end.ensures.count ∙ ap (λ z. length z.raw.shapes) c.tree.view_is ∙ b.bounded.rows.nodes) in
     let formed : IsRawFormed d key tree.raw =
     subst (λ z. IsRawFormed d key z.raw) c.tree.view_is c.nodes-at-end.ensures.formed in
     let parts : (q : ℕ) → q < suc at → base q ≡ Some (part q) = λ q h. elim (cases_lt q at) [
@@ -68,7 +69,7 @@ join-base-requires g c =
           subst (λ z. base z ≡ Some (part z)) (sym e) (sym here ∙ ap Some is)
     ] in
     let fits = sum_fits b.query b.tables join d key b.c tree b.few b.bounded c.requires.ready.ordered long c.args.node node
-    c.args.start.now c.requires.rows part (suc at) (omega (arith, l)) parts formed in
+    c.args.start.now c.requires.rows part (suc at) l parts formed in
     let whole : sum_from (key_add d 16) (key_none d 16) part (suc at) 0
     ≡ key_add d 16 (key c.loop-at.base) (key c.in_ok-part.part) =
     sum_last (key_below d 16) (key_add d 16) (key_none d 16) (tuple_keys d 16) part at 0 at (omega arith)
@@ -85,15 +86,8 @@ returns g c =
     let long = c.requires.ready.long in
     let end = c.loop-at.auto.at-end in
     let done : c.loop-at.at ≡ join.count =
-    omega (
-      arith,
-      end,
-      c.loop-at-test.false,
-      all_nodes b.query b.tables join c.requires.ready.ordered long,
-      c.nodes-at-end.ensures.count,
-      ap (λ z. length z.raw.shapes) c.tree.view_is,
-      b.bounded.rows.nodes,
-    ) in (
+    ended _ _ end c.loop-at-test.false ∙ c.nodes-at-end.ensures.count ∙ ap (λ z. length z.raw.shapes) c.tree.view_is
+    ∙ b.bounded.rows.nodes ∙ all_nodes b.query b.tables join c.requires.ready.ordered long in (
       part,
       λ q l. c.loop-at.invariant.parts q (omega (arith, done, l)),
       subst (λ n. g.R.Rank.key c.loop-at.base ≡ sum_from (key_add d 16) (key_none d 16) part n 0) done c.loop-at.invariant.sum,
@@ -106,14 +100,9 @@ returns-in_err-part g c =
     let join = c.args.join.now in
     let long = c.requires.ready.long in
     let l : c.loop-at.at < join.count =
-    omega (
-      arith,
-      all_nodes b.query b.tables join c.requires.ready.ordered long,
-      c.loop-at-test.true,
-      c.nodes-at-end.ensures.count,
-      ap (λ z. length z.raw.shapes) c.tree.view_is,
-      b.bounded.rows.nodes,
-    ) in
+    below_count _ _ _ c.loop-at-test.true
+    (c.nodes-at-end.ensures.count ∙ ap (λ z. length z.raw.shapes) c.tree.view_is ∙ b.bounded.rows.nodes
+    ∙ all_nodes b.query b.tables join c.requires.ready.ordered long) in
     subst (λ r. IsBase join c.args.tree.now d g.R.Rank.key c.args.node c.args.start.now (option_map g.R.Rank.key r))
     (sym c.from_residual.ensures) (c.loop-at.at, l, sym c.in_err-part.ensures)
 
@@ -123,14 +112,9 @@ base_part-requires-clause-ready g c = c.requires.ready
 pub base_part-requires-clause-at : goal.base_part-requires-clause-at
 base_part-requires-clause-at g c =
     let b = c.requires.ready.bounded in
-    omega (
-      arith,
-      all_nodes b.query b.tables c.args.join.now c.requires.ready.ordered c.requires.ready.long,
-      c.loop-at-test.true,
-      c.nodes-at-end.ensures.count,
-      ap (λ z. length z.raw.shapes) c.tree.view_is,
-      b.bounded.rows.nodes,
-    )
+    below_count _ _ _ c.loop-at-test.true
+    (c.nodes-at-end.ensures.count ∙ ap (λ z. length z.raw.shapes) c.tree.view_is ∙ b.bounded.rows.nodes
+    ∙ all_nodes b.query b.tables c.args.join.now c.requires.ready.ordered c.requires.ready.long)
 
 pub base_part-requires-clause-rows : goal.base_part-requires-clause-rows
 base_part-requires-clause-rows g c = c.requires.rows

@@ -2,6 +2,7 @@ use Rattle.std.proofs.Common.{◌≡◌, ◌<◌, length, slice_index, ap, subst
 use Rattle.tdp_core.specs.RawView.{raw_len, raw_rank}
 use Rattle.proof_check.proofs.Nodes.{all_nodes}
 use Rattle.proof_check.proofs.Parts.{empty_part, named_part, named_row, row_part}
+use Rattle.proof_check.proofs.Counts.{at_list}
 use Rattle.proof_check.proofs.branches.base_part.Goals as goal
 use Rattle.proof_check.proofs.branches.base_part.Goals.{then-at-node-2-via-then-at-node-2}
 use Rattle.proof_check.proofs.branches.base_part.Goals.{then-at-node-2-via-else-at-node-2+then-above-node}
@@ -11,7 +12,7 @@ named_rank-requires-clause-above g c =
     let up = slice_index c.args.join.now.parent c.args.at in
     let x = c.if-at-node-2.false in
     let y = c.if-at-node.false in
-    (named_row c.args.join.now c.args.tree.now g.R.Rank.KEYS g.R.Rank.key c.requires.ready.bounded c.requires.ready.ordered (omega arith)
+    (named_row c.args.join.now c.args.tree.now g.R.Rank.KEYS g.R.Rank.key c.requires.ready.bounded c.requires.ready.ordered c.requires.ready.long
     c.args.at c.requires.at (omega (arith, x, y)) (slice_index c.args.start.now up) (c.requires.rows up c.if-above-node.false)).0
 
 pub named_rank-requires-clause-each : goal.named_rank-requires-clause-each
@@ -19,7 +20,7 @@ named_rank-requires-clause-each g c =
     let up = slice_index c.args.join.now.parent c.args.at in
     let x = c.if-at-node-2.false in
     let y = c.if-at-node.false in
-    (named_row c.args.join.now c.args.tree.now g.R.Rank.KEYS g.R.Rank.key c.requires.ready.bounded c.requires.ready.ordered (omega arith)
+    (named_row c.args.join.now c.args.tree.now g.R.Rank.KEYS g.R.Rank.key c.requires.ready.bounded c.requires.ready.ordered c.requires.ready.long
     c.args.at c.requires.at (omega (arith, x, y)) (slice_index c.args.start.now up) (c.requires.rows up c.if-above-node.false)).1
 
 pub bounds-start-at : goal.bounds-start-at
@@ -33,8 +34,9 @@ pub row-requires-clause-node : goal.row-requires-clause-node
 row-requires-clause-node g c =
     let b = c.requires.ready.bounded in
     let join = c.args.join.now in
-    let long : length join.atom ≡ 16 = omega arith in
-    omega (arith, all_nodes b.query b.tables join c.requires.ready.ordered long, c.requires.at, ap (λ z. length z.raw.shapes) c.tree.view_is, b.bounded.rows.nodes)
+    at_list _ _ _ c.requires.at
+    (ap (λ z. length z.raw.shapes) c.tree.view_is ∙ b.bounded.rows.nodes
+    ∙ all_nodes b.query b.tables join c.requires.ready.ordered c.requires.ready.long)
 
 pub bounds-start-above : goal.bounds-start-above
 bounds-start-above g c =
@@ -46,9 +48,8 @@ pub named_rank-requires-clause-node : goal.named_rank-requires-clause-node
 named_rank-requires-clause-node g c =
     let b = c.requires.ready.bounded in
     let join = c.args.join.now in
-    let long : length join.atom ≡ 16 = omega arith in
-    let e = b.bounded.each_node in
-    omega (arith, all_nodes b.query b.tables join c.requires.ready.ordered long, c.requires.at, e)
+    at_list _ _ _ c.requires.at
+    (b.bounded.each_node ∙ all_nodes b.query b.tables join c.requires.ready.ordered c.requires.ready.long)
 
 pub returns-then-at-node : goal.returns-then-at-node
 returns-then-at-node g c =

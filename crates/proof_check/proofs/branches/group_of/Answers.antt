@@ -7,26 +7,31 @@ use Rattle.proof_check.specs.BoundedRows.{BoundedView, bound_ranks, named_bound}
 use Rattle.proof_model.specs.QueryProblem.{problem_in}
 use Rattle.proof_check.proofs.Nodes.{all_nodes, parent_at}
 use Rattle.proof_check.specs.Levels.{IsGroupOf}
+use Rattle.proof_check.proofs.Counts.{at_list}
 use Rattle.proof_check.proofs.branches.group_of.Goals as goal
 
-pub named_number-requires : goal.named_number-requires
-named_number-requires g c =
+pub named_number-requires-clause-node : goal.named_number-requires-clause-node
+named_number-requires-clause-node g c =
+    let b = c.requires.ready.bounded in
+    let join = c.args.join.now in
+    at_list _ _ _ c.requires.ready.node
+    (b.bounded.each_node ∙ all_nodes b.query b.tables join c.requires.ready.ordered c.requires.ready.long)
+
+pub named_number-requires-clause-above : goal.named_number-requires-clause-above
+named_number-requires-clause-above g c =
     let b = c.requires.ready.bounded in
     let join = c.args.join.now in
     let q = c.args.node in
     let t = problem_in b.query b.tables join in
-    let long : length join.atom ≡ 16 = omega arith in
-    let l : q < t.nodes = omega (arith, all_nodes b.query b.tables join c.requires.ready.ordered long, c.requires.ready.node) in
+    let long = c.requires.ready.long in
+    let l : q < t.nodes = at_list _ _ _ c.requires.ready.node (all_nodes b.query b.tables join c.requires.ready.ordered long) in
     let some : 0 < q = let x = c.if-node-eq0.false in omega (arith, x) in
     let up = parent_at b.query b.tables join c.requires.ready.ordered long q l in
     let row : slice_index c.args.start.now (slice_index join.parent q) < raw_len c.args.tree.now.raw (t.parent q) =
     subst (λ u. slice_index c.args.start.now (slice_index join.parent q) < raw_len c.args.tree.now.raw u) (sym up)
     (c.requires.rows (slice_index join.parent q) (c.requires.ready.ordered.earlier q some c.requires.ready.node)) in
-    record {
-      node = let e = b.bounded.each_node in omega (arith, e, l);
-      above = let e = b.bounded.named_length q some l in
-          subst (λ n. slice_index c.args.start.now (slice_index join.parent q) < n) (sym e) row;
-    }
+    let e = b.bounded.named_length q some l in
+    subst (λ n. slice_index c.args.start.now (slice_index join.parent q) < n) (sym e) row
 
 pub returns : goal.returns
 returns g c =
@@ -35,8 +40,8 @@ returns g c =
     let tree = c.args.tree.now in
     let q = c.args.node in
     let t = problem_in b.query b.tables join in
-    let long : length join.atom ≡ 16 = omega arith in
-    let l : q < t.nodes = omega (arith, all_nodes b.query b.tables join c.requires.ready.ordered long, c.requires.ready.node) in
+    let long = c.requires.ready.long in
+    let l : q < t.nodes = at_list _ _ _ c.requires.ready.node (all_nodes b.query b.tables join c.requires.ready.ordered long) in
     let some : 0 < q = let x = c.if-node-eq0.false in omega (arith, x) in
     let up = parent_at b.query b.tables join c.requires.ready.ordered long q l in
     let above : ℕ = slice_index c.args.start.now (slice_index join.parent q) in
@@ -71,11 +76,8 @@ pub bound_count-requires : goal.bound_count-requires
 bound_count-requires g c =
     let b = c.requires.ready.bounded in
     let join = c.args.join.now in
-    let long : length join.atom ≡ 16 = omega arith in
-    let nodes = all_nodes b.query b.tables join c.requires.ready.ordered long in
-    let inside = c.requires.ready.node in
-    let e = b.bounded.each_node in
-    omega (arith, e, nodes, inside)
+    at_list _ _ _ c.requires.ready.node
+    (b.bounded.each_node ∙ all_nodes b.query b.tables join c.requires.ready.ordered c.requires.ready.long)
 
 pub returns-then-bound_count-eq0 : goal.returns-then-bound_count-eq0
 returns-then-bound_count-eq0 g c h l group =

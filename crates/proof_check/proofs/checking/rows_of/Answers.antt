@@ -37,10 +37,13 @@ loop-i-preserved c =
     ∙ ap (λ y. take i rows ++ y ∷ []) new
     ∙ sym (take_more rows i [] inside)
 
-pub returns-clause-rows : goal.returns-clause-rows
-returns-clause-rows c =
-    let xs = c.args.answers.now in
-    let rows : List (List ℕ) = map (λ (a : Listed). a.rows.items) xs in
-    let f = c.loop-i-test.false in
-    c.loop-i.invariant
-    ∙ take_all c.loop-i.i rows (omega (arith, f, length-map xs (λ (a : Listed). a.rows.items)))
+pub returns : goal.returns
+returns c = record {
+  rows =
+      let xs = c.args.answers.now in
+      let rows : List (List ℕ) = map (λ (a : Listed). a.rows.items) xs in
+      let f = c.loop-i-test.false in
+      c.loop-i.invariant
+      ∙ take_all c.loop-i.i rows (omega (arith, f, length-map xs (λ (a : Listed). a.rows.items)));
+  fault = tt;
+}

@@ -1,9 +1,10 @@
-use Rattle.std.proofs.Common.{◌≡◌, option_map, length, sym, ap, subst, inl, inr, arith}
+use Rattle.std.proofs.Common.{◌≡◌, option_map, length, sym, ap, subst, ◌∙◌, inl, inr, arith}
 use Rattle.std.proofs.lemmas.Bool.{cases_lt, false≢true}
 use Rattle.tdp_core.specs.RawView.{IsRawFormed}
 use Rattle.proof_check.proofs.Nodes.{all_nodes}
 use Rattle.proof_check.specs.Levels.{IsPassedAt}
 use Rattle.std.proofs.lemmas.Result.{IfOk-from_err}
+use Rattle.proof_check.proofs.Counts.{below_count}
 use Rattle.proof_check.proofs.choices.all_leave_after.Goals as goal
 
 pub node_leaves_after-requires-clause-ready : goal.node_leaves_after-requires-clause-ready
@@ -16,14 +17,9 @@ node_leaves_after-requires-clause-ready g c =
       bounded = b;
       formed = subst (λ z. IsRawFormed g.R.Rank.KEYS g.R.Rank.key z.raw) c.tree.view_is c.nodes-node-end.ensures.formed;
       long = long;
-      node = omega (
-        arith,
-        c.loop-node-test.true,
-        c.nodes-node-end.ensures.count,
-        ap (λ z. length z.raw.shapes) c.tree.view_is,
-        b.bounded.rows.nodes,
-        all_nodes b.query b.tables join c.requires.ordered long,
-      );
+      node = below_count _ _ _ c.loop-node-test.true
+          (c.nodes-node-end.ensures.count ∙ ap (λ z. length z.raw.shapes) c.tree.view_is ∙ b.bounded.rows.nodes
+          ∙ all_nodes b.query b.tables join c.requires.ordered long);
     }
 
 pub node_leaves_after-requires-clause-within : goal.node_leaves_after-requires-clause-within
@@ -50,50 +46,42 @@ loop-node-preserved g c =
       ];
     }
 
-pub returns-clause-room : goal.returns-clause-room
-returns-clause-room g c = omega arith
+pub returns : goal.returns
+returns g c = record {
+  room = omega arith;
+  passed = λ _ p l.
+      let b = c.requires.bounded in
+      let join = c.args.join in
+      let long : length join.atom ≡ 16 = omega arith in
+      c.loop-node.invariant.passed p (omega (
+        arith,
+        l,
+        c.loop-node-test.false,
+        c.nodes-node-end.ensures.count,
+        ap (λ z. length z.raw.shapes) c.tree.view_is,
+        b.bounded.rows.nodes,
+        all_nodes b.query b.tables join c.requires.ordered long,
+      ));
+  missed = λ bad. absurd (false≢true (sym bad));
+}
 
-pub returns-clause-passed : goal.returns-clause-passed
-returns-clause-passed g c _ p l =
-    let b = c.requires.bounded in
-    let join = c.args.join in
-    let long : length join.atom ≡ 16 = omega arith in
-    c.loop-node.invariant.passed p (omega (
-      arith,
-      l,
-      c.loop-node-test.false,
-      c.nodes-node-end.ensures.count,
-      ap (λ z. length z.raw.shapes) c.tree.view_is,
-      b.bounded.rows.nodes,
-      all_nodes b.query b.tables join c.requires.ordered long,
-    ))
+pub returns-in_err-prefixes : goal.returns-in_err-prefixes
+returns-in_err-prefixes g c = record {
+  room = omega arith;
+  passed = IfOk-from_err c.from_residual.result _ c.from_residual.ensures.0;
+  missed = IfOk-from_err c.from_residual.result _ c.from_residual.ensures.0;
+}
 
-pub returns-clause-missed : goal.returns-clause-missed
-returns-clause-missed g c bad = absurd (false≢true (sym bad))
+pub returns-in-Ok-false : goal.returns-in-Ok-false
+returns-in-Ok-false g c = record {
+  room = omega arith;
+  passed = λ good. absurd (false≢true good);
+  missed = λ _. c.in-Ok-false.ensures.missed c.in-Ok-false.field-0-test;
+}
 
-pub returns-in_err-prefixes-clause-room : goal.returns-in_err-prefixes-clause-room
-returns-in_err-prefixes-clause-room g c = omega arith
-
-pub returns-in_err-prefixes-clause-passed : goal.returns-in_err-prefixes-clause-passed
-returns-in_err-prefixes-clause-passed g c = IfOk-from_err c.from_residual.result _ c.from_residual.ensures.0
-
-pub returns-in_err-prefixes-clause-missed : goal.returns-in_err-prefixes-clause-missed
-returns-in_err-prefixes-clause-missed g c = IfOk-from_err c.from_residual.result _ c.from_residual.ensures.0
-
-pub returns-in-Ok-false-clause-room : goal.returns-in-Ok-false-clause-room
-returns-in-Ok-false-clause-room g c = omega arith
-
-pub returns-in-Ok-false-clause-passed : goal.returns-in-Ok-false-clause-passed
-returns-in-Ok-false-clause-passed g c good = absurd (false≢true good)
-
-pub returns-in-Ok-false-clause-missed : goal.returns-in-Ok-false-clause-missed
-returns-in-Ok-false-clause-missed g c _ = c.in-Ok-false.ensures.missed c.in-Ok-false.field-0-test
-
-pub returns-in-Err-clause-room : goal.returns-in-Err-clause-room
-returns-in-Err-clause-room g c = omega arith
-
-pub returns-in-Err-clause-passed : goal.returns-in-Err-clause-passed
-returns-in-Err-clause-passed g c = tt
-
-pub returns-in-Err-clause-missed : goal.returns-in-Err-clause-missed
-returns-in-Err-clause-missed g c = tt
+pub returns-in-Err : goal.returns-in-Err
+returns-in-Err g c = record {
+  room = omega arith;
+  passed = tt;
+  missed = tt;
+}

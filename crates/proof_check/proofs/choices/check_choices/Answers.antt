@@ -1,93 +1,108 @@
-use Rattle.std.proofs.Common.{◌≡◌, not, option_map, length, refl, sym, ap, subst, ◌∙◌}
+use Rattle.std.proofs.Common.{◌≡◌, ◌<◌, not, option_map, length, refl, sym, ap, subst, ◌∙◌, arith}
 use Rattle.std.proofs.Common.{inl, inr}
 use Rattle.std.proofs.lemmas.Bool.{false≢true}
 use Rattle.proof_text.specs.ProofView.{proof_view}
+use Rattle.tdp_core.specs.RawView.{raw_len}
 use Rattle.proof_check.specs.Levels.{IsMissedAt, IsPassedAt}
+use Rattle.proof_check.specs.RowPlaces.{place_at}
+use Rattle.proof_model.specs.QueryProblem.{problem_in}
 use Rattle.proof_check.proofs.Passing.{IsLimit, all_passed, is_missed, limit_from, none_passed}
+use Rattle.proof_check.proofs.Counts.{below_count}
 use Rattle.proof_check.proofs.choices.check_choices.Goals as goal
 use Rattle.proof_check.proofs.choices.check_choices.Goals.{then-proof, else-proof}
 use Rattle.proof_check.proofs.choices.check_choices.Goals.{else-not-proof-via-then-not-proof+else-is_none}
 use Rattle.proof_check.proofs.choices.check_choices.Goals.{else-not-proof-via-else-not-proof}
 
-pub returns-in-Ok-true-clause-passed : goal.returns-in-Ok-true-clause-passed
-returns-in-Ok-true-clause-passed g c =
-    let d = g.R.Rank.KEYS in
-    let key = g.R.Rank.key in
+pub returns-in-Ok-true : goal.returns-in-Ok-true
+returns-in-Ok-true g c = record {
+  passed =
+      let d = g.R.Rank.KEYS in
+      let key = g.R.Rank.key in
+      let query = c.args.query.now.query in
+      let tables = c.args.tables.now in
+      let join = c.args.join.now in
+      let cert = proof_view c.args.proof.now in
+      let tree = c.args.tree.now in
+      let long : length join.atom ≡ 16 = c.all_leave_after.ensures.room in
+      let limit : IsLimit query tables join d key cert tree c.requires.keys c.requires.bounded c.requires.ordered long
+      c.args.answers.now.places.items c.requires.placed (option_map key c.if-proof.last) = elim c.if-proof.branch [
+        | then-proof w ↦ inl (w.if-proof.true, ap (option_map key) w.last-is)
+        | else-proof w ↦ elim c.else-not-proof.branch [
+          | else-not-proof-via-then-not-proof+else-is_none v ↦
+              limit_from query tables join d key cert tree c.requires.keys c.requires.bounded c.requires.ordered long
+              c.args.answers.now.places.items c.requires.placed c.args.answers.now.last c.requires.last
+              (v.is_none.ensures ∙ ap not v.if-is_none.false) w.if-proof.false (option_map key c.if-proof.last)
+              (ap (option_map key) w.last-is)
+          | else-not-proof-via-else-not-proof v ↦ absurd (false≢true (sym w.if-proof.false ∙ v.if-not-proof.false))
+        ]
+      ] in
+      all_passed query tables join d key cert tree c.requires.keys c.requires.bounded c.requires.ordered long
+      c.args.answers.now.places.items c.requires.placed (option_map key c.if-proof.last) limit
+      (λ p l. subst (λ xs. IsPassedAt join tree d key xs (option_map key c.if-proof.last) p) c.deref.ensures.value
+      (c.in-Ok-true.ensures.passed c.in-Ok-true.field-0-test p l));
+  fault = tt;
+}
+
+pub returns-in-Ok-false : goal.returns-in-Ok-false
+returns-in-Ok-false g c = record {
+  passed = tt;
+  fault =
+      let d = g.R.Rank.KEYS in
+      let key = g.R.Rank.key in
+      let query = c.args.query.now.query in
+      let tables = c.args.tables.now in
+      let join = c.args.join.now in
+      let cert = proof_view c.args.proof.now in
+      let tree = c.args.tree.now in
+      let long : length join.atom ≡ 16 = c.all_leave_after.ensures.room in
+      let limit : IsLimit query tables join d key cert tree c.requires.keys c.requires.bounded c.requires.ordered long
+      c.args.answers.now.places.items c.requires.placed (option_map key c.if-proof.last) = elim c.if-proof.branch [
+        | then-proof w ↦ inl (w.if-proof.true, ap (option_map key) w.last-is)
+        | else-proof w ↦ elim c.else-not-proof.branch [
+          | else-not-proof-via-then-not-proof+else-is_none v ↦
+              limit_from query tables join d key cert tree c.requires.keys c.requires.bounded c.requires.ordered long
+              c.args.answers.now.places.items c.requires.placed c.args.answers.now.last c.requires.last
+              (v.is_none.ensures ∙ ap not v.if-is_none.false) w.if-proof.false (option_map key c.if-proof.last)
+              (ap (option_map key) w.last-is)
+          | else-not-proof-via-else-not-proof v ↦ absurd (false≢true (sym w.if-proof.false ∙ v.if-not-proof.false))
+        ]
+      ] in
+      inr (
+        refl,
+        is_missed query tables join d key cert tree c.requires.keys c.requires.bounded c.requires.ordered long
+            c.args.answers.now.places.items c.requires.placed (option_map key c.if-proof.last) limit
+            (subst (λ xs. IsMissedAt join tree d key xs (option_map key c.if-proof.last)) c.deref.ensures.value
+            (c.in-Ok-false.ensures.missed c.in-Ok-false.field-0-test)),
+      );
+}
+
+pub returns-then-is_none : goal.returns-then-is_none
+returns-then-is_none g c = record {
+  passed =
+      none_passed c.args.query.now.query c.args.tables.now c.args.join.now g.R.Rank.KEYS g.R.Rank.key (proof_view c.args.proof.now)
+      c.args.answers.now.last c.requires.last (c.is_none.ensures ∙ ap not c.if-is_none.true) c.if-not-proof.true;
+  fault = tt;
+}
+
+pub all_leave_after-requires-clause-within : goal.all_leave_after-requires-clause-within
+all_leave_after-requires-clause-within g c i q l h =
     let query = c.args.query.now.query in
     let tables = c.args.tables.now in
     let join = c.args.join.now in
-    let cert = proof_view c.args.proof.now in
-    let tree = c.args.tree.now in
-    let long : length join.atom ≡ 16 = c.all_leave_after.ensures.room in
-    let limit : IsLimit query tables join d key cert tree c.requires.keys c.requires.bounded c.requires.ordered long
-    c.args.answers.now.places.items c.requires.placed (option_map key c.if-proof.last) = elim c.if-proof.branch [
-      | then-proof w ↦ inl (w.if-proof.true, ap (option_map key) w.last-is)
-      | else-proof w ↦ elim c.else-not-proof.branch [
-        | else-not-proof-via-then-not-proof+else-is_none v ↦
-            limit_from query tables join d key cert tree c.requires.keys c.requires.bounded c.requires.ordered long
-            c.args.answers.now.places.items c.requires.placed c.args.answers.now.last c.requires.last
-            (v.is_none.ensures ∙ ap not v.if-is_none.false) w.if-proof.false (option_map key c.if-proof.last)
-            (ap (option_map key) w.last-is)
-        | else-not-proof-via-else-not-proof v ↦ absurd (false≢true (sym w.if-proof.false ∙ v.if-not-proof.false))
-      ]
-    ] in
-    all_passed query tables join d key cert tree c.requires.keys c.requires.bounded c.requires.ordered long
-    c.args.answers.now.places.items c.requires.placed (option_map key c.if-proof.last) limit
-    (λ p l. subst (λ xs. IsPassedAt join tree d key xs (option_map key c.if-proof.last) p) c.deref.ensures.value
-    (c.in-Ok-true.ensures.passed c.in-Ok-true.field-0-test p l))
-
-pub returns-in-Ok-false-clause-fault : goal.returns-in-Ok-false-clause-fault
-returns-in-Ok-false-clause-fault g c =
-    let d = g.R.Rank.KEYS in
-    let key = g.R.Rank.key in
-    let query = c.args.query.now.query in
-    let tables = c.args.tables.now in
-    let join = c.args.join.now in
-    let cert = proof_view c.args.proof.now in
-    let tree = c.args.tree.now in
-    let long : length join.atom ≡ 16 = c.all_leave_after.ensures.room in
-    let limit : IsLimit query tables join d key cert tree c.requires.keys c.requires.bounded c.requires.ordered long
-    c.args.answers.now.places.items c.requires.placed (option_map key c.if-proof.last) = elim c.if-proof.branch [
-      | then-proof w ↦ inl (w.if-proof.true, ap (option_map key) w.last-is)
-      | else-proof w ↦ elim c.else-not-proof.branch [
-        | else-not-proof-via-then-not-proof+else-is_none v ↦
-            limit_from query tables join d key cert tree c.requires.keys c.requires.bounded c.requires.ordered long
-            c.args.answers.now.places.items c.requires.placed c.args.answers.now.last c.requires.last
-            (v.is_none.ensures ∙ ap not v.if-is_none.false) w.if-proof.false (option_map key c.if-proof.last)
-            (ap (option_map key) w.last-is)
-        | else-not-proof-via-else-not-proof v ↦ absurd (false≢true (sym w.if-proof.false ∙ v.if-not-proof.false))
-      ]
-    ] in
-    inr (
-      refl,
-      is_missed query tables join d key cert tree c.requires.keys c.requires.bounded c.requires.ordered long
-          c.args.answers.now.places.items c.requires.placed (option_map key c.if-proof.last) limit
-          (subst (λ xs. IsMissedAt join tree d key xs (option_map key c.if-proof.last)) c.deref.ensures.value
-          (c.in-Ok-false.ensures.missed c.in-Ok-false.field-0-test)),
-    )
-
-pub returns-then-is_none-clause-fault : goal.returns-then-is_none-clause-fault
-returns-then-is_none-clause-fault g c = tt
+    let placed = c.requires.placed in
+    let value = c.deref.ensures.value in
+    let node : q < (problem_in query tables join).nodes = omega arith in
+    subst (λ xs. place_at xs i q < raw_len c.args.tree.now.raw q) (sym value)
+    (placed.within i q (below_count _ _ _ (subst (λ xs. i < length xs) value l) placed.count) node)
 
 pub all_leave_after-requires-clause-ordered : goal.all_leave_after-requires-clause-ordered
 all_leave_after-requires-clause-ordered g c = c.requires.ordered
 
-pub returns-in-Ok-true-clause-fault : goal.returns-in-Ok-true-clause-fault
-returns-in-Ok-true-clause-fault g c = tt
-
-pub returns-in-Ok-false-clause-passed : goal.returns-in-Ok-false-clause-passed
-returns-in-Ok-false-clause-passed g c = tt
-
-pub returns-in-Err-clause-passed : goal.returns-in-Err-clause-passed
-returns-in-Err-clause-passed g c = tt
-
-pub returns-in-Err-clause-fault : goal.returns-in-Err-clause-fault
-returns-in-Err-clause-fault g c = inl refl
-
-pub returns-then-is_none-clause-passed : goal.returns-then-is_none-clause-passed
-returns-then-is_none-clause-passed g c =
-    none_passed c.args.query.now.query c.args.tables.now c.args.join.now g.R.Rank.KEYS g.R.Rank.key (proof_view c.args.proof.now)
-    c.args.answers.now.last c.requires.last (c.is_none.ensures ∙ ap not c.if-is_none.true) c.if-not-proof.true
+pub returns-in-Err : goal.returns-in-Err
+returns-in-Err g c = record {
+  passed = tt;
+  fault = inl refl;
+}
 
 pub all_leave_after-requires-clause-bounded : goal.all_leave_after-requires-clause-bounded
 all_leave_after-requires-clause-bounded g c = record {

@@ -20,51 +20,47 @@ leaves_after-good-requires-clause-rows g c n q l h =
     (start_rows (raw_len c.args.tree.now.raw) c.args.join.now.count c.args.node c.args.places.now before.numbers.items
     before.starts.items c.requires.ready.node c.requires.within c.requires.prefixes n q (subst (λ xs. n < length xs) value l) h)
 
-pub returns-clause-prefixes : goal.returns-clause-prefixes
-returns-clause-prefixes g c =
-    IfOk-weaker c.leaves_after-good.result _ _ (λ good _. c.in_ok-next.ensures.next) c.leaves_after-good.ensures.passed
+pub returns : goal.returns
+returns g c = record {
+  prefixes =
+      IfOk-weaker c.leaves_after-good.result _ _ (λ good _. c.in_ok-next.ensures.next) c.leaves_after-good.ensures.passed;
+  passed =
+      let d = g.R.Rank.KEYS in
+      let key = g.R.Rank.key in
+      let pairs = c.with_node.new.taken in
+      IfOk-weaker c.leaves_after-good.result _ _
+      (λ good after is. record {
+        numbers = c.args.prefixes.now.numbers.items;
+        starts = c.args.prefixes.now.starts.items;
+        pairs = pairs;
+        beginnings = record { prefixes = c.requires.prefixes; taken = c.in_ok-next.ensures.taken };
+        passed = subst (λ xs. (n i : ℕ) (k : KeyOf d 16) → IsWay c.args.join.now c.args.tree.now d key c.args.node xs pairs n i k
+            → IsPast d (option_map key c.args.last.now) k) c.deref.ensures.value (after is);
+      }) c.leaves_after-good.ensures.passed;
+  missed =
+      let pairs = c.with_node.new.taken in
+      IfOk-weaker c.leaves_after-good.result _ _
+      (λ good before is.
+      let m = before is in
+      record {
+        at = c.args.node;
+        node = c.requires.ready.node;
+        numbers = c.args.prefixes.now.numbers.items;
+        starts = c.args.prefixes.now.starts.items;
+        pairs = pairs;
+        beginnings = record { prefixes = c.requires.prefixes; taken = c.in_ok-next.ensures.taken };
+        number = m.0;
+        row = m.1.0;
+        rank = m.1.1.0;
+        way = subst (λ xs. IsWay c.args.join.now c.args.tree.now g.R.Rank.KEYS g.R.Rank.key c.args.node xs pairs m.0 m.1.0
+            m.1.1.0) c.deref.ensures.value m.1.1.1;
+        early = m.1.1.2;
+      }) c.leaves_after-good.ensures.missed;
+}
 
-pub returns-clause-passed : goal.returns-clause-passed
-returns-clause-passed g c =
-    let d = g.R.Rank.KEYS in
-    let key = g.R.Rank.key in
-    let pairs = c.with_node.new.taken in
-    IfOk-weaker c.leaves_after-good.result _ _
-    (λ good after is. record {
-      numbers = c.args.prefixes.now.numbers.items;
-      starts = c.args.prefixes.now.starts.items;
-      pairs = pairs;
-      beginnings = record { prefixes = c.requires.prefixes; taken = c.in_ok-next.ensures.taken };
-      passed = subst (λ xs. (n i : ℕ) (k : KeyOf d 16) → IsWay c.args.join.now c.args.tree.now d key c.args.node xs pairs n i k
-          → IsPast d (option_map key c.args.last.now) k) c.deref.ensures.value (after is);
-    }) c.leaves_after-good.ensures.passed
-
-pub returns-clause-missed : goal.returns-clause-missed
-returns-clause-missed g c =
-    let pairs = c.with_node.new.taken in
-    IfOk-weaker c.leaves_after-good.result _ _
-    (λ good before is.
-    let m = before is in
-    record {
-      at = c.args.node;
-      node = c.requires.ready.node;
-      numbers = c.args.prefixes.now.numbers.items;
-      starts = c.args.prefixes.now.starts.items;
-      pairs = pairs;
-      beginnings = record { prefixes = c.requires.prefixes; taken = c.in_ok-next.ensures.taken };
-      number = m.0;
-      row = m.1.0;
-      rank = m.1.1.0;
-      way = subst (λ xs. IsWay c.args.join.now c.args.tree.now g.R.Rank.KEYS g.R.Rank.key c.args.node xs pairs m.0 m.1.0
-          m.1.1.0) c.deref.ensures.value m.1.1.1;
-      early = m.1.1.2;
-    }) c.leaves_after-good.ensures.missed
-
-pub returns-in_err-next-clause-prefixes : goal.returns-in_err-next-clause-prefixes
-returns-in_err-next-clause-prefixes g c = IfOk-from_err c.from_residual.result _ c.from_residual.ensures.0
-
-pub returns-in_err-next-clause-passed : goal.returns-in_err-next-clause-passed
-returns-in_err-next-clause-passed g c = IfOk-from_err c.from_residual.result _ c.from_residual.ensures.0
-
-pub returns-in_err-next-clause-missed : goal.returns-in_err-next-clause-missed
-returns-in_err-next-clause-missed g c = IfOk-from_err c.from_residual.result _ c.from_residual.ensures.0
+pub returns-in_err-next : goal.returns-in_err-next
+returns-in_err-next g c = record {
+  prefixes = IfOk-from_err c.from_residual.result _ c.from_residual.ensures.0;
+  passed = IfOk-from_err c.from_residual.result _ c.from_residual.ensures.0;
+  missed = IfOk-from_err c.from_residual.result _ c.from_residual.ensures.0;
+}

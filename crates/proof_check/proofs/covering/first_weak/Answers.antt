@@ -1,15 +1,11 @@
-use Rattle.std.proofs.Common.{length, refl, ap, arith, below_more}
+use Rattle.std.proofs.Common.{length, refl, ap, ◌∙◌, arith, below_more}
+use Rattle.proof_check.proofs.Counts.{below_count}
 use Rattle.proof_check.proofs.covering.first_weak.Goals as goal
 
 pub returns-then-has_weak_row : goal.returns-then-has_weak_row
 returns-then-has_weak_row g c query tables cert few bounded = (
-  omega (
-    arith,
-    c.loop-node-test.true,
-    c.nodes-node-end.ensures.count,
-    ap (λ z. length z.raw.shapes) c.tree.view_is,
-    bounded.rows.nodes,
-  ),
+  below_count _ _ _ c.loop-node-test.true
+      (c.nodes-node-end.ensures.count ∙ ap (λ z. length z.raw.shapes) c.tree.view_is ∙ bounded.rows.nodes),
   c.if-has_weak_row.ensures.weak refl query tables cert few bounded,
   c.loop-node.invariant query tables cert few bounded,
 )
@@ -24,7 +20,7 @@ loop-node-init g c query tables cert few bounded v l = absurd (omega (arith, l))
 
 pub has_weak_row-requires-clause-node : goal.has_weak_row-requires-clause-node
 has_weak_row-requires-clause-node g c =
-    omega (arith, c.loop-node-test.true, c.nodes-node-end.ensures.count, ap (λ z. length z.raw.shapes) c.tree.view_is)
+    below_count _ _ _ c.loop-node-test.true (c.nodes-node-end.ensures.count ∙ ap (λ z. length z.raw.shapes) c.tree.view_is)
 
 pub returns : goal.returns
 returns g c query tables cert few bounded v l =

@@ -4,51 +4,52 @@ use Rattle.tdp_core.specs.RawView.{raw_len, raw_number}
 use Rattle.proof_model.specs.QueryProblem.{problem_in}
 use Rattle.proof_model.specs.Valid.{IsCovered}
 use Rattle.proof_check.proofs.Coverings.{not-true}
+use Rattle.proof_check.proofs.Counts.{at_list, below_count}
 use Rattle.proof_check.proofs.covering.has_weak_row.Goals as goal
 
 pub len-row-end-requires : goal.len-row-end-requires
-len-row-end-requires g c = omega (arith, c.requires.node, ap (λ z. length z.raw.shapes) c.tree.view_is)
+len-row-end-requires g c = at_list _ _ _ c.requires.node (ap (λ z. length z.raw.shapes) c.tree.view_is)
 
-pub returns-then-not-is_covered-clause-weak : goal.returns-then-not-is_covered-clause-weak
-returns-then-not-is_covered-clause-weak g c same query tables cert few bounded =
-    let t = problem_in query tables c.args.join.now in
-    let v = c.args.node in
-    let i = c.loop-row.row in
-    let node : v < t.nodes = omega (arith, c.requires.node, bounded.rows.nodes) in
-    let inside : i < raw_len c.args.tree.now.raw v =
-    omega (arith, c.loop-row-test.true, c.len-row-end.ensures, ap (λ z. raw_len z.raw v) c.tree.view_is) in
-    let is = c.is_covered.ensures query tables cert few bounded in
-    let weak : IsCovered t cert v (raw_number c.args.tree.now.raw v i) → ⊥ =
-    λ p. not-true (sym c.if-not-is_covered.true ∙ is.1 p) in
-    (raw_number c.args.tree.now.raw v i, bounded.rows.is_row v i node inside, weak)
+pub returns-then-not-is_covered : goal.returns-then-not-is_covered
+returns-then-not-is_covered g c = record {
+  covered = λ same. absurd (false≢true (sym same));
+  weak = λ same query tables cert few bounded.
+      let t = problem_in query tables c.args.join.now in
+      let v = c.args.node in
+      let i = c.loop-row.row in
+      let node : v < t.nodes = below_count _ _ _ c.requires.node bounded.rows.nodes in
+      let inside : i < raw_len c.args.tree.now.raw v =
+      below_count _ _ _ c.loop-row-test.true (c.len-row-end.ensures ∙ ap (λ z. raw_len z.raw v) c.tree.view_is) in
+      let is = c.is_covered.ensures query tables cert few bounded in
+      let weak : IsCovered t cert v (raw_number c.args.tree.now.raw v i) → ⊥ =
+      λ p. not-true (sym c.if-not-is_covered.true ∙ is.1 p) in
+      (raw_number c.args.tree.now.raw v i, bounded.rows.is_row v i node inside, weak);
+}
 
 pub loop-row-preserved : goal.loop-row-preserved
 loop-row-preserved g c query tables cert few bounded =
     below_more _ _ (c.loop-row.invariant query tables cert few bounded)
     ((c.is_covered.ensures query tables cert few bounded).0 c.if-not-is_covered.false)
 
-pub returns-clause-covered : goal.returns-clause-covered
-returns-clause-covered g c same query tables cert few bounded row is_row =
-    let t = problem_in query tables c.args.join.now in
-    let v = c.args.node in
-    let node : v < t.nodes = omega (arith, c.requires.node, bounded.rows.nodes) in
-    let at = bounded.rows.every_row v row node is_row in
-    subst (λ r. IsCovered t cert v r) at.2
-    (c.loop-row.invariant query tables cert few bounded at.0
-    (omega (arith, at.1, c.loop-row-test.false, c.len-row-end.ensures, ap (λ z. raw_len z.raw v) c.tree.view_is)))
+pub returns : goal.returns
+returns g c = record {
+  covered = λ same query tables cert few bounded row is_row.
+      let t = problem_in query tables c.args.join.now in
+      let v = c.args.node in
+      let node : v < t.nodes = below_count _ _ _ c.requires.node bounded.rows.nodes in
+      let at = bounded.rows.every_row v row node is_row in
+      subst (λ r. IsCovered t cert v r) at.2
+      (c.loop-row.invariant query tables cert few bounded at.0
+      (omega (arith, at.1, c.loop-row-test.false, c.len-row-end.ensures, ap (λ z. raw_len z.raw v) c.tree.view_is)));
+  weak = λ same. absurd (false≢true same);
+}
 
 pub loop-row-init : goal.loop-row-init
 loop-row-init g c query tables cert few bounded i l = absurd (omega (arith, l))
 
 pub is_covered-requires-clause-row : goal.is_covered-requires-clause-row
 is_covered-requires-clause-row g c =
-    omega (arith, c.loop-row-test.true, c.len-row-end.ensures, ap (λ z. raw_len z.raw c.args.node) c.tree.view_is)
-
-pub returns-then-not-is_covered-clause-covered : goal.returns-then-not-is_covered-clause-covered
-returns-then-not-is_covered-clause-covered g c same = absurd (false≢true (sym same))
-
-pub returns-clause-weak : goal.returns-clause-weak
-returns-clause-weak g c same = absurd (false≢true same)
+    below_count _ _ _ c.loop-row-test.true (c.len-row-end.ensures ∙ ap (λ z. raw_len z.raw c.args.node) c.tree.view_is)
 
 pub is_covered-requires-clause-ordered : goal.is_covered-requires-clause-ordered
 is_covered-requires-clause-ordered g c = c.requires.ordered

@@ -4,6 +4,9 @@ use Rattle.proof_check.proofs.Coverings.{covered_free, covered_none, covered_som
 use Rattle.proof_check.proofs.Nodes.{nodes_few}
 use Rattle.proof_check.proofs.covering.is_covered.Goals as goal
 
+pub low_bound-requires-clause-ordered : goal.low_bound-requires-clause-ordered
+low_bound-requires-clause-ordered g c = c.requires.ordered
+
 pub low_bound-requires-clause-node : goal.low_bound-requires-clause-node
 low_bound-requires-clause-node g c =
     let b = c.requires.bounded in

@@ -13,6 +13,7 @@ use Rattle.proof_check.proofs.LowParts.{AreNamed, low_part, part_none, part_chil
 use Rattle.proof_check.proofs.LowParts.{named_found, named_more, low_fits}
 use Rattle.proof_check.proofs.Nodes.{all_nodes, parent_at, parents_first_lem, option_none}
 use Rattle.proof_check.proofs.covering.low_bound.Given.{Over}
+use Rattle.proof_check.proofs.Counts.{at_list, below_count, ended_from}
 use Rattle.proof_check.proofs.covering.low_bound.Goals as goal
 use Rattle.proof_check.proofs.covering.low_bound.Goals.{At-loop-child, In-loop-child, then-join-child+in_ok-bound, else-join-child}
 
@@ -23,13 +24,13 @@ module _ (g : Over) where
   node_in : (c : At-loop-child g) (query : Query) (tables : List Table) → c.args.node < (problem_in query tables c.args.join.now).nodes
   node_in c query tables =
       let long : length c.args.join.now.atom ≡ 16 = omega arith in
-      omega (arith, all_nodes query tables c.args.join.now c.requires.ordered long, c.requires.node)
+      at_list _ _ _ c.requires.node (all_nodes query tables c.args.join.now c.requires.ordered long)
 
   -- and so is the child
   child_in : (c : In-loop-child g) (query : Query) (tables : List Table) → length c.args.tree.now.raw.shapes ≡ (problem_in query tables c.args.join.now).nodes
       → c.loop-child.child < (problem_in query tables c.args.join.now).nodes
   child_in c query tables all =
-      omega (arith, c.loop-child-test.true, c.nodes-nodes.ensures.count, ap (λ z. length z.raw.shapes) c.tree.view_is, all)
+      below_count _ _ _ c.loop-child-test.true (c.nodes-nodes.ensures.count ∙ ap (λ z. length z.raw.shapes) c.tree.view_is ∙ all)
 
   -- whose parent the tree names
   parent_is : (c : In-loop-child g) (query : Query) (tables : List Table) → c.loop-child.child < (problem_in query tables c.args.join.now).nodes
@@ -52,6 +53,15 @@ loop-child-init g c =
       named = λ q a b u. absurd (omega (arith, a, b));
       sum = rank ∙ sym (part_none d key c.args.tree.now up v i) ∙ ap (low_part d key c.args.tree.now up v i) (sym zero);
     }
+
+pub row-low-requires-clause-row : goal.row-low-requires-clause-row
+row-low-requires-clause-row g c = subst (λ z. c.args.row < raw_len z.raw c.args.node) (sym c.tree.view_is) c.requires.row
+
+pub named_rank-requires-clause-node : goal.named_rank-requires-clause-node
+named_rank-requires-clause-node g c =
+    let b = c.requires.bounded in
+    let point = goal.at.named_rank-requires-clause-node g c in
+    at_list _ _ _ (child_in g point.In-loop-child b.query b.tables b.bounded.rows.nodes) b.bounded.each_node
 
 pub named_rank-requires-clause-above : goal.named_rank-requires-clause-above
 named_rank-requires-clause-above g c =
@@ -177,15 +187,8 @@ returns g c query tables cert few bounded =
     let node = node_in g (goal.at.returns g c).At-loop-child query tables in
     let end = c.loop-child.auto.child-end in
     let done : c.loop-child.child ≡ t.nodes =
-    omega (
-      arith,
-      end,
-      c.loop-child-test.false,
-      node,
-      c.nodes-nodes.ensures.count,
-      ap (λ z. length z.raw.shapes) c.tree.view_is,
-      bounded.rows.nodes,
-    ) in
+    ended_from _ v _ _ end c.loop-child-test.false node
+    (c.nodes-nodes.ensures.count ∙ ap (λ z. length z.raw.shapes) c.tree.view_is ∙ bounded.rows.nodes) in
     let up = slice_index (take join.count join.parent) in
     low_some query tables join d key cert tree few bounded v i node c.requires.row (key c.loop-child.low)
     (subst (λ m. AreNamed d key tree up v i (m - suc v)) done c.loop-child.invariant.named)

@@ -1,14 +1,22 @@
 use Rattle.std.proofs.Common.{◌≡◌, None, Some, map, option_map, slice_index_or, sym, ap, subst, ◌∙◌, inl, inr, arith}
 use Rattle.std.proofs.lemmas.Bool.{cases_lt, false≢true}
-use Rattle.std.proofs.lemmas.List.{get_or_default}
+use Rattle.std.proofs.lemmas.List.{get_or_default, length-map}
 use Rattle.proof_check.specs.Levels.{IsFirstPast}
+use Rattle.proof_check.proofs.Counts.{at_list}
 use Rattle.proof_check.proofs.leaving.branches_leave_after.Goals as goal
 
 pub loop-number-init : goal.loop-number-init
 loop-number-init g c n b l e = absurd (omega (arith, l))
 
-pub branch_leaves_after-requires : goal.branch_leaves_after-requires
-branch_leaves_after-requires g c b e =
+pub branch_leaves_after-requires-clause-group : goal.branch_leaves_after-requires-clause-group
+branch_leaves_after-requires-clause-group g c b e =
+    let fits = c.requires c.loop-number.number b c.loop-number-test.true
+    (get_or_default c.args.branches.now c.loop-number.number None c.index-branches-number.result c.loop-number-test.true
+    ∙ sym c.index-branches-number.is ∙ e) in
+    at_list _ _ _ fits.0 (sym (length-map c.args.lists.now (λ v. v.items)))
+
+pub branch_leaves_after-requires-clause-fits : goal.branch_leaves_after-requires-clause-fits
+branch_leaves_after-requires-clause-fits g c b e =
     c.requires c.loop-number.number b c.loop-number-test.true
     (get_or_default c.args.branches.now c.loop-number.number None c.index-branches-number.result c.loop-number-test.true
     ∙ sym c.index-branches-number.is ∙ e)
@@ -26,26 +34,26 @@ loop-number-preserved g c n b l e = elim (cases_lt n c.loop-number.number) [
       (map (λ v. v.items) c.args.lists.now)) (sym at) (c.branch_leaves_after.ensures.passed c.if-not-branch_leaves_after.false b is)
 ]
 
-pub returns-clause-passed : goal.returns-clause-passed
-returns-clause-passed g c _ n b l e =
-    let end = c.loop-number-test.false in
-    c.loop-number.invariant n b (omega (arith, l, end)) e
+pub returns : goal.returns
+returns g c = record {
+  passed = λ _ n b l e.
+      let end = c.loop-number-test.false in
+      c.loop-number.invariant n b (omega (arith, l, end)) e;
+  missed = λ bad. absurd (false≢true (sym bad));
+}
 
-pub returns-clause-missed : goal.returns-clause-missed
-returns-clause-missed g c bad = absurd (false≢true (sym bad))
-
-pub returns-then-not-branch_leaves_after-clause-passed : goal.returns-then-not-branch_leaves_after-clause-passed
-returns-then-not-branch_leaves_after-clause-passed g c good = absurd (false≢true good)
-
-pub returns-then-not-branch_leaves_after-clause-missed : goal.returns-then-not-branch_leaves_after-clause-missed
-returns-then-not-branch_leaves_after-clause-missed g c _ =
-    let m = c.branch_leaves_after.ensures.missed c.if-not-branch_leaves_after.true in (
-      c.loop-number.number,
-      (
-        m.0,
-        c.loop-number-test.true,
-        get_or_default c.args.branches.now c.loop-number.number None c.index-branches-number.result c.loop-number-test.true
-            ∙ sym c.index-branches-number.is ∙ m.1,
-        m.2,
-      ),
-    )
+pub returns-then-not-branch_leaves_after : goal.returns-then-not-branch_leaves_after
+returns-then-not-branch_leaves_after g c = record {
+  passed = λ good. absurd (false≢true good);
+  missed = λ _.
+      let m = c.branch_leaves_after.ensures.missed c.if-not-branch_leaves_after.true in (
+        c.loop-number.number,
+        (
+          m.0,
+          c.loop-number-test.true,
+          get_or_default c.args.branches.now c.loop-number.number None c.index-branches-number.result c.loop-number-test.true
+              ∙ sym c.index-branches-number.is ∙ m.1,
+          m.2,
+        ),
+      );
+}

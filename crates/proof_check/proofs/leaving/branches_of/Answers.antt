@@ -39,14 +39,18 @@ loop-n-preserved g c =
 pub branch_of-branch-requires-clause-ready : goal.branch_of-branch-requires-clause-ready
 branch_of-branch-requires-clause-ready g c = c.requires.ready
 
-pub returns-in_err-push-clause-count : goal.returns-in_err-push-clause-count
-returns-in_err-push-clause-count g c = IfOk-from_err c.from_residual.result _ c.from_residual.ensures.0
+pub returns-in_err-push : goal.returns-in_err-push
+returns-in_err-push g c = record {
+  count = IfOk-from_err c.from_residual.result _ c.from_residual.ensures.0;
+  each = IfOk-from_err c.from_residual.result _ c.from_residual.ensures.0;
+}
 
-pub returns-in_err-push-clause-each : goal.returns-in_err-push-clause-each
-returns-in_err-push-clause-each g c = IfOk-from_err c.from_residual.result _ c.from_residual.ensures.0
-
-pub returns-clause-each : goal.returns-clause-each
-returns-clause-each g c = c.loop-n.invariant.each
+pub returns : goal.returns
+returns g c = record {
+  count =
+      let v = c.loop-n.branches in omega (arith, c.loop-n.invariant.count, c.loop-n-test.false, c.loop-n.auto.n-end);
+  each = c.loop-n.invariant.each;
+}
 
 pub loop-n-init : goal.loop-n-init
 loop-n-init g c =
@@ -55,7 +59,3 @@ loop-n-init g c =
 
 pub branch_of-branch-requires-clause-rows : goal.branch_of-branch-requires-clause-rows
 branch_of-branch-requires-clause-rows g c q h = c.requires.rows c.loop-n.n q c.loop-n-test.true h
-
-pub returns-clause-count : goal.returns-clause-count
-returns-clause-count g c =
-    let v = c.loop-n.branches in omega (arith, c.loop-n.invariant.count, c.loop-n-test.false, c.loop-n.auto.n-end)

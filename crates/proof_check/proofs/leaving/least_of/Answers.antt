@@ -56,8 +56,11 @@ loop-n-preserved g c =
           }
     ]
 
-pub returns-clause-least : goal.returns-clause-least
-returns-clause-least g c =
-    let end = c.loop-n.auto.n-end in
-    let done : c.loop-n.n ≡ length c.args.branches.now = let f = c.loop-n-test.false in omega (arith, end, f) in
-    subst (λ m. AreLeast g.R.Rank.KEYS g.R.Rank.key m c.args.branches.now c.loop-n.least.items) done c.loop-n.invariant.least
+pub returns : goal.returns
+returns g c = record {
+  count = c.loop-n.least.ok.0 ∙ c.loop-n.invariant.count;
+  least =
+      let end = c.loop-n.auto.n-end in
+      let done : c.loop-n.n ≡ length c.args.branches.now = let f = c.loop-n-test.false in omega (arith, end, f) in
+      subst (λ m. AreLeast g.R.Rank.KEYS g.R.Rank.key m c.args.branches.now c.loop-n.least.items) done c.loop-n.invariant.least;
+}

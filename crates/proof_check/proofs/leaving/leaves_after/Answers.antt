@@ -49,59 +49,59 @@ branches_leave_after-requires g c n b l e =
     subst (λ xs. FitOffers d key b (map (λ v. v.items) xs)) (sym c.deref-3.ensures.value)
     (offers_fit join tree d key p c.requires.ready (option_map key c.args.last.now) b lists its (can g at.In_ok-branches n b l' e'))
 
-pub returns-clause-passed : goal.returns-clause-passed
-returns-clause-passed g c is =
-    let d = g.R.Rank.KEYS in
-    let key = g.R.Rank.key in
-    let join = c.args.join.now in
-    let tree = c.args.tree.now in
-    let p = c.args.node in
-    let at = goal.at.returns-clause-passed g c in
-    let branches = c.in_ok-branches.branches.items in
-    let lists = map (λ v. v.items) c.in_ok-lists.lists.items in
-    let pairs = c.args.taken.now in
-    let last = option_map key c.args.last.now in
-    way_past join tree d key p c.args.starts.now branches c.in_ok-branches.ensures.each pairs last (count_is g at.In_ok-branches)
-    (λ n b l e.
-    let its = c.in_ok-lists.ensures n b (subst (λ xs. n < length xs) (sym c.deref.ensures.value) l)
-    (subst (λ xs. slice_index_or xs n None ≡ Some b) (sym c.deref.ensures.value) e) in
-    left_after join tree d key p c.requires.ready last b lists its pairs n
-    (subst (λ xs. IsFirstPast d key pairs n last b (map (λ v. v.items) xs)) c.deref-3.ensures.value
-    (c.branches_leave_after.ensures.passed is n b (subst (λ xs. n < length xs) (sym c.deref-2.ensures.value) l)
-    (subst (λ xs. slice_index_or xs n None ≡ Some b) (sym c.deref-2.ensures.value) e))))
+pub returns : goal.returns
+returns g c = record {
+  passed = λ is.
+      let d = g.R.Rank.KEYS in
+      let key = g.R.Rank.key in
+      let join = c.args.join.now in
+      let tree = c.args.tree.now in
+      let p = c.args.node in
+      let at = goal.at.returns g c in
+      let branches = c.in_ok-branches.branches.items in
+      let lists = map (λ v. v.items) c.in_ok-lists.lists.items in
+      let pairs = c.args.taken.now in
+      let last = option_map key c.args.last.now in
+      way_past join tree d key p c.args.starts.now branches c.in_ok-branches.ensures.each pairs last (count_is g at.In_ok-branches)
+      (λ n b l e.
+      let its = c.in_ok-lists.ensures n b (subst (λ xs. n < length xs) (sym c.deref.ensures.value) l)
+      (subst (λ xs. slice_index_or xs n None ≡ Some b) (sym c.deref.ensures.value) e) in
+      left_after join tree d key p c.requires.ready last b lists its pairs n
+      (subst (λ xs. IsFirstPast d key pairs n last b (map (λ v. v.items) xs)) c.deref-3.ensures.value
+      (c.branches_leave_after.ensures.passed is n b (subst (λ xs. n < length xs) (sym c.deref-2.ensures.value) l)
+      (subst (λ xs. slice_index_or xs n None ≡ Some b) (sym c.deref-2.ensures.value) e))));
+  missed = λ is.
+      let d = g.R.Rank.KEYS in
+      let key = g.R.Rank.key in
+      let join = c.args.join.now in
+      let tree = c.args.tree.now in
+      let p = c.args.node in
+      let at = goal.at.returns g c in
+      let branches = c.in_ok-branches.branches.items in
+      let lists = map (λ v. v.items) c.in_ok-lists.lists.items in
+      let pairs = c.args.taken.now in
+      let last = option_map key c.args.last.now in
+      let m = c.branches_leave_after.ensures.missed is in
+      let n = m.0 in
+      let b : Branch g.row.R.Denot = m.1.0 in
+      let l = subst (λ xs. n < length xs) c.deref-2.ensures.value m.1.1 in
+      let e = subst (λ xs. slice_index_or xs n None ≡ Some b) c.deref-2.ensures.value m.1.2 in
+      let its = c.in_ok-lists.ensures n b (subst (λ xs. n < length xs) (sym c.deref.ensures.value) l)
+      (subst (λ xs. slice_index_or xs n None ≡ Some b) (sym c.deref.ensures.value) e) in
+      way_from join tree d key p c.args.starts.now branches c.in_ok-branches.ensures.each pairs last (count_is g at.In_ok-branches)
+      n b l e
+      (left_before join tree d key p c.requires.ready last b lists its pairs n
+      (subst (λ xs. IsFirstEarly d key pairs n last b (map (λ v. v.items) xs)) c.deref-3.ensures.value m.1.3));
+}
 
-pub returns-clause-missed : goal.returns-clause-missed
-returns-clause-missed g c is =
-    let d = g.R.Rank.KEYS in
-    let key = g.R.Rank.key in
-    let join = c.args.join.now in
-    let tree = c.args.tree.now in
-    let p = c.args.node in
-    let at = goal.at.returns-clause-missed g c in
-    let branches = c.in_ok-branches.branches.items in
-    let lists = map (λ v. v.items) c.in_ok-lists.lists.items in
-    let pairs = c.args.taken.now in
-    let last = option_map key c.args.last.now in
-    let m = c.branches_leave_after.ensures.missed is in
-    let n = m.0 in
-    let b : Branch g.row.R.Denot = m.1.0 in
-    let l = subst (λ xs. n < length xs) c.deref-2.ensures.value m.1.1 in
-    let e = subst (λ xs. slice_index_or xs n None ≡ Some b) c.deref-2.ensures.value m.1.2 in
-    let its = c.in_ok-lists.ensures n b (subst (λ xs. n < length xs) (sym c.deref.ensures.value) l)
-    (subst (λ xs. slice_index_or xs n None ≡ Some b) (sym c.deref.ensures.value) e) in
-    way_from join tree d key p c.args.starts.now branches c.in_ok-branches.ensures.each pairs last (count_is g at.In_ok-branches)
-    n b l e
-    (left_before join tree d key p c.requires.ready last b lists its pairs n
-    (subst (λ xs. IsFirstEarly d key pairs n last b (map (λ v. v.items) xs)) c.deref-3.ensures.value m.1.3))
+pub returns-in_err-branches : goal.returns-in_err-branches
+returns-in_err-branches g c = record {
+  passed = IfOk-from_err c.from_residual.result _ c.from_residual.ensures.0;
+  missed = IfOk-from_err c.from_residual.result _ c.from_residual.ensures.0;
+}
 
-pub returns-in_err-branches-clause-passed : goal.returns-in_err-branches-clause-passed
-returns-in_err-branches-clause-passed g c = IfOk-from_err c.from_residual.result _ c.from_residual.ensures.0
-
-pub returns-in_err-branches-clause-missed : goal.returns-in_err-branches-clause-missed
-returns-in_err-branches-clause-missed g c = IfOk-from_err c.from_residual.result _ c.from_residual.ensures.0
-
-pub returns-in_err-lists-clause-passed : goal.returns-in_err-lists-clause-passed
-returns-in_err-lists-clause-passed g c = IfOk-from_err c.from_residual-in_err-lists.result _ c.from_residual-in_err-lists.ensures.0
-
-pub returns-in_err-lists-clause-missed : goal.returns-in_err-lists-clause-missed
-returns-in_err-lists-clause-missed g c = IfOk-from_err c.from_residual-in_err-lists.result _ c.from_residual-in_err-lists.ensures.0
+pub returns-in_err-lists : goal.returns-in_err-lists
+returns-in_err-lists g c = record {
+  passed = IfOk-from_err c.from_residual-in_err-lists.result _ c.from_residual-in_err-lists.ensures.0;
+  missed = IfOk-from_err c.from_residual-in_err-lists.result _ c.from_residual-in_err-lists.ensures.0;
+}

@@ -10,11 +10,11 @@ loop-group-init g c = record {
   none = λ k. ap (λ xs. get_or xs k None) c.new-least.ensures.items ∙ get_or_past [] k None (omega arith);
 }
 
-pub returns-in_err-push-clause-count : goal.returns-in_err-push-clause-count
-returns-in_err-push-clause-count g c = IfOk-from_err c.from_residual.result _ c.from_residual.ensures.0
-
-pub returns-in_err-push-clause-none : goal.returns-in_err-push-clause-none
-returns-in_err-push-clause-none g c = IfOk-from_err c.from_residual.result _ c.from_residual.ensures.0
+pub returns-in_err-push : goal.returns-in_err-push
+returns-in_err-push g c = record {
+  count = IfOk-from_err c.from_residual.result _ c.from_residual.ensures.0;
+  none = IfOk-from_err c.from_residual.result _ c.from_residual.ensures.0;
+}
 
 pub loop-group-preserved : goal.loop-group-preserved
 loop-group-preserved g c = record {
@@ -22,8 +22,8 @@ loop-group-preserved g c = record {
   none = λ k. ap (λ xs. get_or xs k None) c.in_ok-push.ensures.items ∙ nothing_more c.loop-group.least.items None c.loop-group.invariant.none k;
 }
 
-pub returns-clause-count : goal.returns-clause-count
-returns-clause-count g c = let n = c.loop-group.invariant.count in omega (arith, n)
-
-pub returns-clause-none : goal.returns-clause-none
-returns-clause-none g c = c.loop-group.invariant.none
+pub returns : goal.returns
+returns g c = record {
+  count = let n = c.loop-group.invariant.count in omega (arith, n);
+  none = c.loop-group.invariant.none;
+}

@@ -3,24 +3,26 @@ use Rattle.std.proofs.lemmas.Result.{IfOk-from_err}
 use Rattle.proof_check.proofs.Nothing.{numbers_more}
 use Rattle.proof_check.proofs.leaving.numbers_of.Goals as goal
 
-pub returns-clause-count : goal.returns-clause-count
-returns-clause-count c =
-    let end = c.loop-i.auto.i-end in
-    let f = c.loop-i-test.false in
-    let n = c.loop-i.invariant.count in
-    omega (arith, end, f, n)
+pub returns : goal.returns
+returns c = record {
+  few = let s = c.in-Ok.ensures.0 in omega (arith, s);
+  count =
+      let end = c.loop-i.auto.i-end in
+      let f = c.loop-i-test.false in
+      let n = c.loop-i.invariant.count in
+      omega (arith, end, f, n);
+  each = λ k l.
+      let end = c.loop-i.auto.i-end in
+      let f = c.loop-i-test.false in
+      c.loop-i.invariant.each k (omega (arith, end, f, l));
+}
 
-pub returns-clause-each : goal.returns-clause-each
-returns-clause-each c k l =
-    let end = c.loop-i.auto.i-end in
-    let f = c.loop-i-test.false in
-    c.loop-i.invariant.each k (omega (arith, end, f, l))
-
-pub returns-in_err-push-clause-count : goal.returns-in_err-push-clause-count
-returns-in_err-push-clause-count c = IfOk-from_err c.from_residual.result _ c.from_residual.ensures.0
-
-pub returns-in_err-push-clause-each : goal.returns-in_err-push-clause-each
-returns-in_err-push-clause-each c = IfOk-from_err c.from_residual.result _ c.from_residual.ensures.0
+pub returns-in_err-push : goal.returns-in_err-push
+returns-in_err-push c = record {
+  few = IfOk-from_err c.from_residual.result _ c.from_residual.ensures.0;
+  count = IfOk-from_err c.from_residual.result _ c.from_residual.ensures.0;
+  each = IfOk-from_err c.from_residual.result _ c.from_residual.ensures.0;
+}
 
 pub loop-i-init : goal.loop-i-init
 loop-i-init c = record { count = ap length c.new-numbers.ensures.items; each = λ k l. absurd (omega (arith, l)) }
@@ -38,17 +40,9 @@ loop-i-preserved c =
           c.in_ok-push.ensures.items here c.loop-i.invariant.count c.loop-i.invariant.each;
     }
 
-pub returns-clause-few : goal.returns-clause-few
-returns-clause-few c = let s = c.in-Ok.ensures.0 in omega (arith, s)
-
-pub returns-in_err-push-clause-few : goal.returns-in_err-push-clause-few
-returns-in_err-push-clause-few c = IfOk-from_err c.from_residual.result _ c.from_residual.ensures.0
-
-pub returns-in_default-clause-few : goal.returns-in_default-clause-few
-returns-in_default-clause-few c = tt
-
-pub returns-in_default-clause-count : goal.returns-in_default-clause-count
-returns-in_default-clause-count c = tt
-
-pub returns-in_default-clause-each : goal.returns-in_default-clause-each
-returns-in_default-clause-each c = tt
+pub returns-in_default : goal.returns-in_default
+returns-in_default c = record {
+  few = tt;
+  count = tt;
+  each = tt;
+}

@@ -2,16 +2,20 @@ use Rattle.std.proofs.Common.{◌+◌, ◌∷◌, [], length, map, get_or, ap, �
 use Rattle.std.proofs.lemmas.List.{map-append}
 use Rattle.std.proofs.lemmas.Result.{IfOk-from_err}
 use Rattle.proof_check.proofs.Pushed.{empty_more}
+use Rattle.proof_check.proofs.Counts.{ended}
 use Rattle.proof_check.proofs.lines.no_bounds.Goals as goal
 
-pub returns-in_err-push-clause-count : goal.returns-in_err-push-clause-count
-returns-in_err-push-clause-count g c = IfOk-from_err c.from_residual.result _ c.from_residual.ensures.0
+pub returns-in_err-push : goal.returns-in_err-push
+returns-in_err-push g c = record {
+  count = IfOk-from_err c.from_residual.result _ c.from_residual.ensures.0;
+  empty = IfOk-from_err c.from_residual.result _ c.from_residual.ensures.0;
+}
 
-pub returns-in_err-push-clause-empty : goal.returns-in_err-push-clause-empty
-returns-in_err-push-clause-empty g c = IfOk-from_err c.from_residual.result _ c.from_residual.ensures.0
-
-pub returns-clause-empty : goal.returns-clause-empty
-returns-clause-empty g c = c.loop-node.invariant.empty
+pub returns : goal.returns
+returns g c = record {
+  count = c.loop-node.invariant.count ∙ ended _ _ c.loop-node.auto._node-end c.loop-node-test.false;
+  empty = c.loop-node.invariant.empty;
+}
 
 pub loop-node-preserved : goal.loop-node-preserved
 loop-node-preserved g c =

@@ -1,4 +1,4 @@
-use Rattle.std.proofs.Common.{◌≡◌, ◌+◌, ◌-◌, ◌<◌, ◌++◌, ◌∷◌, [], ℕ, suc, length, map, get_or, sym, ap, subst, ◌∙◌, inr, arith}
+use Rattle.std.proofs.Common.{◌≡◌, ◌+◌, ◌-◌, ◌<◌, ◌++◌, ◌∷◌, [], ℕ, suc, length, map, get_or, refl, sym, ap, subst, ◌∙◌, inl, inr, arith}
 use Rattle.std.proofs.Math.ListN.{length-set, set}
 use Rattle.std.proofs.lemmas.List.{length-map}
 use Rattle.proof_text.specs.Certificate.{BoundLine}
@@ -11,6 +11,8 @@ use Rattle.proof_check.specs.Places.{ArePlacesOf}
 use Rattle.proof_check.proofs.LineFaults.{first_bad, line_is, line_number, lines_placed, none_read}
 use Rattle.proof_check.proofs.Pushed.{part_more}
 use Rattle.std.proofs.lemmas.Result.{IfOk-from_err}
+use Rattle.proof_check.proofs.Tellings.{told_err}
+use Rattle.proof_check.proofs.Counts.{at_list, ended, line_below, line_index, line_pred, line_some, line_suc, line_within}
 use Rattle.proof_check.proofs.lines.placed_lines.Goals as goal
 
 pub loop-bound-init : goal.loop-bound-init
@@ -26,36 +28,40 @@ loop-bound-init g c = record {
   };
 }
 
-pub returns-in_default-clause-fault : goal.returns-in_default-clause-fault
-returns-in_default-clause-fault g c = λ query tables join few has.
-    let items = c.args.proof.now.bounds.items in
-    let none_at : BoundLine = record { line = 0; node = 0; rows = [] } in
-    let value = c.deref-bound-items.ensures.value in
-    let inside = subst (λ xs. c.loop-bound.bound-index < length xs) value c.loop-bound-test.true in
-    let is = subst (λ xs. c.bound-item.result ≡ get_or xs c.loop-bound.bound-index c.bound-item.result) value c.bound-item.is in
-    let p = c.loop-bound.invariant.placed query tables join few has in
-    inr (
-      c.loop-bound.bound-index,
-      ap (λ x. fault.BadBound x.line) (sym (line_is items c.loop-bound.bound-index c.bound-item.result none_at inside is)),
-      first_bad (problem_in query tables join) (proof_view c.args.proof.now) query.limit c.loop-bound.bound-index p.solutions
-          (none_read query tables join c.args.proof.now c.loop-bound.bound-index c.bound-item.result inside is
-          (c.in_default.ensures query tables join has)),
-    )
+pub returns-in_default : goal.returns-in_default
+returns-in_default g c = record {
+  placed = tt;
+  each_node = tt;
+  fault = λ query tables join few has.
+      let items = c.args.proof.now.bounds.items in
+      let none_at : BoundLine = record { line = 0; node = 0; rows = [] } in
+      let value = c.deref-bound-items.ensures.value in
+      let inside = subst (λ xs. c.loop-bound.bound-index < length xs) value c.loop-bound-test.true in
+      let is = subst (λ xs. c.bound-item.result ≡ get_or xs c.loop-bound.bound-index c.bound-item.result) value c.bound-item.is in
+      let p = c.loop-bound.invariant.placed query tables join few has in
+      inr (
+        c.loop-bound.bound-index,
+        ap (λ x. fault.BadBound x.line) (sym (line_is items c.loop-bound.bound-index c.bound-item.result none_at inside is)),
+        first_bad (problem_in query tables join) (proof_view c.args.proof.now) query.limit c.loop-bound.bound-index p.solutions
+            (none_read query tables join c.args.proof.now c.loop-bound.bound-index c.bound-item.result inside is
+            (c.in_default.ensures query tables join has)),
+      );
+}
 
 pub overflow_sub-node : goal.overflow_sub-node
 overflow_sub-node g c =
     let s = c.in-Some.ensures c.requires.query c.requires.tables c.requires.join c.requires.tree in
-    omega (arith, s.2)
+    line_some c.bound-item.result.node s.0 s.2
 
 pub rank_of_places-rank-requires-clause-node : goal.rank_of_places-rank-requires-clause-node
 rank_of_places-rank-requires-clause-node g c =
     let s = c.in-Some.ensures c.requires.query c.requires.tables c.requires.join c.requires.tree in
-    omega (arith, s.1, s.2)
+    line_below c.bound-item.result.node s.0 s.2 (length c.args.raw.now.shapes) s.1
 
 pub rank_of_places-rank-requires-clause-solution : goal.rank_of_places-rank-requires-clause-solution
 rank_of_places-rank-requires-clause-solution g c =
     let s = c.in-Some.ensures c.requires.query c.requires.tables c.requires.join c.requires.tree in
-    let node : s.0 ≡ c.bound-item.result.node - 1 = omega (arith, s.2) in
+    let node = line_pred c.bound-item.result.node s.0 s.2 in
     record {
       query = c.requires.query;
       tables = c.requires.tables;
@@ -69,12 +75,13 @@ rank_of_places-rank-requires-clause-solution g c =
 pub bounds-places-node : goal.bounds-places-node
 bounds-places-node g c =
     let s = c.in-Some.ensures c.requires.query c.requires.tables c.requires.join c.requires.tree in
-    omega (arith, s.1, s.2, c.nodes.ensures.formed.shaped.few_nodes)
+    line_within c.bound-item.result.node s.0 s.2 (length c.args.raw.now.shapes) 16 s.1 c.nodes.ensures.formed.shaped.few_nodes
 
 pub index_mut-of_node-requires : goal.index_mut-of_node-requires
 index_mut-of_node-requires g c =
     let s = c.in-Some.ensures c.requires.query c.requires.tables c.requires.join c.requires.tree in
-    omega (arith, s.1, s.2, c.loop-bound.invariant.each_node, c.loop-bound.bounds.ok.0)
+    line_index c.bound-item.result.node s.0 s.2 (length c.args.raw.now.shapes) (length c.loop-bound.bounds.items) c.loop-bound.bounds.len
+    s.1 c.loop-bound.invariant.each_node c.loop-bound.bounds.ok.0
 
 pub loop-bound-preserved : goal.loop-bound-preserved
 loop-bound-preserved g c =
@@ -82,7 +89,9 @@ loop-bound-preserved g c =
     let bounds = c.loop-bound.bounds.items in
     let old = c.index_mut-of_node.result.now in
     let s0 = c.in-Some.ensures c.requires.query c.requires.tables c.requires.join c.requires.tree in
-    let room : c.bound-item.result.node - 1 < length bounds = omega (arith, s0.1, s0.2, c.loop-bound.invariant.each_node) in
+    let room : c.bound-item.result.node - 1 < length bounds =
+    at_list (c.bound-item.result.node - 1) (length c.args.raw.now.shapes) (length bounds)
+    (line_below c.bound-item.result.node s0.0 s0.2 (length c.args.raw.now.shapes) s0.1) c.loop-bound.invariant.each_node in
     let ranks = part_more (λ b. b.ranks.items) bounds (c.bound-item.result.node - 1) old
     (record old { ranks = c.push-in-loop-bound.new.self }) c.rank_of_places-rank.result room c.index_mut-of_node.ensures.value
     c.in_ok-push-2.ensures.items in
@@ -98,17 +107,18 @@ loop-bound-preserved g c =
           let inside = subst (λ xs. c.loop-bound.bound-index < length xs) value c.loop-bound-test.true in
           let is = subst (λ xs. c.bound-item.result ≡ get_or xs c.loop-bound.bound-index c.bound-item.result) value c.bound-item.is in
           let s = c.in-Some.ensures query tables join has in
-          let same : s.0 ≡ c.bound-item.result.node - 1 = omega (arith, s.2) in
+          let same = line_pred c.bound-item.result.node s.0 s.2 in
           let read = line_is items c.loop-bound.bound-index c.bound-item.result none_at inside is in
           let number = line_number items c.loop-bound.bound-index c.bound-item.result none_at inside is in
           let here : line_node (proof_view c.args.proof.now) c.loop-bound.bound-index ≡ suc (c.bound-item.result.node - 1) =
-          omega (arith, number, s.2) in
+          number ∙ line_suc c.bound-item.result.node s.0 s.2 in
           let placed = subst (λ rows. ArePlacesOf query tables join c.args.raw.now (c.bound-item.result.node - 1) rows c.in-Some.places)
           (sym (ap (λ x. x.rows) read))
           (subst (λ v. ArePlacesOf query tables join c.args.raw.now v c.bound-item.result.rows.items c.in-Some.places) same s.3) in
           let rank = c.rank_of_places-rank.ensures query tables join
           (bound_at (problem_in query tables join) (proof_view c.args.proof.now) c.loop-bound.bound-index).rows few has placed in
-          let low : c.bound-item.result.node - 1 < length c.args.raw.now.shapes = omega (arith, s.1, same) in
+          let low : c.bound-item.result.node - 1 < length c.args.raw.now.shapes =
+          line_below c.bound-item.result.node s.0 s.2 (length c.args.raw.now.shapes) s.1 in
           let p = c.loop-bound.invariant.placed query tables join few has in
           subst (λ tops. ArePlacedLines query tables join g.R.Rank.KEYS g.R.Rank.key c.args.raw.now (proof_view c.args.proof.now)
           (c.loop-bound.bound-index + 1) tops
@@ -122,35 +132,40 @@ loop-bound-preserved g c =
           c.rank_of_places-rank.result c.in-Some.places low here placed rank));
     }
 
-pub returns-clause-placed : goal.returns-clause-placed
-returns-clause-placed g c = λ query tables join few has.
-    let long = ap length c.deref-bound-items.ensures.value in
-    let end : c.loop-bound.bound-index ≡ length c.args.proof.now.bounds.items =
-    omega (arith, c.loop-bound-test.false, c.loop-bound.auto.bound-index-end, long) in
-    subst (λ k. ArePlacedLines query tables join g.R.Rank.KEYS g.R.Rank.key c.args.raw.now (proof_view c.args.proof.now) k
-    c.loop-bound.tops.items (map (λ b. b.ranks.items) c.loop-bound.bounds.items)) end
-    (c.loop-bound.invariant.placed query tables join few has)
+pub returns : goal.returns
+returns g c = record {
+  placed = λ query tables join few has.
+      let long = ap length c.deref-bound-items.ensures.value in
+      let end : c.loop-bound.bound-index ≡ length c.args.proof.now.bounds.items =
+      ended _ _ c.loop-bound.auto.bound-index-end c.loop-bound-test.false ∙ long in
+      subst (λ k. ArePlacedLines query tables join g.R.Rank.KEYS g.R.Rank.key c.args.raw.now (proof_view c.args.proof.now) k
+      c.loop-bound.tops.items (map (λ b. b.ranks.items) c.loop-bound.bounds.items)) end
+      (c.loop-bound.invariant.placed query tables join few has);
+  each_node = c.loop-bound.invariant.each_node;
+  fault = tt;
+}
 
-pub returns-in_err-bounds-clause-placed : goal.returns-in_err-bounds-clause-placed
-returns-in_err-bounds-clause-placed g c = IfOk-from_err c.from_residual.result _ c.from_residual.ensures.0
+pub returns-in_err-bounds : goal.returns-in_err-bounds
+returns-in_err-bounds g c = record {
+  placed = IfOk-from_err c.from_residual.result _ c.from_residual.ensures.0;
+  each_node = IfOk-from_err c.from_residual.result _ c.from_residual.ensures.0;
+  fault = told_err c.from_residual.result fault.NoMemory _ c.from_residual.ensures.1 (λ query tables join few has. inl refl);
+}
 
-pub returns-in_err-bounds-clause-each_node : goal.returns-in_err-bounds-clause-each_node
-returns-in_err-bounds-clause-each_node g c = IfOk-from_err c.from_residual.result _ c.from_residual.ensures.0
+pub returns-in_err-push : goal.returns-in_err-push
+returns-in_err-push g c = record {
+  placed = IfOk-from_err c.from_residual-in_err-push.result _ c.from_residual-in_err-push.ensures.0;
+  each_node = IfOk-from_err c.from_residual-in_err-push.result _ c.from_residual-in_err-push.ensures.0;
+  fault = told_err c.from_residual-in_err-push.result fault.NoMemory _ c.from_residual-in_err-push.ensures.1
+      (λ query tables join few has. inl refl);
+}
 
-pub returns-in_default-clause-placed : goal.returns-in_default-clause-placed
-returns-in_default-clause-placed g c = tt
-
-pub returns-in_default-clause-each_node : goal.returns-in_default-clause-each_node
-returns-in_default-clause-each_node g c = tt
-
-pub returns-clause-each_node : goal.returns-clause-each_node
-returns-clause-each_node g c = c.loop-bound.invariant.each_node
-
-pub returns-clause-fault : goal.returns-clause-fault
-returns-clause-fault g c = tt
-
-pub returns-in_err-push-clause-placed : goal.returns-in_err-push-clause-placed
-returns-in_err-push-clause-placed g c = IfOk-from_err c.from_residual-in_err-push.result _ c.from_residual-in_err-push.ensures.0
-
-pub returns-in_err-push-clause-each_node : goal.returns-in_err-push-clause-each_node
-returns-in_err-push-clause-each_node g c = IfOk-from_err c.from_residual-in_err-push.result _ c.from_residual-in_err-push.ensures.0
+pub returns-in_err-push-2 : goal.returns-in_err-push-2
+returns-in_err-push-2 g c =
+    let r = c.from_residual-in_err-push-2.result in
+    let e = c.from_residual-in_err-push-2.ensures in
+    record {
+      placed = IfOk-from_err r _ e.0;
+      each_node = IfOk-from_err r _ e.0;
+      fault = told_err r fault.NoMemory _ e.1 (λ query tables join few has. inl refl);
+    }

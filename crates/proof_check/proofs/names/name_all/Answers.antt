@@ -1,25 +1,32 @@
-use Rattle.std.proofs.Common.{◌<◌, [], ℕ, length, map, get_or, sym, ap, subst, ◌∙◌, inl, inr, arith}
+use Rattle.std.proofs.Common.{◌<◌, [], ℕ, length, map, get_or, refl, sym, ap, subst, ◌∙◌, inl, inr, arith}
 use Rattle.std.proofs.Math.ListN.{length-set, set}
 use Rattle.std.proofs.lemmas.Bool.{cases_eq}
 use Rattle.tdp_core.proofs.RawReads.{list_read}
 use Rattle.proof_check.specs.Lines.{AreNamed}
 use Rattle.proof_check.proofs.Pushed.{new_part, old_part, same_part}
 use Rattle.std.proofs.lemmas.Result.{IfOk-from_err}
+use Rattle.proof_check.proofs.Counts.{at_list, below_count}
 use Rattle.proof_check.proofs.names.name_all.Goals as goal
 
-pub returns-in_err-name_groups-clause-ranks : goal.returns-in_err-name_groups-clause-ranks
-returns-in_err-name_groups-clause-ranks g c =
-    let inside : c.loop-node.node < length c.loop-node.bounds = omega (arith, c.nodes-node-end.ensures.count, c.loop-node.invariant.each_node) in
-    same_part (λ b. b.ranks.items) c.loop-node.bounds c.loop-node.node c.index-bounds-node.result c.name_groups.new.bounds inside
-    (ap (λ r. r.items) c.name_groups.ensures.ranks)
-    ∙ c.loop-node.invariant.ranks
+pub returns-in_err-name_groups : goal.returns-in_err-name_groups
+returns-in_err-name_groups g c = record {
+  named = IfOk-from_err c.from_residual.result _ c.from_residual.ensures.0;
+  ranks =
+      let inside : c.loop-node.node < length c.loop-node.bounds = at_list _ _ _ (below_count _ _ _ c.loop-node-test.true c.nodes-node-end.ensures.count) c.loop-node.invariant.each_node in
+      same_part (λ b. b.ranks.items) c.loop-node.bounds c.loop-node.node c.index-bounds-node.result c.name_groups.new.bounds inside
+      (ap (λ r. r.items) c.name_groups.ensures.ranks)
+      ∙ c.loop-node.invariant.ranks;
+}
+
+pub loop-node-init : goal.loop-node-init
+loop-node-init g c = record { each_node = c.requires.each_node; named = λ v l. absurd (omega (arith, l)); ranks = refl }
 
 pub loop-node-preserved : goal.loop-node-preserved
 loop-node-preserved g c =
     let new = c.name_groups.new.bounds in
     let node : ℕ = c.loop-node.node in
-    let inside : node < length c.loop-node.bounds = omega (arith, c.nodes-node-end.ensures.count, c.loop-node.invariant.each_node) in
-    let there : node < length c.args.groups.now = omega (arith, c.nodes-node-end.ensures.count, c.requires.each_group) in
+    let inside : node < length c.loop-node.bounds = at_list _ _ _ (below_count _ _ _ c.loop-node-test.true c.nodes-node-end.ensures.count) c.loop-node.invariant.each_node in
+    let there : node < length c.args.groups.now = at_list _ _ _ (below_count _ _ _ c.loop-node-test.true c.nodes-node-end.ensures.count) c.requires.each_group in
     let groups = list_read c.args.groups.now node c.index-groups-node.result there c.index-groups-node.is in
     record {
       each_node = length-set c.loop-node.bounds node new ∙ c.loop-node.invariant.each_node;
@@ -47,6 +54,3 @@ loop-node-preserved g c =
           (ap (λ r. r.items) c.name_groups.ensures.ranks)
           ∙ c.loop-node.invariant.ranks;
     }
-
-pub returns-in_err-name_groups-clause-named : goal.returns-in_err-name_groups-clause-named
-returns-in_err-name_groups-clause-named g c = IfOk-from_err c.from_residual.result _ c.from_residual.ensures.0

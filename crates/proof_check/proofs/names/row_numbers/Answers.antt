@@ -34,12 +34,6 @@ row_link-link-requires-clause-row g c = let l = c.loop-row-test.true in let coun
 pub row_link-link-requires-clause-child : goal.row_link-link-requires-clause-child
 row_link-link-requires-clause-child g c = c.requires.child
 
-pub group_number-number-requires : goal.group_number-number-requires
-group_number-number-requires g c = c.requires.groups
-
-pub len-count-requires : goal.len-count-requires
-len-count-requires g c = c.requires.node
-
 pub returns : goal.returns
 returns g c =
     let end : c.loop-row.row ≡ c.len-count.result = let a = c.loop-row.auto.row-end in let b = c.loop-row-test.false in omega (arith, a, b) in

@@ -16,18 +16,29 @@ passed bound tables join budget told (inr (same, past)) = past
 pub build-requires-clause-tree : goal.build-requires-clause-tree
 build-requires-clause-tree g c = join_tree_of c.args.query.now.query c.args.join.now c.requires.tree c.requires.count
 
-pub returns-in-Ok-clause-rows : goal.returns-in-Ok-clause-rows
-returns-in-Ok-clause-rows g c =
-    problem_rows c.args.query.now c.args.tables.now c.args.join.now c.requires.tree c.requires.count g.R.Rank.KEYS g.R.Rank.key
-    c.in-Ok.built.tree c.in-Ok.ensures.built c.requires.fits c.requires.keys
+pub returns-in-Ok : goal.returns-in-Ok
+returns-in-Ok g c = record {
+  rows =
+      problem_rows c.args.query.now c.args.tables.now c.args.join.now c.requires.tree c.requires.count g.R.Rank.KEYS g.R.Rank.key
+      c.in-Ok.built.tree c.in-Ok.ensures.built c.requires.fits c.requires.keys;
+  shape =
+      shape_known c.args.query.now c.args.tables.now c.args.join.now c.requires.tree c.requires.count g.R.Rank.KEYS g.R.Rank.key
+      c.in-Ok.built.tree c.in-Ok.ensures.built c.nodes-nodes.ensures.formed.each_node c.nodes-nodes.ensures.formed.few_rows;
+  fault = tt;
+}
 
-pub returns-in-Ok-clause-shape : goal.returns-in-Ok-clause-shape
-returns-in-Ok-clause-shape g c =
-    shape_known c.args.query.now c.args.tables.now c.args.join.now c.requires.tree c.requires.count g.R.Rank.KEYS g.R.Rank.key
-    c.in-Ok.built.tree c.in-Ok.ensures.built c.nodes-nodes.ensures.formed.each_node c.nodes-nodes.ensures.formed.few_rows
+pub returns-in-Err-TooManyRows : goal.returns-in-Err-TooManyRows
+returns-in-Err-TooManyRows g c = record {
+  rows = tt;
+  shape = tt;
+  fault = λ certificate.
+      let past = passed c.args.query.now c.args.tables.now c.args.join.now 4194304 c.in-Err-TooManyRows.field-0-0
+      (rw c.in-Err-TooManyRows.field-0-is at c.in-Err-TooManyRows.ensures.refusal) in
+      (refl, too_many c.args.query.now c.args.tables.now c.args.join.now c.requires.tree c.requires.count past);
+}
 
-pub returns-in-Err-TooManyRows-clause-fault : goal.returns-in-Err-TooManyRows-clause-fault
-returns-in-Err-TooManyRows-clause-fault g c = λ certificate.
-    let past = passed c.args.query.now c.args.tables.now c.args.join.now 4194304 c.in-Err-TooManyRows.field-0-0
-    (rw c.in-Err-TooManyRows.field-0-is at c.in-Err-TooManyRows.ensures.refusal) in
-    (refl, too_many c.args.query.now c.args.tables.now c.args.join.now c.requires.tree c.requires.count past)
+pub returns-in-Err-NoMemory : goal.returns-in-Err-NoMemory
+returns-in-Err-NoMemory g c = record { rows = tt; shape = tt; fault = λ certificate. tt }
+
+pub build-requires-clause-limit : goal.build-requires-clause-limit
+build-requires-clause-limit g c = c.requires.limit

@@ -22,27 +22,31 @@ rank_of_places-rank-requires-clause-solution g c =
       placed = a.answers.each i (omega (arith, c.loop-i-test.true, a.answers.count));
     }
 
-pub returns-then-not-is_after-clause-fault : goal.returns-then-not-is_after-clause-fault
-returns-then-not-is_after-clause-fault g c query tables join few tree answers =
-    let d = g.R.Rank.KEYS in
-    let key = g.R.Rank.key in
-    let t = problem_in query tables join in
-    let cert = proof_view c.args.proof.now in
-    let i = c.loop-i.i in
-    let x = c.index.result.now in
-    let l : i < length cert.answers = omega (arith, c.loop-i-test.true, answers.count) in
-    let before = c.loop-i.invariant query tables join few tree answers in
-    let here : key c.rank_of_places-rank.result ≡ query_key query d (answer_key t cert i) =
-    c.rank_of_places-rank.ensures query tables join (answer_at t cert i).rows few tree (answers.each i l) in
-    let test = test_of query tables join d cert key c.loop-i.last c.rank_of_places-rank.result c.is_after.result
-    c.is_after.ensures.first c.is_after.ensures.next in
-    let found = behind query tables join d cert few i (option_map key c.loop-i.last)
-    (key c.rank_of_places-rank.result) here
-    before.0 c.is_after.result test c.if-not-is_after.true in
-    let is : answer_at t cert i ≡ listed_view x =
-    seen_at c.args.proof.now.answers.items i x (record { line = 0; rows = [] })
-    (omega (arith, l, seen_count c.args.proof.now.answers.items)) c.index.ensures in
-    (i, ap (λ (a : AnswerLine). fault.Order a.line) (sym is), (found.0, l, found.1, before.1))
+pub returns-then-not-is_after : goal.returns-then-not-is_after
+returns-then-not-is_after g c = record {
+  last = λ query tables join few tree answers. tt;
+  ordered = λ query tables join few tree answers. tt;
+  fault = λ query tables join few tree answers.
+      let d = g.R.Rank.KEYS in
+      let key = g.R.Rank.key in
+      let t = problem_in query tables join in
+      let cert = proof_view c.args.proof.now in
+      let i = c.loop-i.i in
+      let x = c.index.result.now in
+      let l : i < length cert.answers = omega (arith, c.loop-i-test.true, answers.count) in
+      let before = c.loop-i.invariant query tables join few tree answers in
+      let here : key c.rank_of_places-rank.result ≡ query_key query d (answer_key t cert i) =
+      c.rank_of_places-rank.ensures query tables join (answer_at t cert i).rows few tree (answers.each i l) in
+      let test = test_of query tables join d cert key c.loop-i.last c.rank_of_places-rank.result c.is_after.result
+      c.is_after.ensures.first c.is_after.ensures.next in
+      let found = behind query tables join d cert few i (option_map key c.loop-i.last)
+      (key c.rank_of_places-rank.result) here
+      before.0 c.is_after.result test c.if-not-is_after.true in
+      let is : answer_at t cert i ≡ listed_view x =
+      seen_at c.args.proof.now.answers.items i x (record { line = 0; rows = [] })
+      (omega (arith, l, seen_count c.args.proof.now.answers.items)) c.index.ensures in
+      (i, ap (λ (a : AnswerLine). fault.Order a.line) (sym is), (found.0, l, found.1, before.1));
+}
 
 pub loop-i-preserved : goal.loop-i-preserved
 loop-i-preserved g c query tables join few tree answers =
@@ -62,17 +66,18 @@ loop-i-preserved g c query tables join few tree answers =
           before.0 c.is_after.result test c.if-not-is_after.false before.1,
     )
 
-pub returns-clause-last : goal.returns-clause-last
-returns-clause-last g c query tables join few tree answers =
-    let cert = proof_view c.args.proof.now in
-    let done : c.loop-i.i ≡ length cert.answers =
-    omega (arith, c.loop-i.auto.i-end, c.loop-i-test.false, answers.count) in
-    last_key query tables join g.R.Rank.KEYS cert c.loop-i.i (option_map g.R.Rank.key c.loop-i.last) done
-    (c.loop-i.invariant query tables join few tree answers).0
-
-pub returns-clause-ordered : goal.returns-clause-ordered
-returns-clause-ordered g c query tables join few tree answers i l =
-    (c.loop-i.invariant query tables join few tree answers).1 i (omega (arith, l, c.loop-i-test.false))
+pub returns : goal.returns
+returns g c = record {
+  last = λ query tables join few tree answers.
+      let cert = proof_view c.args.proof.now in
+      let done : c.loop-i.i ≡ length cert.answers =
+      omega (arith, c.loop-i.auto.i-end, c.loop-i-test.false, answers.count) in
+      last_key query tables join g.R.Rank.KEYS cert c.loop-i.i (option_map g.R.Rank.key c.loop-i.last) done
+      (c.loop-i.invariant query tables join few tree answers).0;
+  ordered = λ query tables join few tree answers i l.
+      (c.loop-i.invariant query tables join few tree answers).1 i (omega (arith, l, c.loop-i-test.false));
+  fault = λ query tables join few tree answers. tt;
+}
 
 pub loop-i-init : goal.loop-i-init
 loop-i-init g c query tables join few tree answers = (refl, λ i l. absurd (omega (arith, l)))
@@ -81,12 +86,3 @@ pub index-requires : goal.index-requires
 index-requires g c =
     let items = c.args.proof.now.answers in
     omega (arith, c.loop-i-test.true, c.requires.answers.answers.count, seen_count items.items, items.ok.0)
-
-pub returns-then-not-is_after-clause-last : goal.returns-then-not-is_after-clause-last
-returns-then-not-is_after-clause-last g c query tables join few tree answers = tt
-
-pub returns-then-not-is_after-clause-ordered : goal.returns-then-not-is_after-clause-ordered
-returns-then-not-is_after-clause-ordered g c query tables join few tree answers = tt
-
-pub returns-clause-fault : goal.returns-clause-fault
-returns-clause-fault g c query tables join few tree answers = tt

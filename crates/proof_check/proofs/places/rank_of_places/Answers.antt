@@ -3,6 +3,7 @@ use Rattle.std.proofs.lemmas.Bool.Decides.{nat_tests}
 use Rattle.rankings.specs.KeyTuple.{key_add}
 use Rattle.rank_key.specs.Keys.{KeyFits}
 use Rattle.proof_check.proofs.RankSums.{rank_begun, rank-is, rank_more, rank_skip, rank_sum, solution_within, sums_fit_lem}
+use Rattle.proof_check.proofs.Counts.{below_count, ended}
 use Rattle.proof_check.proofs.places.rank_of_places.Goals as goal
 use Rattle.proof_check.proofs.places.rank_of_places.Goals.{then-below-at-eq1, else-below-at-eq1}
 
@@ -18,14 +19,14 @@ loop-at-init g c =
 
 pub row-row-requires-clause-row : goal.row-row-requires-clause-row
 row-row-requires-clause-row g c =
-    let inside : c.loop-at.at < length c.args.raw.now.shapes = omega (arith, c.nodes-nodes.ensures.count) in
+    let inside : c.loop-at.at < length c.args.raw.now.shapes = below_count _ _ _ c.loop-at-test.true c.nodes-nodes.ensures.count in
     solution_within g.R.Rank.KEYS g.R.Rank.key c.args.raw.now c.nodes-nodes.ensures.formed.shaped c.args.node c.args.places.now
     c.requires.solution c.loop-at.at inside
     (tests_true _ _ (sym (c.subtree-below.ensures c.loop-at.at inside)) c.if-below-at-eq1.true)
 
 pub join-rank-requires : goal.join-rank-requires
 join-rank-requires g c =
-    let inside : c.loop-at.at < length c.args.raw.now.shapes = omega (arith, c.nodes-nodes.ensures.count) in
+    let inside : c.loop-at.at < length c.args.raw.now.shapes = below_count _ _ _ c.loop-at-test.true c.nodes-nodes.ensures.count in
     let sum = rank_more g.R.Rank.KEYS g.R.Rank.key c.args.raw.now c.args.node c.args.places.now c.loop-at.at
     (tests_true _ _ (sym (c.subtree-below.ensures c.loop-at.at inside)) c.if-below-at-eq1.true) in
     let fits = sums_fit_lem g.R.Rank.KEYS g.R.Rank.key c.args.raw.now c.args.node c.args.places.now c.nodes-nodes.ensures.formed
@@ -39,7 +40,7 @@ join-rank-requires g c =
 
 pub loop-at-preserved : goal.loop-at-preserved
 loop-at-preserved g c =
-    let inside : c.loop-at.at < length c.args.raw.now.shapes = omega (arith, c.nodes-nodes.ensures.count) in
+    let inside : c.loop-at.at < length c.args.raw.now.shapes = below_count _ _ _ c.loop-at-test.true c.nodes-nodes.ensures.count in
     let below = sym (c.subtree-below.ensures c.loop-at.at inside) in
     elim c.if-below-at-eq1.branch [
       | then-below-at-eq1 w ↦
@@ -57,7 +58,7 @@ loop-at-preserved g c =
 
 pub returns : goal.returns
 returns g c = λ query tables join rows few has placed.
-    let end : c.loop-at.at ≡ length c.args.raw.now.shapes = omega (arith, c.nodes-nodes.ensures.count) in
+    let end = ended _ _ c.loop-at.auto.at-end c.loop-at-test.false ∙ c.nodes-nodes.ensures.count in
     c.loop-at.invariant
     ∙ ap (rank_sum g.R.Rank.KEYS g.R.Rank.key c.args.raw.now c.args.node c.args.places.now) end
     ∙ rank-is query tables join g.R.Rank.KEYS g.R.Rank.key c.args.raw.now c.nodes-nodes.ensures.formed.shaped few has c.args.node rows

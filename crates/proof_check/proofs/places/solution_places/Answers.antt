@@ -9,6 +9,7 @@ use Rattle.proof_check.specs.Subtrees.{ArePlacedBefore, HasLinkOf, raw_below}
 use Rattle.proof_check.proofs.Placing.{placed_more, placed_none, placed_skip}
 use Rattle.proof_check.proofs.PlacedSolutions.{found, in_nodes, must_link, size_of, whole}
 use Rattle.proof_check.proofs.Subtrees.{below_up, parent_low, parents_first_lem}
+use Rattle.proof_check.proofs.Counts.{above_root, below_count, some_of}
 use Rattle.proof_check.proofs.places.solution_places.Goals as goal
 use Rattle.proof_check.proofs.places.solution_places.Goals.{else-at-node-via-then-at-node+else-not-is_linked}
 use Rattle.proof_check.proofs.places.solution_places.Goals.{else-at-node-via-else-at-node}
@@ -28,9 +29,9 @@ loop-at-init g c = record {
 pub returns-in_err-place : goal.returns-in_err-place
 returns-in_err-place g c = λ query tables join has.
     let shaped = c.nodes-nodes.ensures.formed.shaped in
-    let inside : c.loop-at.at < length c.args.raw.now.shapes = omega (arith, c.nodes-nodes.ensures.count) in
+    let inside : c.loop-at.at < length c.args.raw.now.shapes = below_count _ _ _ c.loop-at-test.true c.nodes-nodes.ensures.count in
     let below = c.subtree-below.ensures c.loop-at.at inside in
-    let some : 0 < raw_below c.args.raw.now c.args.node c.loop-at.at = omega (arith, below, c.if-below-at-eq0.false) in
+    let some : 0 < raw_below c.args.raw.now c.args.node c.loop-at.at = some_of _ _ below c.if-below-at-eq0.false in
     subst (λ r. MatchOption r (IsSolutionAt (problem_in query tables join) c.args.node c.args.rows.now → ⊥)
     (ArePlacesOf query tables join c.args.raw.now c.args.node c.args.rows.now)) (sym c.from_residual.ensures)
     (λ s.
@@ -44,11 +45,11 @@ returns-in_err-place g c = λ query tables join has.
 pub is_linked-requires-clause-above : goal.is_linked-requires-clause-above
 is_linked-requires-clause-above g c =
     let shaped = c.nodes-nodes.ensures.formed.shaped in
-    let inside : c.loop-at.at < length c.args.raw.now.shapes = omega (arith, c.nodes-nodes.ensures.count) in
+    let inside : c.loop-at.at < length c.args.raw.now.shapes = below_count _ _ _ c.loop-at-test.true c.nodes-nodes.ensures.count in
     let up = ap (λ s. s.parent) c.shape.ensures in
     let low = parents_first_lem c.args.raw.now shaped c.loop-at.at (omega arith) inside in
     let below = c.subtree-below.ensures c.loop-at.at inside in
-    let some : 0 < raw_below c.args.raw.now c.args.node c.loop-at.at = omega (arith, below, c.if-below-at-eq0.false) in
+    let some : 0 < raw_below c.args.raw.now c.args.node c.loop-at.at = some_of _ _ below c.if-below-at-eq0.false in
     subst (λ p. get_or c.loop-at.places p 0 < raw_len c.args.raw.now (shape_parent c.args.raw.now.shapes c.loop-at.at)) (sym up)
     (c.loop-at.invariant.placed.within (shape_parent c.args.raw.now.shapes c.loop-at.at) low
     (below_up c.args.raw.now shaped c.args.node c.loop-at.at c.if-at-node.true inside some))
@@ -56,11 +57,11 @@ is_linked-requires-clause-above g c =
 pub returns-then-not-is_linked : goal.returns-then-not-is_linked
 returns-then-not-is_linked g c = λ query tables join has s.
     let shaped = c.nodes-nodes.ensures.formed.shaped in
-    let inside : c.loop-at.at < length c.args.raw.now.shapes = omega (arith, c.nodes-nodes.ensures.count) in
+    let inside : c.loop-at.at < length c.args.raw.now.shapes = below_count _ _ _ c.loop-at-test.true c.nodes-nodes.ensures.count in
     let up = ap (λ s. s.parent) c.shape.ensures in
     let low = parents_first_lem c.args.raw.now shaped c.loop-at.at (omega arith) inside in
     let below = c.subtree-below.ensures c.loop-at.at inside in
-    let some : 0 < raw_below c.args.raw.now c.args.node c.loop-at.at = omega (arith, below, c.if-below-at-eq0.false) in
+    let some : 0 < raw_below c.args.raw.now c.args.node c.loop-at.at = some_of _ _ below c.if-below-at-eq0.false in
     let upper = below_up c.args.raw.now shaped c.args.node c.loop-at.at c.if-at-node.true inside some in
     let link : HasLinkOf c.args.raw.now c.loop-at.at
     (get_or c.loop-at.places (shape_parent c.args.raw.now.shapes c.loop-at.at) 0) c.in_ok-place.place =
@@ -87,40 +88,46 @@ pub size-requires : goal.size-requires
 size-requires g c = (c.args.node, c.requires, c.subtree-below.ensures)
 
 pub item_place-requires-clause-node : goal.item_place-requires-clause-node
-item_place-requires-clause-node g c = omega (arith, c.nodes-nodes.ensures.count)
+item_place-requires-clause-node g c = below_count _ _ _ c.loop-at-test.true c.nodes-nodes.ensures.count
 
 pub item_place-requires-clause-below : goal.item_place-requires-clause-below
 item_place-requires-clause-below g c = (c.args.node, c.requires, c.subtree-below.ensures)
 
 pub bounds-rows-item_place : goal.bounds-rows-item_place
 bounds-rows-item_place g c =
-    let inside : c.loop-at.at < length c.args.raw.now.shapes = omega (arith, c.nodes-nodes.ensures.count) in
+    let inside : c.loop-at.at < length c.args.raw.now.shapes = below_count _ _ _ c.loop-at-test.true c.nodes-nodes.ensures.count in
     let below = c.subtree-below.ensures c.loop-at.at inside in
-    let some : 0 < raw_below c.args.raw.now c.args.node c.loop-at.at = omega (arith, below, c.if-below-at-eq0.false) in
+    let some : 0 < raw_below c.args.raw.now c.args.node c.loop-at.at = some_of _ _ below c.if-below-at-eq0.false in
     let within = c.item_place.ensures.within c.args.node c.requires c.subtree-below.ensures some in
     let size = c.size.ensures c.args.node c.requires c.subtree-below.ensures in
     let long = c.if-rows-size.false in omega (arith, within, size, long)
 
 pub row_place-requires : goal.row_place-requires
-row_place-requires g c = omega (arith, c.nodes-nodes.ensures.count)
+row_place-requires g c = below_count _ _ _ c.loop-at-test.true c.nodes-nodes.ensures.count
 
 pub shape-requires : goal.shape-requires
-shape-requires g c = omega (arith, c.nodes-nodes.ensures.count)
+shape-requires g c = below_count _ _ _ c.loop-at-test.true c.nodes-nodes.ensures.count
 
 pub bounds-places-shape : goal.bounds-places-shape
 bounds-places-shape g c =
     let shaped = c.nodes-nodes.ensures.formed.shaped in
-    let inside : c.loop-at.at < length c.args.raw.now.shapes = omega (arith, c.nodes-nodes.ensures.count) in
+    let inside : c.loop-at.at < length c.args.raw.now.shapes = below_count _ _ _ c.loop-at-test.true c.nodes-nodes.ensures.count in
     let up = ap (λ s. s.parent) c.shape.ensures in
     let low = parent_low c.args.raw.now shaped c.loop-at.at inside in
     let few = shaped.few_nodes in omega (arith, up, low, few, inside)
+
+pub is_linked-requires-clause-below_root : goal.is_linked-requires-clause-below_root
+is_linked-requires-clause-below_root g c = above_root _ _ c.if-at-node.true
+
+pub is_linked-requires-clause-node : goal.is_linked-requires-clause-node
+is_linked-requires-clause-node g c = below_count _ _ _ c.loop-at-test.true c.nodes-nodes.ensures.count
 
 pub is_linked-requires-clause-place : goal.is_linked-requires-clause-place
 is_linked-requires-clause-place g c = c.in_ok-place.ensures.within
 
 pub loop-at-preserved-then-below-at-eq0 : goal.loop-at-preserved-then-below-at-eq0
 loop-at-preserved-then-below-at-eq0 g c =
-    let inside : c.loop-at.at < length c.args.raw.now.shapes = omega (arith, c.nodes-nodes.ensures.count) in
+    let inside : c.loop-at.at < length c.args.raw.now.shapes = below_count _ _ _ c.loop-at-test.true c.nodes-nodes.ensures.count in
     let none = sym (c.subtree-below.ensures c.loop-at.at inside) ∙ c.if-below-at-eq0.true in
     record {
       long = c.loop-at.invariant.long;
@@ -134,10 +141,10 @@ loop-at-preserved g c =
     let at = c.loop-at.at in
     let places = c.loop-at.places in
     let place = c.in_ok-place.place in
-    let inside : at < length raw.shapes = omega (arith, c.nodes-nodes.ensures.count) in
+    let inside : at < length raw.shapes = below_count _ _ _ c.loop-at-test.true c.nodes-nodes.ensures.count in
     let up = ap (λ s. s.parent) c.shape.ensures in
     let below = c.subtree-below.ensures at inside in
-    let some : 0 < raw_below raw c.args.node at = omega (arith, below, c.if-below-at-eq0.false) in
+    let some : 0 < raw_below raw c.args.node at = some_of _ _ below c.if-below-at-eq0.false in
     let row = c.in_ok-place.ensures.number
     ∙ ap (λ i. get_or c.args.rows.now i 0) (c.item_place.ensures.place c.args.node c.requires c.subtree-below.ensures) in
     record {

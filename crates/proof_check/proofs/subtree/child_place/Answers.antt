@@ -34,23 +34,21 @@ loop-other-preserved g c =
           omega (arith, more)
     ]
 
-pub returns-clause-place : goal.returns-clause-place
-returns-clause-place g c =
-    let end : c.loop-other.other ≡ c.args.node = omega arith in
-    c.loop-other.invariant
-    ∙ ap (kids_below (shape_parent c.args.raw.now.shapes) (shape_parent c.args.raw.now.shapes c.args.node)) end
-
-pub returns-clause-within : goal.returns-clause-within
-returns-clause-within g c =
-    let end : c.loop-other.other ≡ c.args.node = omega arith in
-    let kids = kids_below (shape_parent c.args.raw.now.shapes) (shape_parent c.args.raw.now.shapes c.args.node) in
-    let here = ap kids end in
-    let rest = length c.args.raw.now.shapes - (c.args.node + 1) in
-    let whole : rest + (c.args.node + 1) ≡ length c.args.raw.now.shapes = omega arith in
-    let less = child_place_within (shape_parent c.args.raw.now.shapes) c.args.node rest c.requires.below_root in
-    let all = ap kids whole in
-    omega (arith, here, less, all)
-
-pub returns-clause-above : goal.returns-clause-above
-returns-clause-above g c =
-    parents_first_lem c.args.raw.now c.nodes-nodes.ensures.formed.shaped c.args.node c.requires.below_root c.requires.node
+pub returns : goal.returns
+returns g c = record {
+  place =
+      let end : c.loop-other.other ≡ c.args.node = omega arith in
+      c.loop-other.invariant
+      ∙ ap (kids_below (shape_parent c.args.raw.now.shapes) (shape_parent c.args.raw.now.shapes c.args.node)) end;
+  within =
+      let end : c.loop-other.other ≡ c.args.node = omega arith in
+      let kids = kids_below (shape_parent c.args.raw.now.shapes) (shape_parent c.args.raw.now.shapes c.args.node) in
+      let here = ap kids end in
+      let rest = length c.args.raw.now.shapes - (c.args.node + 1) in
+      let whole : rest + (c.args.node + 1) ≡ length c.args.raw.now.shapes = omega arith in
+      let less = child_place_within (shape_parent c.args.raw.now.shapes) c.args.node rest c.requires.below_root in
+      let all = ap kids whole in
+      omega (arith, here, less, all);
+  above =
+      parents_first_lem c.args.raw.now c.nodes-nodes.ensures.formed.shaped c.args.node c.requires.below_root c.requires.node;
+}

@@ -1,7 +1,8 @@
-use Rattle.std.proofs.Common.{◌≡◌, ◌+◌, ◌<◌, length, sym, ap, ◌∙◌, arith}
+use Rattle.std.proofs.Common.{◌+◌, ◌<◌, length, sym, ap, ◌∙◌, arith}
 use Rattle.rankings.specs.TreeProblem.{sum_from}
 use Rattle.step_bounds.proofs.NodeSums.{sum_none}
 use Rattle.proof_check.proofs.Subtrees.{before, below_small, place_more, place_same, place_within}
+use Rattle.proof_check.proofs.Counts.{below_count, ended}
 use Rattle.proof_check.proofs.subtree.item_place.Goals as goal
 use Rattle.proof_check.proofs.subtree.item_place.Goals.{then-shape-item, else-shape-item}
 
@@ -13,7 +14,7 @@ loop-other-init g c = record {
 
 pub overflow_add-place : goal.overflow_add-place
 overflow_add-place g c =
-    let inside : c.loop-other.other < length c.args.raw.now.shapes = omega (arith, c.nodes-nodes.ensures.count) in
+    let inside : c.loop-other.other < length c.args.raw.now.shapes = below_count _ _ _ c.loop-other-test.true c.nodes-nodes.ensures.count in
     let few = c.nodes-nodes.ensures.formed.shaped.few_nodes in
     let at = c.requires.below.2 c.loop-other.other inside in
     let small = below_small c.args.raw.now c.nodes-nodes.ensures.formed.shaped c.requires.below.0 c.loop-other.other inside in
@@ -21,7 +22,7 @@ overflow_add-place g c =
 
 pub loop-other-preserved : goal.loop-other-preserved
 loop-other-preserved g c =
-    let inside : c.loop-other.other < length c.args.raw.now.shapes = omega (arith, c.nodes-nodes.ensures.count) in
+    let inside : c.loop-other.other < length c.args.raw.now.shapes = below_count _ _ _ c.loop-other-test.true c.nodes-nodes.ensures.count in
     let at = c.requires.below.2 c.loop-other.other inside in
     let small = below_small c.args.raw.now c.nodes-nodes.ensures.formed.shaped c.requires.below.0 c.loop-other.other inside in
     let here = ap (λ s. s.item) c.shape.ensures in
@@ -41,15 +42,15 @@ loop-other-preserved g c =
       }
     ]
 
-pub returns-clause-place : goal.returns-clause-place
-returns-clause-place g c = λ v l are.
-    let end : c.loop-other.other ≡ length c.args.raw.now.shapes = omega (arith, c.nodes-nodes.ensures.count) in
-    c.loop-other.invariant.sum v l are
-    ∙ ap (λ n. sum_from ◌+◌ 0 (before c.args.raw.now c.nodes-nodes.ensures.formed.shaped v c.args.node) n 0) end
-
-pub returns-clause-within : goal.returns-clause-within
-returns-clause-within g c = λ v l are some.
-    let end : c.loop-other.other ≡ length c.args.raw.now.shapes = omega (arith, c.nodes-nodes.ensures.count) in
-    let place = c.loop-other.invariant.sum v l are
-    ∙ ap (λ n. sum_from ◌+◌ 0 (before c.args.raw.now c.nodes-nodes.ensures.formed.shaped v c.args.node) n 0) end in
-    omega (arith, place, place_within c.args.raw.now c.nodes-nodes.ensures.formed.shaped v c.args.node c.requires.node some)
+pub returns : goal.returns
+returns g c = record {
+  place = λ v l are.
+      let end = ended _ _ c.loop-other.auto.other-end c.loop-other-test.false ∙ c.nodes-nodes.ensures.count in
+      c.loop-other.invariant.sum v l are
+      ∙ ap (λ n. sum_from ◌+◌ 0 (before c.args.raw.now c.nodes-nodes.ensures.formed.shaped v c.args.node) n 0) end;
+  within = λ v l are some.
+      let end = ended _ _ c.loop-other.auto.other-end c.loop-other-test.false ∙ c.nodes-nodes.ensures.count in
+      let place = c.loop-other.invariant.sum v l are
+      ∙ ap (λ n. sum_from ◌+◌ 0 (before c.args.raw.now c.nodes-nodes.ensures.formed.shaped v c.args.node) n 0) end in
+      omega (arith, place, place_within c.args.raw.now c.nodes-nodes.ensures.formed.shaped v c.args.node c.requires.node some);
+}

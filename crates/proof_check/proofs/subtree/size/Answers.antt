@@ -1,8 +1,9 @@
-use Rattle.std.proofs.Common.{◌≡◌, ◌+◌, ◌<◌, length, sym, ap, ◌∙◌, arith}
+use Rattle.std.proofs.Common.{◌+◌, ◌<◌, length, sym, ap, ◌∙◌, arith}
 use Rattle.rankings.specs.TreeProblem.{sum_from}
 use Rattle.proof_check.specs.Subtrees.{raw_below}
 use Rattle.step_bounds.proofs.NodeSums.{sum_none}
 use Rattle.proof_check.proofs.Subtrees.{below_small, size_more}
+use Rattle.proof_check.proofs.Counts.{below_count, ended}
 use Rattle.proof_check.proofs.subtree.size.Goals as goal
 
 pub loop-node-init : goal.loop-node-init
@@ -10,7 +11,7 @@ loop-node-init g c = record { few = omega arith; sum = λ v l are. sym (sum_none
 
 pub overflow_add-size : goal.overflow_add-size
 overflow_add-size g c =
-    let inside : c.loop-node.node < length c.args.raw.now.shapes = omega (arith, c.nodes-nodes.ensures.count) in
+    let inside : c.loop-node.node < length c.args.raw.now.shapes = below_count _ _ _ c.loop-node-test.true c.nodes-nodes.ensures.count in
     let few = c.nodes-nodes.ensures.formed.shaped.few_nodes in
     let at = c.requires.2 c.loop-node.node inside in
     let small = below_small c.args.raw.now c.nodes-nodes.ensures.formed.shaped c.requires.0 c.loop-node.node inside in
@@ -18,7 +19,7 @@ overflow_add-size g c =
 
 pub loop-node-preserved : goal.loop-node-preserved
 loop-node-preserved g c =
-    let inside : c.loop-node.node < length c.args.raw.now.shapes = omega (arith, c.nodes-nodes.ensures.count) in
+    let inside : c.loop-node.node < length c.args.raw.now.shapes = below_count _ _ _ c.loop-node-test.true c.nodes-nodes.ensures.count in
     let at = c.requires.2 c.loop-node.node inside in
     let small = below_small c.args.raw.now c.nodes-nodes.ensures.formed.shaped c.requires.0 c.loop-node.node inside in
     record {
@@ -30,5 +31,5 @@ loop-node-preserved g c =
 
 pub returns : goal.returns
 returns g c = λ v l are.
-    let end : c.loop-node.node ≡ length c.args.raw.now.shapes = omega (arith, c.nodes-nodes.ensures.count) in
+    let end = ended _ _ c.loop-node.auto.node-end c.loop-node-test.false ∙ c.nodes-nodes.ensures.count in
     c.loop-node.invariant.sum v l are ∙ ap (λ n. sum_from ◌+◌ 0 (raw_below c.args.raw.now v) n 0) end

@@ -3,6 +3,7 @@ use Rattle.std.proofs.Math.ListN.{set, length-set}
 use Rattle.std.proofs.lemmas.List.{length-replicate}
 use Rattle.proof_check.specs.Subtrees.{raw_below}
 use Rattle.proof_check.proofs.Subtrees.{below_begun, below_more}
+use Rattle.proof_check.proofs.Counts.{below_count}
 use Rattle.proof_check.proofs.subtree.subtree.Goals as goal
 
 pub loop-child-init : goal.loop-child-init
@@ -13,7 +14,7 @@ loop-child-init g c = record {
 
 pub loop-child-preserved : goal.loop-child-preserved
 loop-child-preserved g c =
-    let inside : c.loop-child.child < length c.args.raw.now.shapes = omega (arith, c.nodes-nodes.ensures.count) in
+    let inside : c.loop-child.child < length c.args.raw.now.shapes = below_count _ _ _ c.loop-child-test.true c.nodes-nodes.ensures.count in
     let up = ap (λ s. s.parent) c.shape.ensures in
     record {
       long = length-set c.loop-child.below c.loop-child.child (get_or c.loop-child.below c.shape.result.now.parent 0)

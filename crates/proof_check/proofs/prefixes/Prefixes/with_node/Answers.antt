@@ -24,24 +24,24 @@ loop-i-preserved c =
     (c.index.ensures ∙ get_or_default c.args.self.now.numbers.items c.loop-i.i c.index.result.now 0
     (let e = c.requires.prefixes.count in let l = c.loop-i-test.true in omega (arith, e, l))) c.in_ok-add.ensures.added)
 
-pub returns-clause-next : goal.returns-clause-next
-returns-clause-next c =
-    let p = c.args.node in
-    let places = c.args.places.now in
-    let numbers = c.args.self.now.numbers.items in
-    let done : c.loop-i.i ≡ length places = omega arith in
-    next_prefixes p places numbers c.args.self.now.starts.items c.requires.prefixes c.loop-i.taken
-    c.loop-i.next.numbers.items c.loop-i.next.starts.items
-    (subst (λ k. AreAdded p places numbers k c.loop-i.taken c.loop-i.next.numbers.items c.loop-i.next.starts.items) done
-    c.loop-i.invariant)
-
-pub returns-clause-taken : goal.returns-clause-taken
-returns-clause-taken c =
-    let p = c.args.node in
-    let places = c.args.places.now in
-    let numbers = c.args.self.now.numbers.items in
-    let done : c.loop-i.i ≡ length places = omega arith in
-    taken_pairs p places numbers c.args.self.now.starts.items c.requires.prefixes c.loop-i.taken
-    c.loop-i.next.numbers.items c.loop-i.next.starts.items
-    (subst (λ k. AreAdded p places numbers k c.loop-i.taken c.loop-i.next.numbers.items c.loop-i.next.starts.items) done
-    c.loop-i.invariant)
+pub returns : goal.returns
+returns c = record {
+  next =
+      let p = c.args.node in
+      let places = c.args.places.now in
+      let numbers = c.args.self.now.numbers.items in
+      let done : c.loop-i.i ≡ length places = omega arith in
+      next_prefixes p places numbers c.args.self.now.starts.items c.requires.prefixes c.loop-i.taken
+      c.loop-i.next.numbers.items c.loop-i.next.starts.items
+      (subst (λ k. AreAdded p places numbers k c.loop-i.taken c.loop-i.next.numbers.items c.loop-i.next.starts.items) done
+      c.loop-i.invariant);
+  taken =
+      let p = c.args.node in
+      let places = c.args.places.now in
+      let numbers = c.args.self.now.numbers.items in
+      let done : c.loop-i.i ≡ length places = omega arith in
+      taken_pairs p places numbers c.args.self.now.starts.items c.requires.prefixes c.loop-i.taken
+      c.loop-i.next.numbers.items c.loop-i.next.starts.items
+      (subst (λ k. AreAdded p places numbers k c.loop-i.taken c.loop-i.next.numbers.items c.loop-i.next.starts.items) done
+      c.loop-i.invariant);
+}

@@ -4,27 +4,23 @@ use Rattle.proof_check.specs.Levels.{IsPairAt}
 use Rattle.proof_check.proofs.Pairs.{inserted, inserted_at, inserted_new}
 use Rattle.proof_check.proofs.taken.TakenRows.insert.Goals as goal
 
-pub returns-in_err-insert_full-clause-added : goal.returns-in_err-insert_full-clause-added
-returns-in_err-insert_full-clause-added c = IfOk-from_err c.from_residual.result _ c.from_residual.ensures.0
+pub returns-in_err-insert_full : goal.returns-in_err-insert_full
+returns-in_err-insert_full c = record {
+  added = IfOk-from_err c.from_residual.result _ c.from_residual.ensures.0;
+  stands = IfOk-from_err c.from_residual.result _ c.from_residual.ensures.0;
+  new = IfOk-from_err c.from_residual.result _ c.from_residual.ensures.0;
+}
 
-pub returns-in_err-insert_full-clause-stands : goal.returns-in_err-insert_full-clause-stands
-returns-in_err-insert_full-clause-stands c = IfOk-from_err c.from_residual.result _ c.from_residual.ensures.0
-
-pub returns-in_err-insert_full-clause-new : goal.returns-in_err-insert_full-clause-new
-returns-in_err-insert_full-clause-new c = IfOk-from_err c.from_residual.result _ c.from_residual.ensures.0
-
-pub returns-clause-added : goal.returns-clause-added
-returns-clause-added c =
-    subst (λ (ks : List (ℕ × ℕ)). c.insert_full.new.self.keys ≡ (if c.in_ok-insert_full.field-0.1 then ks ++ (c.args.number, c.args.row) ∷ [] else ks))
-    c.self.view_is
-    (inserted _ (c.args.number, c.args.row) _ c.in_ok-insert_full.ensures.keys _ c.in_ok-insert_full.ensures.added)
-
-pub returns-clause-stands : goal.returns-clause-stands
-returns-clause-stands c =
-    let s = c.in_ok-insert_full.ensures.stored in
-    inserted_at _ (c.args.number, c.args.row) _ c.in_ok-insert_full.ensures.keys c.in_ok-insert_full.field-0.0 s.0 s.1 s.2
-
-pub returns-clause-new : goal.returns-clause-new
-returns-clause-new c is =
-    subst (λ (ks : List (ℕ × ℕ)). (k : ℕ) → IsPairAt ks k (c.args.number, c.args.row) → ⊥) c.self.view_is
-    (inserted_new _ (c.args.number, c.args.row) _ c.in_ok-insert_full.ensures.keys _ c.in_ok-insert_full.ensures.added is)
+pub returns : goal.returns
+returns c = record {
+  added =
+      subst (λ (ks : List (ℕ × ℕ)). c.insert_full.new.self.keys ≡ (if c.in_ok-insert_full.field-0.1 then ks ++ (c.args.number, c.args.row) ∷ [] else ks))
+      c.self.view_is
+      (inserted _ (c.args.number, c.args.row) _ c.in_ok-insert_full.ensures.keys _ c.in_ok-insert_full.ensures.added);
+  stands =
+      let s = c.in_ok-insert_full.ensures.stored in
+      inserted_at _ (c.args.number, c.args.row) _ c.in_ok-insert_full.ensures.keys c.in_ok-insert_full.field-0.0 s.0 s.1 s.2;
+  new = λ is.
+      subst (λ (ks : List (ℕ × ℕ)). (k : ℕ) → IsPairAt ks k (c.args.number, c.args.row) → ⊥) c.self.view_is
+      (inserted_new _ (c.args.number, c.args.row) _ c.in_ok-insert_full.ensures.keys _ c.in_ok-insert_full.ensures.added is);
+}

@@ -1,0 +1,53 @@
+-- Numbers that are known of a line or a loop.
+use Rattle.std.proofs.Common.{◌≡◌, ℕ, suc, ◌+◌, ◌-◌, ◌<◌, ◌≤◌, arith}
+
+-- a count that has come to its end
+pub ended : (i n : ℕ) → i ≤ n → n ≤ i → i ≡ n
+ended i n low high = omega (arith, low, high)
+
+-- nodes count from 1 in a line
+module _ (a v : ℕ) (is : a ≡ suc v) where
+  pub line_some : 1 ≤ a
+  line_some = omega (arith, is)
+
+  pub line_pred : v ≡ a - 1
+  line_pred = omega (arith, is)
+
+  pub line_suc : a ≡ suc (a - 1)
+  line_suc = omega (arith, is)
+
+  pub line_below : (n : ℕ) → v < n → a - 1 < n
+  line_below n l = omega (arith, is, l)
+
+  pub line_within : (n m : ℕ) → v < n → n ≤ m → a - 1 < m
+  line_within n m l h = omega (arith, is, l, h)
+
+  pub line_index : (n l k : ℕ) → v < n → l ≡ n → k ≡ l → a - 1 < k
+  line_index n l k h e f = omega (arith, is, h, e, f)
+
+-- a place in a list that is as long
+pub at_list : (v n l : ℕ) → v < n → l ≡ n → v < l
+at_list v n l h e = omega (arith, h, e)
+
+pub at_index : (v n l k : ℕ) → v < n → l ≡ n → k ≡ l → v < k
+at_index v n l k h e f = omega (arith, h, e, f)
+
+pub below_count : (i k n : ℕ) → i < k → k ≡ n → i < n
+below_count i k n h e = omega (arith, h, e)
+
+pub up_to : (k n : ℕ) → k < n → k ≤ n
+up_to k n l = omega (arith, l)
+
+pub few_more : (a b m l : ℕ) → a ≤ b → b ≤ m → a ≡ l → l ≤ m
+few_more a b m l low high e = omega (arith, low, high, e)
+
+-- what is equal to some number but zero
+pub some_of : (a b : ℕ) → a ≡ b → (a ≡ 0 → ⊥) → 0 < b
+some_of a b e f = omega (arith, e, f)
+
+-- a count from v + 1 that has come to its end
+pub ended_from : (i v k n : ℕ) → (v + 1 ≤ k → i ≤ k) → k ≤ i → v < n → k ≡ n → i ≡ n
+ended_from i v k n low high l e = let last = low (omega (arith, l, e)) in omega (arith, last, high, e)
+
+pub above_root : (v q : ℕ) → v < q → 0 < q
+above_root v q l = omega (arith, l)
