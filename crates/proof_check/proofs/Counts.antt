@@ -51,3 +51,16 @@ ended_from i v k n low high l e = let last = low (omega (arith, l, e)) in omega 
 
 pub above_root : (v q : ℕ) → v < q → 0 < q
 above_root v q l = omega (arith, l)
+
+pub none_below : (i : ℕ) → i < 0 → ⊥
+none_below i l = omega (arith, l)
+
+-- the last of the first n + 1
+pub last_one : (i n : ℕ) → i < n + 1 → n ≤ i → i ≡ n
+last_one i n l far = omega (arith, l, far)
+
+pub within_end : (m n i : ℕ) → m < n → n ≤ i → m < i
+within_end m n i l end = omega (arith, l, end)
+
+pub no_more : (n : ℕ) → n ≤ n
+no_more n = omega arith

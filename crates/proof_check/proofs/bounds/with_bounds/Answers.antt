@@ -1,4 +1,4 @@
-use Rattle.std.proofs.Common.{◌≡◌, ◌++◌, drop, take, [], length, map, get_or, sym, ap, subst, ◌∙◌, arith}
+use Rattle.std.proofs.Common.{◌≡◌, ◌++◌, drop, take, [], length, map, get_or, sym, ap, subst, ◌∙◌}
 use Rattle.std.proofs.lemmas.List.{length-map}
 use Rattle.proof_text.specs.ProofView.{bound_view, proof_view}
 use Rattle.proof_check.specs.BoundedRows.{IsBounded}
@@ -9,6 +9,7 @@ use Rattle.proof_check.proofs.Pushed.{take_front}
 use Rattle.proof_check.proofs.Tellings.{told_err}
 use Rattle.proof_text.specs.declared.fault.ProofFault.TheVariants as fault
 use Rattle.std.proofs.lemmas.Result.{IfOk-from_err}
+use Rattle.proof_check.proofs.Counts.{few_more, no_more}
 use Rattle.proof_check.proofs.bounds.with_bounds.Goals as goal
 
 pub returns-in_err-tops : goal.returns-in_err-tops
@@ -58,10 +59,10 @@ name_all-requires-clause-few g c = λ v l.
     let few = groups_few c.args.query.now.query c.args.tables.now c.args.join.now g.R.Rank.KEYS g.R.Rank.key c.args.raw
     c.nodes-nodes.ensures.formed.shaped c.requires.rows (proof_view c.args.proof.now) (length c.args.proof.now.bounds.items)
     c.as_slice.result.now (map (λ b. b.ranks.items) c.in_ok-tops.field-0.bounds.items) p (length c.args.proof.now.bounds.items)
-    (omega arith) c.in_ok-groups.groups.items c.in_ok-groups.ensures.groups v l in
+    (no_more (length c.args.proof.now.bounds.items)) c.in_ok-groups.groups.items c.in_ok-groups.ensures.groups v l in
     let all = rows_few g.R.Rank.KEYS g.R.Rank.key c.args.raw c.nodes-nodes.ensures.formed v in
     let read = ap (λ xs. length (get_or xs v [])) c.as_slice-2.ensures.value in
-    omega (arith, few, all, read)
+    few_more _ _ 4194304 _ few all (sym read)
 
 pub returns : goal.returns
 returns g c = record {
@@ -91,7 +92,7 @@ returns g c = record {
       let old = c.in_ok-tops.field-0.bounds in
       let same : take old.len (c.name_all.new.bounds ++ drop (length c.name_all.new.bounds) old.items) ≡ c.name_all.new.bounds =
       take_front c.name_all.new.bounds (drop (length c.name_all.new.bounds) old.items) old.len
-      (omega (arith, each, old.ok.0, c.in_ok-tops.ensures.each_node)) in
+      (old.ok.0 ∙ c.in_ok-tops.ensures.each_node ∙ sym each) in
       subst (λ bounds. IsBounded query tables join g.R.Rank.KEYS g.R.Rank.key certificate (record { raw = raw; bounds = bounds })) (sym same)
       (bounded query tables join g.R.Rank.KEYS g.R.Rank.key (record { raw = raw; bounds = c.name_all.new.bounds })
       c.nodes-nodes.ensures.formed.shaped certificate c.requires.rows shape.0 shape.1 c.as_slice.result.now c.as_slice-2.result.now

@@ -11,12 +11,12 @@ use Rattle.proof_model.specs.QueryProblem.{problem_in}
 use Rattle.proof_check.proofs.Nodes.{all_nodes}
 use Rattle.proof_check.specs.Levels.{IsBase, base_part}
 use Rattle.proof_check.proofs.Known.{part_key, sum_fits}
-use Rattle.proof_check.proofs.Counts.{at_list, below_count, ended}
+use Rattle.proof_check.proofs.Counts.{at_list, below_count, ended, last_one, none_below}
 use Rattle.proof_check.proofs.branches.base_of.Goals as goal
 
 pub loop-at-init : goal.loop-at-init
 unfolding sum_from
-loop-at-init g c = record { parts = λ q l. absurd (omega (arith, l)); sum = c.zero-base.ensures }
+loop-at-init g c = record { parts = λ q l. absurd (none_below _ l); sum = c.zero-base.ensures }
 
 pub loop-at-preserved : goal.loop-at-preserved
 loop-at-preserved g c =
@@ -33,7 +33,7 @@ loop-at-preserved g c =
       parts = λ q l. elim (cases_lt q at) [
         | inl less ↦ c.loop-at.invariant.parts q less
         | inr far ↦
-            let e : q ≡ at = omega (arith, l, far) in
+            let e : q ≡ at = last_one _ _ l far in
             subst (λ z. base z ≡ Some (part z)) (sym e) (sym here ∙ ap Some is)
       ];
       sum = c.join-base.ensures.sum ∙ ap (λ z. key_add d 16 z (g.R.Rank.key c.in_ok-part.part)) c.loop-at.invariant.sum

@@ -4,14 +4,21 @@ use Rattle.tdp_core.specs.RawView.{IsRawFormed}
 use Rattle.proof_check.proofs.Nodes.{all_nodes}
 use Rattle.proof_check.specs.Levels.{IsPassedAt}
 use Rattle.std.proofs.lemmas.Result.{IfOk-from_err}
-use Rattle.proof_check.proofs.Counts.{below_count}
+use Rattle.proof_check.proofs.choices.all_leave_after.Given.{Over}
+use Rattle.proof_check.proofs.choices.all_leave_after.Goals.{Start}
+use Rattle.proof_check.proofs.Counts.{below_count, last_one, none_below}
 use Rattle.proof_check.proofs.choices.all_leave_after.Goals as goal
+
+module _ (g : Over) where
+  -- the join tree has 16 places
+  has_room : (c : Start g) → length c.args.join.atom ≡ 16
+  has_room c = omega arith
 
 pub node_leaves_after-requires-clause-ready : goal.node_leaves_after-requires-clause-ready
 node_leaves_after-requires-clause-ready g c =
     let b = c.requires.bounded in
     let join = c.args.join in
-    let long : length join.atom ≡ 16 = omega arith in
+    let long = has_room g (goal.at.node_leaves_after-requires-clause-ready g c).Start in
     record {
       ordered = c.requires.ordered;
       bounded = b;
@@ -29,7 +36,7 @@ pub node_leaves_after-requires-clause-prefixes : goal.node_leaves_after-requires
 node_leaves_after-requires-clause-prefixes g c = c.loop-node.invariant.prefixes
 
 pub loop-node-init : goal.loop-node-init
-loop-node-init g c = record { prefixes = c.in_ok-prefixes.ensures; passed = λ p l. absurd (omega (arith, l)) }
+loop-node-init g c = record { prefixes = c.in_ok-prefixes.ensures; passed = λ p l. absurd (none_below _ l) }
 
 pub loop-node-preserved : goal.loop-node-preserved
 loop-node-preserved g c =
@@ -40,7 +47,7 @@ loop-node-preserved g c =
       passed = λ p l. elim (cases_lt p c.loop-node.node) [
         | inl less ↦ c.loop-node.invariant.passed p less
         | inr far ↦
-            let at : p ≡ c.loop-node.node = omega (arith, l, far) in
+            let at : p ≡ c.loop-node.node = last_one _ _ l far in
             subst (IsPassedAt c.args.join c.args.tree.now g.R.Rank.KEYS key c.args.places.now last) (sym at)
             (c.in-Ok-true.ensures.passed c.in-Ok-true.field-0-test)
       ];
@@ -48,11 +55,11 @@ loop-node-preserved g c =
 
 pub returns : goal.returns
 returns g c = record {
-  room = omega arith;
+  room = has_room g (goal.at.returns g c).Start;
   passed = λ _ p l.
       let b = c.requires.bounded in
       let join = c.args.join in
-      let long : length join.atom ≡ 16 = omega arith in
+      let long = has_room g (goal.at.returns g c).Start in
       c.loop-node.invariant.passed p (omega (
         arith,
         l,
@@ -67,21 +74,21 @@ returns g c = record {
 
 pub returns-in_err-prefixes : goal.returns-in_err-prefixes
 returns-in_err-prefixes g c = record {
-  room = omega arith;
+  room = has_room g (goal.at.returns-in_err-prefixes g c).Start;
   passed = IfOk-from_err c.from_residual.result _ c.from_residual.ensures.0;
   missed = IfOk-from_err c.from_residual.result _ c.from_residual.ensures.0;
 }
 
 pub returns-in-Ok-false : goal.returns-in-Ok-false
 returns-in-Ok-false g c = record {
-  room = omega arith;
+  room = has_room g (goal.at.returns-in-Ok-false g c).Start;
   passed = λ good. absurd (false≢true good);
   missed = λ _. c.in-Ok-false.ensures.missed c.in-Ok-false.field-0-test;
 }
 
 pub returns-in-Err : goal.returns-in-Err
 returns-in-Err g c = record {
-  room = omega arith;
+  room = has_room g (goal.at.returns-in-Err g c).Start;
   passed = tt;
   missed = tt;
 }

@@ -1,5 +1,5 @@
 use Rattle.std.proofs.Common.{length, refl, ap, ◌∙◌, arith, below_more}
-use Rattle.proof_check.proofs.Counts.{below_count}
+use Rattle.proof_check.proofs.Counts.{below_count, none_below}
 use Rattle.proof_check.proofs.covering.first_weak.Goals as goal
 
 pub returns-then-has_weak_row : goal.returns-then-has_weak_row
@@ -16,7 +16,7 @@ loop-node-preserved g c query tables cert few bounded =
     (c.if-has_weak_row.ensures.covered refl query tables cert few bounded)
 
 pub loop-node-init : goal.loop-node-init
-loop-node-init g c query tables cert few bounded v l = absurd (omega (arith, l))
+loop-node-init g c query tables cert few bounded v l = absurd (none_below _ l)
 
 pub has_weak_row-requires-clause-node : goal.has_weak_row-requires-clause-node
 has_weak_row-requires-clause-node g c =

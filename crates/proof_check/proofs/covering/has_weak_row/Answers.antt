@@ -1,10 +1,10 @@
-use Rattle.std.proofs.Common.{◌<◌, length, sym, ap, subst, ◌∙◌, arith, below_more}
+use Rattle.std.proofs.Common.{◌<◌, length, sym, ap, subst, ◌∙◌, below_more}
 use Rattle.std.proofs.lemmas.Bool.{false≢true}
 use Rattle.tdp_core.specs.RawView.{raw_len, raw_number}
 use Rattle.proof_model.specs.QueryProblem.{problem_in}
 use Rattle.proof_model.specs.Valid.{IsCovered}
 use Rattle.proof_check.proofs.Coverings.{not-true}
-use Rattle.proof_check.proofs.Counts.{at_list, below_count}
+use Rattle.proof_check.proofs.Counts.{at_list, below_count, none_below, within_end}
 use Rattle.proof_check.proofs.covering.has_weak_row.Goals as goal
 
 pub len-row-end-requires : goal.len-row-end-requires
@@ -40,12 +40,12 @@ returns g c = record {
       let at = bounded.rows.every_row v row node is_row in
       subst (λ r. IsCovered t cert v r) at.2
       (c.loop-row.invariant query tables cert few bounded at.0
-      (omega (arith, at.1, c.loop-row-test.false, c.len-row-end.ensures, ap (λ z. raw_len z.raw v) c.tree.view_is)));
+      (within_end _ _ _ (at_list _ _ _ at.1 (c.len-row-end.ensures ∙ ap (λ z. raw_len z.raw v) c.tree.view_is)) c.loop-row-test.false));
   weak = λ same. absurd (false≢true same);
 }
 
 pub loop-row-init : goal.loop-row-init
-loop-row-init g c query tables cert few bounded i l = absurd (omega (arith, l))
+loop-row-init g c query tables cert few bounded i l = absurd (none_below _ l)
 
 pub is_covered-requires-clause-row : goal.is_covered-requires-clause-row
 is_covered-requires-clause-row g c =

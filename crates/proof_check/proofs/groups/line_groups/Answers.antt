@@ -9,7 +9,7 @@ use Rattle.proof_check.specs.Lines.{AreLineGroups}
 use Rattle.proof_check.proofs.LineFaults.{groups_few, groups_more, line_is, node_read, node_within, rows_few, some_node_lem, twice}
 use Rattle.std.proofs.lemmas.Result.{IfOk-from_err}
 use Rattle.proof_check.proofs.Tellings.{told_err}
-use Rattle.proof_check.proofs.Counts.{at_index, at_list, ended, few_more, up_to}
+use Rattle.proof_check.proofs.Counts.{at_index, at_list, ended, few_more, none_below, up_to}
 use Rattle.proof_check.proofs.groups.line_groups.Goals as goal
 
 pub overflow_sub-node : goal.overflow_sub-node
@@ -154,6 +154,6 @@ loop-line-init g c =
     let count = c.nodes.ensures.count in
     record {
       each_node = ap length none ∙ length-replicate c.nodes.result [] ∙ count;
-      links = λ v l. ap (λ xs. get_or xs v []) none ∙ get_or-replicate c.nodes.result v [] [] (omega (arith, l, count));
-      apart = λ v i j l m. absurd (omega (arith, m));
+      links = λ v l. ap (λ xs. get_or xs v []) none ∙ get_or-replicate c.nodes.result v [] [] (at_list _ _ _ l count);
+      apart = λ v i j l m. absurd (none_below _ m);
     }

@@ -1,12 +1,12 @@
-use Rattle.std.proofs.Common.{◌≡◌, None, Some, map, option_map, slice_index_or, sym, ap, subst, ◌∙◌, inl, inr, arith}
+use Rattle.std.proofs.Common.{◌≡◌, None, Some, map, option_map, slice_index_or, sym, ap, subst, ◌∙◌, inl, inr}
 use Rattle.std.proofs.lemmas.Bool.{cases_lt, false≢true}
 use Rattle.std.proofs.lemmas.List.{get_or_default, length-map}
 use Rattle.proof_check.specs.Levels.{IsFirstPast}
-use Rattle.proof_check.proofs.Counts.{at_list}
+use Rattle.proof_check.proofs.Counts.{at_list, last_one, none_below, within_end}
 use Rattle.proof_check.proofs.leaving.branches_leave_after.Goals as goal
 
 pub loop-number-init : goal.loop-number-init
-loop-number-init g c n b l e = absurd (omega (arith, l))
+loop-number-init g c n b l e = absurd (none_below _ l)
 
 pub branch_leaves_after-requires-clause-group : goal.branch_leaves_after-requires-clause-group
 branch_leaves_after-requires-clause-group g c b e =
@@ -25,7 +25,7 @@ pub loop-number-preserved : goal.loop-number-preserved
 loop-number-preserved g c n b l e = elim (cases_lt n c.loop-number.number) [
   | inl less ↦ c.loop-number.invariant n b less e
   | inr far ↦
-      let at : n ≡ c.loop-number.number = omega (arith, l, far) in
+      let at : n ≡ c.loop-number.number = last_one _ _ l far in
       let is : c.index-branches-number.result ≡ Some b =
       c.index-branches-number.is
       ∙ get_or_default c.args.branches.now c.loop-number.number c.index-branches-number.result None c.loop-number-test.true
@@ -38,7 +38,7 @@ pub returns : goal.returns
 returns g c = record {
   passed = λ _ n b l e.
       let end = c.loop-number-test.false in
-      c.loop-number.invariant n b (omega (arith, l, end)) e;
+      c.loop-number.invariant n b (within_end _ _ _ l end) e;
   missed = λ bad. absurd (false≢true (sym bad));
 }
 

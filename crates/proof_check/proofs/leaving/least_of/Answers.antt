@@ -3,6 +3,7 @@ use Rattle.std.proofs.Math.ListN.{set}
 use Rattle.std.proofs.lemmas.List.{get_or_default, length-set}
 use Rattle.proof_check.specs.Levels.{AreLeast, IsLesser}
 use Rattle.proof_check.proofs.Least.{least_kept, least_lowered, none_least}
+use Rattle.proof_check.proofs.Counts.{at_list}
 use Rattle.proof_check.proofs.leaving.least_of.Goals as goal
 use Rattle.proof_check.proofs.leaving.least_of.Goals.{in-None, in-Some}
 
@@ -19,8 +20,7 @@ lower-requires g c =
     ∙ sym c.index-branches-n.is ∙ c.in-Some.is in
     let l = c.requires.within c.loop-n.n c.in-Some.branch c.loop-n-test.true here in
     let n = c.loop-n.invariant.count in
-    let v = c.loop-n.least in
-    omega (arith, l, n)
+    at_list _ _ _ l (c.loop-n.least.ok.0 ∙ n)
 
 pub loop-n-preserved : goal.loop-n-preserved
 loop-n-preserved g c =

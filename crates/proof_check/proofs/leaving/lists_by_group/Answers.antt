@@ -5,12 +5,13 @@ use Rattle.std.proofs.lemmas.Result.{IfOk-from_err}
 use Rattle.tdp_core.specs.RawView.{raw_len}
 use Rattle.proof_check.specs.Levels.{AreLists, AreOffers, FitsRows}
 use Rattle.proof_check.proofs.Walking.{lists_more, row_fits, row_in}
+use Rattle.proof_check.proofs.Counts.{none_below}
 use Rattle.proof_check.proofs.leaving.lists_by_group.Goals as goal
 
 pub loop-group-init : goal.loop-group-init
 loop-group-init g c = record {
   count = ap (λ xs. length (map (λ v. v.items) xs)) c.new-lists.ensures.items;
-  each = λ h k l e. absurd (omega (arith, l));
+  each = λ h k l e. absurd (none_below _ l);
 }
 
 pub group-rows-requires : goal.group-rows-requires

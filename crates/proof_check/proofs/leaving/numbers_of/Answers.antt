@@ -1,6 +1,7 @@
 use Rattle.std.proofs.Common.{◌≡◌, ◌+◌, [], ◌∷◌, None, length, length-append, slice_index_or, unwrap_or, ap, ◌∙◌, arith}
 use Rattle.std.proofs.lemmas.Result.{IfOk-from_err}
 use Rattle.proof_check.proofs.Nothing.{numbers_more}
+use Rattle.proof_check.proofs.Counts.{none_below}
 use Rattle.proof_check.proofs.leaving.numbers_of.Goals as goal
 
 pub returns : goal.returns
@@ -25,7 +26,7 @@ returns-in_err-push c = record {
 }
 
 pub loop-i-init : goal.loop-i-init
-loop-i-init c = record { count = ap length c.new-numbers.ensures.items; each = λ k l. absurd (omega (arith, l)) }
+loop-i-init c = record { count = ap length c.new-numbers.ensures.items; each = λ k l. absurd (none_below _ l) }
 
 pub loop-i-preserved : goal.loop-i-preserved
 loop-i-preserved c =

@@ -1,4 +1,4 @@
-use Rattle.std.proofs.Common.{◌≡◌, ◌+◌, ◌-◌, ◌<◌, ◌++◌, ◌∷◌, [], ℕ, suc, length, map, get_or, refl, sym, ap, subst, ◌∙◌, inl, inr, arith}
+use Rattle.std.proofs.Common.{◌≡◌, ◌+◌, ◌-◌, ◌<◌, ◌++◌, ◌∷◌, [], ℕ, suc, length, map, get_or, refl, sym, ap, subst, ◌∙◌, inl, inr}
 use Rattle.std.proofs.Math.ListN.{length-set, set}
 use Rattle.std.proofs.lemmas.List.{length-map}
 use Rattle.proof_text.specs.Certificate.{BoundLine}
@@ -12,7 +12,7 @@ use Rattle.proof_check.proofs.LineFaults.{first_bad, line_is, line_number, lines
 use Rattle.proof_check.proofs.Pushed.{part_more}
 use Rattle.std.proofs.lemmas.Result.{IfOk-from_err}
 use Rattle.proof_check.proofs.Tellings.{told_err}
-use Rattle.proof_check.proofs.Counts.{at_list, ended, line_below, line_index, line_pred, line_some, line_suc, line_within}
+use Rattle.proof_check.proofs.Counts.{at_list, ended, line_below, line_index, line_pred, line_some, line_suc, line_within, none_below}
 use Rattle.proof_check.proofs.lines.placed_lines.Goals as goal
 
 pub loop-bound-init : goal.loop-bound-init
@@ -21,9 +21,9 @@ loop-bound-init g c = record {
   placed = λ query tables join few has. record {
     count = ap length c.new-tops.ensures.items;
     each_node = length-map c.in_ok-bounds.bounds.items (λ b. b.ranks.items) ∙ c.in_ok-bounds.ensures.count ∙ c.nodes.ensures.count;
-    solutions = λ i l. absurd (omega (arith, l));
-    within = λ v i l e. absurd (omega (arith, l));
-    numbers = λ v i l e. absurd (omega (arith, l));
+    solutions = λ i l. absurd (none_below _ l);
+    within = λ v i l e. absurd (none_below _ l);
+    numbers = λ v i l e. absurd (none_below _ l);
     keys = λ v l. ap (map g.R.Rank.key) (c.in_ok-bounds.ensures.empty v);
   };
 }

@@ -5,7 +5,7 @@ use Rattle.tdp_core.proofs.RawReads.{list_read}
 use Rattle.proof_check.specs.Lines.{AreNamed}
 use Rattle.proof_check.proofs.Pushed.{new_part, old_part, same_part}
 use Rattle.std.proofs.lemmas.Result.{IfOk-from_err}
-use Rattle.proof_check.proofs.Counts.{at_list, below_count}
+use Rattle.proof_check.proofs.Counts.{at_list, below_count, none_below}
 use Rattle.proof_check.proofs.names.name_all.Goals as goal
 
 pub returns-in_err-name_groups : goal.returns-in_err-name_groups
@@ -19,7 +19,7 @@ returns-in_err-name_groups g c = record {
 }
 
 pub loop-node-init : goal.loop-node-init
-loop-node-init g c = record { each_node = c.requires.each_node; named = λ v l. absurd (omega (arith, l)); ranks = refl }
+loop-node-init g c = record { each_node = c.requires.each_node; named = λ v l. absurd (none_below _ l); ranks = refl }
 
 pub loop-node-preserved : goal.loop-node-preserved
 loop-node-preserved g c =

@@ -2,6 +2,7 @@ use Rattle.std.proofs.Common.{◌≡◌, ◌+◌, ◌∷◌, [], None, nat_eq, p
 use Rattle.std.proofs.lemmas.Result.{IfOk-from_err}
 use Rattle.proof_check.specs.Lines.{AreNumbers, row_link}
 use Rattle.proof_check.proofs.Pushed.{pushed_more}
+use Rattle.proof_check.proofs.Counts.{none_below}
 use Rattle.proof_check.proofs.names.row_numbers.Goals as goal
 
 pub returns-in_err-numbers : goal.returns-in_err-numbers
@@ -11,7 +12,7 @@ pub returns-in_err-push : goal.returns-in_err-push
 returns-in_err-push g c = IfOk-from_err c.from_residual-in_err-push.result _ c.from_residual-in_err-push.ensures.0
 
 pub loop-row-init : goal.loop-row-init
-loop-row-init g c = record { count = ap length c.in_ok-numbers.ensures.items; each = λ r l. absurd (omega (arith, l)) }
+loop-row-init g c = record { count = ap length c.in_ok-numbers.ensures.items; each = λ r l. absurd (none_below _ l) }
 
 pub loop-row-preserved : goal.loop-row-preserved
 loop-row-preserved g c = record {

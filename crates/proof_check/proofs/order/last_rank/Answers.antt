@@ -7,6 +7,7 @@ use Rattle.proof_model.specs.Valid.{answer_at, answer_key}
 use Rattle.proof_check.specs.BoundedRows.{query_key}
 use Rattle.proof_check.proofs.AnswerLists.{seen_at, seen_count}
 use Rattle.proof_check.proofs.Ordering.{behind, last_key, ordered_next, rank_next, test_of}
+use Rattle.proof_check.proofs.Counts.{none_below}
 use Rattle.proof_check.proofs.order.last_rank.Goals as goal
 
 pub rank_of_places-rank-requires-clause-solution : goal.rank_of_places-rank-requires-clause-solution
@@ -80,7 +81,7 @@ returns g c = record {
 }
 
 pub loop-i-init : goal.loop-i-init
-loop-i-init g c query tables join few tree answers = (refl, λ i l. absurd (omega (arith, l)))
+loop-i-init g c query tables join few tree answers = (refl, λ i l. absurd (none_below _ l))
 
 pub index-requires : goal.index-requires
 index-requires g c =

@@ -47,7 +47,7 @@ is_linked-requires-clause-above g c =
     let shaped = c.nodes-nodes.ensures.formed.shaped in
     let inside : c.loop-at.at < length c.args.raw.now.shapes = below_count _ _ _ c.loop-at-test.true c.nodes-nodes.ensures.count in
     let up = ap (λ s. s.parent) c.shape.ensures in
-    let low = parents_first_lem c.args.raw.now shaped c.loop-at.at (omega arith) inside in
+    let low = parents_first_lem c.args.raw.now shaped c.loop-at.at (above_root _ _ c.if-at-node.true) inside in
     let below = c.subtree-below.ensures c.loop-at.at inside in
     let some : 0 < raw_below c.args.raw.now c.args.node c.loop-at.at = some_of _ _ below c.if-below-at-eq0.false in
     subst (λ p. get_or c.loop-at.places p 0 < raw_len c.args.raw.now (shape_parent c.args.raw.now.shapes c.loop-at.at)) (sym up)
@@ -59,7 +59,7 @@ returns-then-not-is_linked g c = λ query tables join has s.
     let shaped = c.nodes-nodes.ensures.formed.shaped in
     let inside : c.loop-at.at < length c.args.raw.now.shapes = below_count _ _ _ c.loop-at-test.true c.nodes-nodes.ensures.count in
     let up = ap (λ s. s.parent) c.shape.ensures in
-    let low = parents_first_lem c.args.raw.now shaped c.loop-at.at (omega arith) inside in
+    let low = parents_first_lem c.args.raw.now shaped c.loop-at.at (above_root _ _ c.if-at-node.true) inside in
     let below = c.subtree-below.ensures c.loop-at.at inside in
     let some : 0 < raw_below c.args.raw.now c.args.node c.loop-at.at = some_of _ _ below c.if-below-at-eq0.false in
     let upper = below_up c.args.raw.now shaped c.args.node c.loop-at.at c.if-at-node.true inside some in
@@ -100,7 +100,7 @@ bounds-rows-item_place g c =
     let some : 0 < raw_below c.args.raw.now c.args.node c.loop-at.at = some_of _ _ below c.if-below-at-eq0.false in
     let within = c.item_place.ensures.within c.args.node c.requires c.subtree-below.ensures some in
     let size = c.size.ensures c.args.node c.requires c.subtree-below.ensures in
-    let long = c.if-rows-size.false in omega (arith, within, size, long)
+    below_count _ _ _ within (sym (c.if-rows-size.false ∙ size))
 
 pub row_place-requires : goal.row_place-requires
 row_place-requires g c = below_count _ _ _ c.loop-at-test.true c.nodes-nodes.ensures.count

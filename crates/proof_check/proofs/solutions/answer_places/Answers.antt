@@ -10,6 +10,7 @@ use Rattle.proof_model.specs.Valid.{answer_at}
 use Rattle.proof_check.specs.Places.{ArePlacesOf}
 use Rattle.proof_check.proofs.AnswerLists.{seen_at, seen_count, all_before, at_last}
 use Rattle.proof_check.proofs.Tellings.{told_err}
+use Rattle.proof_check.proofs.Counts.{none_below}
 use Rattle.proof_check.proofs.solutions.answer_places.Goals as goal
 
 pub returns-in-None : goal.returns-in-None
@@ -89,7 +90,7 @@ returns g c = record {
 pub loop-answer-init : goal.loop-answer-init
 loop-answer-init g c = record {
   long = ap length c.in_ok-places.ensures.items;
-  each = λ query tables join tree i l. absurd (omega (arith, l));
+  each = λ query tables join tree i l. absurd (none_below _ l);
 }
 
 pub returns-in_err-push-in-Some : goal.returns-in_err-push-in-Some
