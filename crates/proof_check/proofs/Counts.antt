@@ -64,3 +64,10 @@ within_end m n i l end = omega (arith, l, end)
 
 pub no_more : (n : ℕ) → n ≤ n
 no_more n = omega arith
+
+-- a count of places that are 0 or 1
+pub few_added : (new old b r n : ℕ) → new ≡ old + b → b ≡ r → r ≤ 1 → old ≤ n → new ≤ n + 1
+few_added new old b r n e is small few = omega (arith, e, is, small, few)
+
+pub few_same : (new old n : ℕ) → new ≡ old → old ≤ n → new ≤ n + 1
+few_same new old n e few = omega (arith, e, few)

@@ -7,7 +7,7 @@ use Rattle.proof_check.specs.BoundedRows.{BoundedView, bound_ranks, named_bound}
 use Rattle.proof_model.specs.QueryProblem.{problem_in}
 use Rattle.proof_check.proofs.Nodes.{all_nodes, parent_at}
 use Rattle.proof_check.specs.Levels.{IsGroupOf}
-use Rattle.proof_check.proofs.Counts.{at_list}
+use Rattle.proof_check.proofs.Counts.{at_list, some_of}
 use Rattle.proof_check.proofs.branches.group_of.Goals as goal
 
 pub named_number-requires-clause-node : goal.named_number-requires-clause-node
@@ -25,7 +25,7 @@ named_number-requires-clause-above g c =
     let t = problem_in b.query b.tables join in
     let long = c.requires.ready.long in
     let l : q < t.nodes = at_list _ _ _ c.requires.ready.node (all_nodes b.query b.tables join c.requires.ready.ordered long) in
-    let some : 0 < q = let x = c.if-node-eq0.false in omega (arith, x) in
+    let some : 0 < q = some_of q q refl c.if-node-eq0.false in
     let up = parent_at b.query b.tables join c.requires.ready.ordered long q l in
     let row : slice_index c.args.start.now (slice_index join.parent q) < raw_len c.args.tree.now.raw (t.parent q) =
     subst (λ u. slice_index c.args.start.now (slice_index join.parent q) < raw_len c.args.tree.now.raw u) (sym up)
@@ -42,7 +42,7 @@ returns g c =
     let t = problem_in b.query b.tables join in
     let long = c.requires.ready.long in
     let l : q < t.nodes = at_list _ _ _ c.requires.ready.node (all_nodes b.query b.tables join c.requires.ready.ordered long) in
-    let some : 0 < q = let x = c.if-node-eq0.false in omega (arith, x) in
+    let some : 0 < q = some_of q q refl c.if-node-eq0.false in
     let up = parent_at b.query b.tables join c.requires.ready.ordered long q l in
     let above : ℕ = slice_index c.args.start.now (slice_index join.parent q) in
     let row : above < raw_len tree.raw (t.parent q) =

@@ -29,6 +29,9 @@ told_first query tables join c shape is first told (inl e) = subst (TellsFlaw qu
 told_first query tables join c shape is first told (inr e) =
     subst (TellsFlaw query tables join c) (sym e.0) (shape, is, missed, refl, first e.1)
 
+pub rows_of-requires-clause-few : goal.rows_of-requires-clause-few
+rows_of-requires-clause-few g c = c.requires.ordered.few
+
 pub rows_of-requires-clause-each : goal.rows_of-requires-clause-each
 rows_of-requires-clause-each g c =
     let join = c.args.join.now in

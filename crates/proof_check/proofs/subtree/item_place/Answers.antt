@@ -2,7 +2,7 @@ use Rattle.std.proofs.Common.{◌+◌, ◌<◌, length, sym, ap, ◌∙◌, arit
 use Rattle.rankings.specs.TreeProblem.{sum_from}
 use Rattle.step_bounds.proofs.NodeSums.{sum_none}
 use Rattle.proof_check.proofs.Subtrees.{before, below_small, place_more, place_same, place_within}
-use Rattle.proof_check.proofs.Counts.{below_count, ended}
+use Rattle.proof_check.proofs.Counts.{below_count, ended, few_added, few_same}
 use Rattle.proof_check.proofs.subtree.item_place.Goals as goal
 use Rattle.proof_check.proofs.subtree.item_place.Goals.{then-shape-item, else-shape-item}
 
@@ -29,13 +29,13 @@ loop-other-preserved g c =
     let there = ap (λ s. s.item) c.shape-in-loop-other.ensures in
     elim c.if-shape-item.branch [
       | then-shape-item w ↦ record {
-        few = omega (arith, at, small, c.loop-other.invariant.few, w.place-is);
+        few = few_added _ _ _ _ _ w.place-is at small c.loop-other.invariant.few;
         sum = λ v l are. w.place-is
             ∙ place_more c.args.raw.now c.nodes-nodes.ensures.formed.shaped v c.args.node c.loop-other.other c.loop-other.place
             c.args.below.now are inside (omega (arith, here, there, w.if-shape-item.true)) (c.loop-other.invariant.sum v l are);
       }
       | else-shape-item w ↦ record {
-        few = omega (arith, c.loop-other.invariant.few, w.place-is);
+        few = few_same _ _ _ w.place-is c.loop-other.invariant.few;
         sum = λ v l are. w.place-is
             ∙ place_same c.args.raw.now c.nodes-nodes.ensures.formed.shaped v c.args.node c.loop-other.other c.loop-other.place
             (omega (arith, here, there, w.if-shape-item.false)) (c.loop-other.invariant.sum v l are);

@@ -1,9 +1,9 @@
-use Rattle.std.proofs.Common.{◌+◌, ◌<◌, length, sym, ap, ◌∙◌, arith}
+use Rattle.std.proofs.Common.{◌+◌, ◌<◌, length, refl, sym, ap, ◌∙◌, arith}
 use Rattle.rankings.specs.TreeProblem.{sum_from}
 use Rattle.proof_check.specs.Subtrees.{raw_below}
 use Rattle.step_bounds.proofs.NodeSums.{sum_none}
 use Rattle.proof_check.proofs.Subtrees.{below_small, size_more}
-use Rattle.proof_check.proofs.Counts.{below_count, ended}
+use Rattle.proof_check.proofs.Counts.{below_count, ended, few_added}
 use Rattle.proof_check.proofs.subtree.size.Goals as goal
 
 pub loop-node-init : goal.loop-node-init
@@ -23,7 +23,7 @@ loop-node-preserved g c =
     let at = c.requires.2 c.loop-node.node inside in
     let small = below_small c.args.raw.now c.nodes-nodes.ensures.formed.shaped c.requires.0 c.loop-node.node inside in
     record {
-      few = omega (arith, at, small, c.loop-node.invariant.few);
+      few = few_added _ _ _ _ _ refl at small c.loop-node.invariant.few;
       sum = λ v l are.
           size_more c.args.raw.now c.nodes-nodes.ensures.formed.shaped v c.loop-node.node c.loop-node.size c.args.below.now are inside
           (c.loop-node.invariant.sum v l are);
