@@ -1,3 +1,4 @@
+pub mod Counts
 pub mod Chosen
 pub mod Given
 pub mod Groups

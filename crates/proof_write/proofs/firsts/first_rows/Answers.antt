@@ -2,6 +2,7 @@ use Rattle.std.proofs.Common.{◌≡◌, ◌<◌, length, sym, subst, ap, arith}
 use Rattle.tdp_core.specs.TreeView.{item, parent, rows}
 use Rattle.tdp_core.proofs.TreeFacts.{member_is_row}
 use Rattle.proof_write.proofs.Chosen.{chosen_all, chosen_start, chosen_under, next_none, next_some}
+use Rattle.proof_write.proofs.Counts.{below_count}
 use Rattle.proof_write.proofs.firsts.first_rows.Goals as goal
 use Rattle.proof_write.proofs.firsts.first_rows.Goals.{in-Some, in_default}
 
@@ -40,7 +41,7 @@ loop-below-preserved g c =
     let so_far = c.loop-below.invariant in
     let n = c.loop-below.below in
     let after : v < n = omega (arith, c.loop-below.auto.below) in
-    let l : n < length t = omega (arith, c.loop-below-test.true, c.nodes-nodes.ensures.count) in
+    let l : n < length t = below_count _ _ _ c.loop-below-test.true c.nodes-nodes.ensures.count in
     let old = c.loop-below.chosen in
     let first = c.first_below.ensures.first in
     elim c.match-first_below.branch [
@@ -72,7 +73,7 @@ first_below-requires-clause-rows g c row is =
     let n = c.loop-below.below in
     let formed = c.nodes-nodes.ensures.formed in
     let after : v < n = omega (arith, c.loop-below.auto.below) in
-    let l : n < length t = omega (arith, c.loop-below-test.true, c.nodes-nodes.ensures.count) in
+    let l : n < length t = below_count _ _ _ c.loop-below-test.true c.nodes-nodes.ensures.count in
     let low = formed.shaped.parents_first n (omega (arith, after)) l in
     (chosen_under g.R.Rank.KEYS g.R.Rank.key t formed v c.args.group c.requires.node n
     c.loop-below.chosen c.loop-below.rows c.loop-below.invariant
