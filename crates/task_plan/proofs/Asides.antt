@@ -1,14 +1,19 @@
 -- The script or the certificate, if there is one.
-use Rattle.std.proofs.Common.{◌≡◌, ℕ, List, [], Some, None, Result, Ok, Err, refl, sym, ap, ◌∙◌}
+use Rattle.std.proofs.Common.{◌≡◌, ℕ, List, [], Some, None, Result, Ok, Err, refl, sym, ap, ◌∙◌, arith}
 use Rattle.outer_io.specs.Files.{Files}
 use Rattle.refusal_lines.specs.Reason as reason
 use Rattle.refusal_lines.specs.Reason.{Reason}
+use Rattle.session_script.specs.Script.{KeepsRules}
 use Rattle.verdict.specs.Loading.{Beside, beside_in, file_in, proof_said, steps_said, with_proof, with_steps}
 use Rattle.verdict.specs.StageResults.{NoTurn, Pure, Shelved, Staged}
 use Rattle.verdict.specs.Stages.{Is, then_by}
 use Rattle.verdict.specs.Words.{Aside, aside_name, certificate, nothing, script}
 use Rattle.verdict.proofs.Staging.{found_within, pure_staged, refusal_within, wider_staged}
 use Rattle.task_plan.specs.Sought.{beside_said}
+
+-- a script without a step
+pub no_steps : KeepsRules [] []
+no_steps = omega arith
 
 -- what a part says, and what is known then
 module _ {A : Type 0} (with : A → Beside) where

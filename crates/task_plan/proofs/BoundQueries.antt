@@ -1,13 +1,17 @@
 -- The queries of selects that are bound one after another.
-use Rattle.std.proofs.Common.{◌≡◌, ◌+◌, ◌<◌, ◌≤◌, ◌∷◌, ◌++◌, [], ℕ, suc, zero, List, length, drop, take, get_or, Option, option_map, Result, Ok, Err, refl, sym, ap, subst, ◌∙◌, arith}
+use Rattle.std.proofs.Common.{◌≡◌, ◌+◌, ◌<◌, ◌≤◌, ◌∷◌, ◌++◌, [], ℕ, suc, zero, List, length, drop, take, get_or, Option, None, option_map, Result, Ok, Err, refl, sym, ap, subst, ◌∙◌, arith}
 use Rattle.std.proofs.lemmas.List.{append_assoc, append-nil, drop_all, drop_at, drop_more, length_push, map-append, take_at}
 use Rattle.std.proofs.lemmas.List.Elements.{All-nil, All-push}
+use Rattle.std.specs.Prelude.{IsErrAnd}
 use Rattle.std.specs.List.{All, AllByRecursion, position_or_len}
 use Rattle.std.specs.Str.{bytes_eq}
 use Rattle.anyk_model.specs.Query.{Query}
 use Rattle.anyk_model.specs.Table.{Table}
+use Rattle.query_bind.specs.Answers.{Tells}
 use Rattle.query_bind.specs.Bind.{bind_fault}
 use Rattle.query_bind.specs.Binding.{bound_query}
+use Rattle.query_bind.specs.declared.fault.BindFault.{BindFault}
+use Rattle.query_bind.specs.declared.fault.BindFault.TheVariants as bind
 use Rattle.bound_query.specs.WeighedQuery.{BoundQuery, Fits}
 use Rattle.query_select.specs.declared.select.ItemRef.{ItemRef}
 use Rattle.query_select.specs.declared.select.Select.{Select}
@@ -18,7 +22,9 @@ use Rattle.verdict.specs.StageResults.{Pure}
 use Rattle.session_script.specs.Script.{unless}
 use Rattle.verdict.specs.Stages.{Is, then_by}
 use Rattle.verdict.specs.AcceptedInput.{queries_in}
+use Rattle.task_plan.specs.StageViews.{BindsEach}
 use Rattle.task_plan.proofs.AllItems.{items_left, pure_as}
+use Rattle.task_plan.proofs.Faults.{bind_refused}
 
 -- ---- the numbers of the tables of items
 
@@ -124,11 +130,14 @@ module _ (selects : List Select) (tables : List Table) (i : ℕ) (select : Selec
       ∙ so_far.bound
 
   -- the select at i is bound to a query
-  pub queries_more : (own left : List ℕ) (branch : Option ℕ) (query : BoundQuery) (now : List BoundQuery)
-      → own ≡ take (length select.items) rest → left ≡ drop (length select.items) rest → branch ≡ told_branch (are_several selects) (i + 1)
-      → Ok query.query ≡ bound_by own branch → Fits query tables → now ≡ queries ++ query ∷ []
+  pub queries_more : (own left : List ℕ) (query : BoundQuery) (now : List BoundQuery)
+      → own ≡ take (length select.items) rest → left ≡ drop (length select.items) rest
+      → query.query ≡ bound_query select tables own → bind_fault select tables own ≡ None → Fits query tables → now ≡ queries ++ query ∷ []
       → HasQueries selects tables (i + 1) left now
-  queries_more own left branch query now own_is left_is branch_is bound fits pushed =
+  queries_more own left query now own_is left_is means sound fits pushed =
+      let branch = told_branch (are_several selects) (i + 1) in
+      let bound : Ok query.query ≡ bound_by own branch =
+      ap Ok means ∙ sym (ap (λ (fault : Option BindFault). unless (option_map (of_bind branch) fault) (bound_query select tables own)) sound) in
       let P : List ℕ → Type 0 = AllByRecursion (λ t. t < length tables) in
       let Q : List BoundQuery → Type 0 = All (λ (q : BoundQuery). Fits q tables) in
       let shown : queries_in now ≡ queries_in queries ++ query.query ∷ [] = ap queries_in pushed ∙ map-append (λ (q : BoundQuery). q.query) queries (query ∷ []) in
@@ -139,7 +148,7 @@ module _ (selects : List Select) (tables : List Table) (i : ℕ) (select : Selec
         known = subst P (sym left_is) (all_drop (λ t. t < length tables) (length select.items) rest so_far.known);
         count = omega (arith, longer, so_many);
         bound = ap (λ (l : List Query). after l later) shown ∙ sym (after_one (queries_in queries) query.query later)
-            ∙ ap (λ (r : Result Query Reason). after (queries_in queries) (and_then r later)) (bound ∙ bound_here own branch own_is branch_is) ∙ whole_is;
+            ∙ ap (λ (r : Result Query Reason). after (queries_in queries) (and_then r later)) (bound ∙ bound_here own branch own_is refl) ∙ whole_is;
         fits = subst Q (sym pushed) (All-push (λ (q : BoundQuery). Fits q tables) queries query so_far.fits fits);
       }
 
@@ -150,10 +159,45 @@ module _ (selects : List Select) (tables : List Table) (i : ℕ) (select : Selec
       pure_as (Is (bound_by own branch)) (Is (bound_in selects tables)) e
       (λ h. ap (λ (r : Result Query Reason). after (queries_in queries) (and_then r later)) (h ∙ bound_here own branch own_is branch_is) ∙ whole_is)
 
+  -- it has a fault
+  pub each_refused : (own : List ℕ) (fault : BindFault) → own ≡ take (length select.items) rest → Tells (bind_fault select tables own) fault
+      → BindsEach selects tables queries (Err fault)
+  each_refused own fault own_is tells =
+      let so_many = so_far.count in
+      let branch = told_branch (are_several selects) (length queries + 1) in
+      let same : branch ≡ told_branch (are_several selects) (i + 1) = ap (λ (n : ℕ). told_branch (are_several selects) (n + 1)) so_many in
+      let refused = bind_refused branch (bind_fault select tables own) (bound_query select tables own) fault tells in
+      record {
+        bound = queries_refused own branch (of_bind branch fault) own_is same refused;
+        count = tt;
+        fits = tt;
+        few = omega (arith, so_many, inside);
+      }
+
+  -- memory was refused
+  pub each_stopped : (r : Result (Unit {0}) BindFault) (now : List BoundQuery) → IsErrAnd r (λ e. e ≡ bind.NoMemory) → now ≡ queries
+      → BindsEach selects tables now r
+  each_stopped (Ok done) now gives same = absurd gives
+  each_stopped (Err fault) now gives same =
+      let so_many = so_far.count in
+      let as_many = ap length same in
+      rw gives (record { bound = tt; count = tt; fits = tt; few = omega (arith, so_many, inside, as_many) })
+
 -- all selects are bound
-pub queries_end : (selects : List Select) (tables : List Table) (i : ℕ) (rest : List ℕ) (queries : List BoundQuery) → length selects ≤ i
+queries_end : (selects : List Select) (tables : List Table) (i : ℕ) (rest : List ℕ) (queries : List BoundQuery) → length selects ≤ i
     → HasQueries selects tables i rest queries → Is (bound_in selects tables) (Ok (queries_in queries))
 queries_end selects tables i rest queries end h =
     sym (sym h.bound
     ∙ ap (λ (l : List Select). after (queries_in queries) (bound_from (first_uses (all_items selects)) tables (are_several selects) (i + 1) l)) (drop_all i selects end)
     ∙ ap Ok (append-nil (queries_in queries)))
+
+pub each_end : (selects : List Select) (tables : List Table) (i : ℕ) (rest : List ℕ) (queries : List BoundQuery) → length selects ≤ i → i ≤ length selects
+    → HasQueries selects tables i rest queries → BindsEach selects tables queries (Ok tt)
+each_end selects tables i rest queries end within h =
+    let so_many = h.count in
+    record {
+      bound = queries_end selects tables i rest queries end h;
+      count = omega (arith, so_many, end, within);
+      fits = h.fits;
+      few = tt;
+    }

@@ -1,5 +1,5 @@
 -- The faults of the parts as refusals of their stages.
-use Rattle.std.proofs.Common.{◌≡◌, inl, inr, ℕ, List, Option, Some, None, option_map, Err, ap, refl, sym, ◌≤◌, ◌∷◌, ◌++◌, [], true, false, Ok, arith, subst, length, map}
+use Rattle.std.proofs.Common.{◌≡◌, inl, inr, ℕ, List, Option, Some, None, option_map, Err, ap, refl, sym, ◌≤◌, ◌∷◌, ◌++◌, [], true, false, Ok, arith, subst, length, map, ◌∙◌}
 use Rattle.std.proofs.lemmas.List.{length-append, length-map}
 use Rattle.std.specs.List.{AllByRecursion}
 use Rattle.query_grammar.specs.declared.fault.ParseFault.{ParseFault}
@@ -12,7 +12,7 @@ use Rattle.csv_tables.specs.declared.fault.TableFault.{TableFault}
 use Rattle.csv_tables.specs.Faults.{fault_of}
 use Rattle.csv_tables.specs.Faults as tables
 use Rattle.anyk_model.specs.Query.{Query}
-use Rattle.anyk_model.specs.Table.{Flaw, Table, no_header, too_many_columns, duplicate_name, too_many_rows, ragged}
+use Rattle.anyk_model.specs.Table.{Flaw, Table, flaw_of, records_of, table_of, no_header, too_many_columns, duplicate_name, too_many_rows, ragged}
 use Rattle.session_script.specs.declared.fault.ScriptFault.{ScriptFault}
 use Rattle.session_script.specs.declared.fault.ScriptFault.TheVariants as script
 use Rattle.session_script.specs.declared.step.Step.{Step}
@@ -22,7 +22,7 @@ use Rattle.proof_text.specs.Certificate.{Certificate}
 use Rattle.proof_text.specs.Reading.{Fails as FailsToRead, proof_of}
 use Rattle.session_script.specs.Script.{Fails, steps_of}
 use Rattle.verdict.specs.Faults.{of_bind, of_flaw, of_parse, of_proof, of_script}
-use Rattle.verdict.specs.Loading.{IsParse, IsParseAll, IsReading, all_items, branches_of, proof_said, steps_said, told_proof, told_steps}
+use Rattle.verdict.specs.Loading.{IsParse, IsParseAll, IsReading, all_items, branches_of, proof_said, sound_table, steps_said, told_proof, told_steps}
 use Rattle.session_script.specs.Script.{unless}
 use Rattle.verdict.specs.Stages.{Is, followed}
 use Rattle.verdict.proofs.Staging.{pure_refused}
@@ -64,6 +64,9 @@ one_refused bytes fault h = pure_refused (IsParse bytes) (λ select. Is (Ok (sel
 
 pub branches_refused : (bytes : List ℕ) (fault : ParseFault) → ParsesAll bytes (Err fault) → Pure (IsReading true bytes) (Err (of_parse fault))
 branches_refused bytes fault h = pure_refused (IsParseAll bytes) (λ all. Is (Ok (branches_of all))) (of_parse fault) (parse_all_told bytes fault h)
+
+pub one_read : (bytes : List ℕ) (select : Select) (selects : List Select) → Parses bytes (Ok select) → selects ≡ select ∷ [] → IsReading false bytes (Ok selects)
+one_read bytes select selects h is = followed {a = select} h (ap Ok is)
 
 pub branches_read : (bytes : List ℕ) (all : SelectAll) (selects : List Select) → ParsesAll bytes (Ok all) → selects ≡ branches_of all → IsReading true bytes (Ok selects)
 branches_read bytes all selects h is = followed {a = all} h (ap Ok is)
@@ -130,6 +133,13 @@ table_refused name old t None fault (inr e) = cc
 table_refused name old t (Some flaw) fault (inr e) =
     let is : fault_of flaw ≡ fault = cc in
     rw (sym is) (flaw_refused name old t flaw)
+
+-- a table without a flaw
+pub table_added : (name bytes : List ℕ) (old new : List Table) → new ≡ old ++ table_of (records_of bytes) ∷ [] → flaw_of (records_of bytes) ≡ None
+    → Pure (Is (table_after old (sound_table name bytes))) (Ok new)
+table_added name bytes old new is sound =
+    let t = table_of (records_of bytes) in
+    ap Ok is ∙ sym (ap (λ (o : Option Flaw). table_after old (unless (option_map (of_flaw name) o) t)) sound)
 
 -- a query has at least one item
 some_items : {ts rest : List Lexeme} {r : List ItemRef × List Equality} → IsItems ts rest r → 1 ≤ length r.0

@@ -2,11 +2,12 @@
 use Rattle.std.specs.Prelude.{◌≡◌, ℕ, if◌then◌else◌, List, [], ◌∷◌, ◌++◌, map, Some, Result, Ok, Err}
 use Rattle.std.specs.List.{AllByRecursion, list_any}
 use Rattle.std.specs.Str.{bytes_eq}
-use Rattle.outer_io.specs.Files.{bytes_of}
+use Rattle.outer_io.specs.Files.{Files, bytes_of}
 use Rattle.anyk_model.specs.Table.{Table}
 use Rattle.query_select.specs.declared.select.ItemRef.{ItemRef}
 use Rattle.refusal_lines.specs.Reason.{Reason}
-use Rattle.verdict.specs.Loading.{first_uses, table_numbers}
+use Rattle.verdict.specs.Loading.{first_uses, table_in, table_numbers}
+use Rattle.verdict.specs.Stages.{Is}
 
 -- the pair is the first of these that names its table
 abbrev pub IsEntryOf : List (List ℕ × List ℕ) → List ℕ × List ℕ → Type 0
@@ -34,3 +35,8 @@ pub record HasUses (named : List (List ℕ × List ℕ)) (items : List ItemRef)
 abbrev pub table_after : List Table → Result Table Reason → Result (List Table) Reason
 table_after tables (Ok table) = Ok (tables ++ table ∷ [])
 table_after tables (Err reason) = Err reason
+
+-- these tables and the one of this name after them, if it was read
+abbrev pub IsNext : List (List ℕ × List ℕ) → List ℕ → List Table → Files → Result (List Table) Reason
+    → Type 0
+IsNext named name tables files = Is (table_after tables (table_in files named name))

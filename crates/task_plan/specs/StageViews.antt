@@ -1,6 +1,7 @@
 -- The results of the parts of loading, as results of stages.
-use Rattle.std.specs.Prelude.{ℕ, List, Option, Result, Ok, Err, Vec}
+use Rattle.std.specs.Prelude.{◌≡◌, ◌+◌, ◌<◌, ℕ, List, Option, Result, Ok, OnErr, OnOk, Err, Vec, length}
 use Rattle.std.specs.Global.{Global}
+use Rattle.std.specs.List.{All}
 use Rattle.csv_tables.specs.declared.fault.TableFault.{TableFault}
 use Rattle.csv_tables.specs.declared.fault.TableFault.TheVariants as table
 use Rattle.outer_io.specs.declared.reading.FileFault.{FileFault}
@@ -8,14 +9,19 @@ use Rattle.outer_io.specs.declared.reading.FileFault.TheVariants as file
 use Rattle.anyk_model.specs.Table.{Table}
 use Rattle.anyk_model.specs.Query.{Query}
 use Rattle.proof_text.specs.ProofView.{proof_view}
-use Rattle.bound_query.specs.WeighedQuery.{BoundQuery}
+use Rattle.bound_query.specs.WeighedQuery.{BoundQuery, Fits}
+use Rattle.query_bind.specs.declared.fault.BindFault.{BindFault}
+use Rattle.query_grammar.specs.declared.fault.ParseFault.{ParseFault}
 use Rattle.query_select.specs.declared.select.Select.{Select}
 use Rattle.refusal_lines.specs.declared.refusal.Refusal.{Refusal}
 use Rattle.refusal_lines.specs.Reason as reason
 use Rattle.refusal_lines.specs.Reason.{Reason}
 use Rattle.refusal_lines.specs.RefusalReasons.{reason_of}
 use Rattle.verdict.specs.AcceptedInput.{queries_in}
-use Rattle.verdict.specs.Loading.{Beside, Loaded}
+use Rattle.verdict.specs.Faults.{of_bind, of_parse}
+use Rattle.verdict.specs.Loading.{Beside, Loaded, are_several, bound_in, told_branch}
+use Rattle.verdict.specs.StageResults.{Pure}
+use Rattle.verdict.specs.Stages.{Is}
 use Rattle.task_plan.specs.declared.aside.Beside.{Beside as BesideRead}
 use Rattle.task_plan.specs.Input.{InputView, loaded_of}
 
@@ -54,17 +60,28 @@ abbrev pub beside_result_view : Result BesideRead Refusal → Result Beside Reas
 beside_result_view (Ok beside) = Ok (beside_view beside)
 beside_result_view (Err refusal) = Err (reason_of refusal)
 
-abbrev pub query_result_view : Result BoundQuery Refusal → Result Query Reason
-query_result_view (Ok bound) = Ok bound.query
-query_result_view (Err refusal) = Err (reason_of refusal)
-
-abbrev pub selects_result_view : Result (Vec Select Global) Refusal → Result (List Select) Reason
+abbrev pub selects_result_view : Result (Vec Select Global) ParseFault → Result (List Select) Reason
 selects_result_view (Ok selects) = Ok selects.items
-selects_result_view (Err refusal) = Err (reason_of refusal)
+selects_result_view (Err fault) = Err (of_parse fault)
 
 abbrev pub queries_result_view : Result (Vec BoundQuery Global) Refusal → Result (List Query) Reason
 queries_result_view (Ok queries) = Ok (queries_in queries.items)
 queries_result_view (Err refusal) = Err (reason_of refusal)
+
+-- the queries of all selects, or the reason of the select after those that these are the queries of
+abbrev pub each_view : List Select → List BoundQuery → Result (Unit {0}) BindFault
+    → Result (List Query) Reason
+each_view selects queries (Ok _) = Ok (queries_in queries)
+each_view selects queries (Err fault) =
+    Err (of_bind (told_branch (are_several selects) (length queries + 1)) fault)
+
+-- what binding selects one after another gives
+pub record BindsEach (selects : List Select) (tables : List Table) (queries : List BoundQuery)
+    (result : Result (Unit {0}) BindFault) : Type 0 where
+  pub bound : Pure (Is (bound_in selects tables)) (each_view selects queries result)
+  pub count : OnOk result (length queries ≡ length selects)
+  pub fits : OnOk result (All (λ (q : BoundQuery). Fits q tables) queries)
+  pub few : OnErr result (length queries < length selects)
 
 abbrev pub item_result_view : Result (Option ℕ) Refusal → Result (Option ℕ) Reason
 item_result_view (Ok item) = Ok item

@@ -3,8 +3,6 @@ ghost use Rattle.std.specs.Prelude.{◌≡◌, ◌<◌, ◌≤◌, ◌+◌, [], 
 ghost use Rattle.std.specs.List.{All, AllByRecursion};
 ghost use Rattle.std.specs.Str.{bytes_eq};
 ghost use Rattle.anyk_model.specs.Query.{Item};
-ghost use Rattle.query_bind.specs.Bind.{bind_fault};
-ghost use Rattle.query_bind.specs.Binding.{bound_query};
 ghost use Rattle.bound_query.specs.WeighedQuery.{Fits};
 ghost use Rattle.refusal_lines.specs.Reason.{BranchShape};
 ghost use Rattle.refusal_lines.specs.RefusalReasons.{reason_of};
@@ -16,9 +14,9 @@ ghost use Rattle.session_script.specs.Script.{unless};
 ghost use Rattle.verdict.specs.Stages.{Is, then_by};
 ghost use Rattle.verdict.specs.StageResults.{Pure};
 ghost use Rattle.verdict.specs.Verdict.{IsBound};
-ghost use Rattle.task_plan.specs.Limits.{AreWithinLimits, IsWithinLimits};
+ghost use Rattle.task_plan.specs.Limits.{AreWithinLimits};
 ghost use Rattle.task_plan.specs.Wholes.{IsWhole, bound_result_view};
-ghost use Rattle.task_plan.specs.StageViews.{item_result_view, queries_result_view, query_result_view};
+ghost use Rattle.task_plan.specs.StageViews.{BindsEach, item_result_view, queries_result_view};
 ghost use Rattle.task_plan.specs.Sought.{sought_view};
 
 use crate::sought::Sought;
@@ -129,17 +127,40 @@ fn bind_queries<'a>(
     ensures count { IfOk result (λ queries. length queries.items ≡ length selects.now) }
     ensures fits { IfOk result (λ queries. All (λ q. Fits q tables.now) queries.items) }
 {
-    let several = selects.len() > 1;
     let mut queries = Vec::new(alloc);
+    match bind_each(alloc, selects, tables, which, &mut queries) {
+        Ok(()) => Ok(queries),
+        Err(fault) => {
+            let branch = told_branch(selects.len() > 1, queries.len());
+            Err(bind_refusal(branch, fault))
+        }
+    }
+}
+
+/// Binds these selects to the tables, up to the first fault, which is that of the select after
+/// those of the queries.
+fn bind_each(
+    alloc: Global,
+    selects: &[Select],
+    tables: &Tables,
+    which: &[u32],
+    queries: &mut Vec<Query>,
+) -> Result<(), BindFault>
+    requires limits { AreWithinLimits selects.now }
+    requires numbers { let items = all_items selects.now in
+        which.now ≡ table_numbers (first_uses items) items }
+    requires known { AllByRecursion (λ t. t < length tables.now) which.now }
+    requires none { queries.old.items ≡ [] }
+    ensures { BindsEach selects.now tables.now queries.new.items result }
+{
     let mut rest = which;
     for select in selects {
-        let branch = told_branch(several, queries.len());
         let (own, later) = rest.split_at(select.items.as_slice().len());
-        let query = bind_query(alloc, branch, select, tables, own)?;
+        let query = bind(alloc, select, tables, own)?;
         queries.push(query)?;
         rest = later;
     }
-    Ok(queries)
+    Ok(())
 }
 
 /// The number of the branch that comes after these, from 1, if there are several.
@@ -151,28 +172,6 @@ fn told_branch(several: bool, before: usize) -> Option<u32>
         Some(before as u32 + 1)
     } else {
         None
-    }
-}
-
-/// The query of this select over the tables, or the refusal for the first fault of binding.
-fn bind_query<'a>(
-    alloc: Global,
-    branch: Option<u32>,
-    select: &Select,
-    tables: &Tables,
-    which: &[u32],
-) -> Result<Query, Refusal<'a>>
-    requires limits { IsWithinLimits select.now }
-    requires count { length which.now ≡ length select.now.items }
-    requires known { AllByRecursion (λ t. t < length tables.now) which.now }
-    ensures bound { let fault = bind_fault select.now tables.now which.now in
-        let query = bound_query select.now tables.now which.now in
-        Pure (Is (unless (option_map (of_bind branch) fault) query)) (query_result_view result) }
-    ensures fits { IfOk result (λ query. Fits query tables.now) }
-{
-    match bind(alloc, select, tables, which) {
-        Ok(query) => Ok(query),
-        Err(fault) => Err(bind_refusal(branch, fault)),
     }
 }
 

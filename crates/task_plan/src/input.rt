@@ -12,7 +12,7 @@ ghost use Rattle.task_plan.specs.Wholes.{IsWhole, bound_result_view};
 use crate::aside::load_beside;
 use crate::binding::{Bound, Input, bound_to};
 use crate::file::load;
-use crate::query::read_selects;
+use crate::query::{parse_refusal, read_selects};
 use crate::sought::Sought;
 use crate::tables::read_tables;
 use crate::uses::uses_of;
@@ -39,8 +39,10 @@ pub fn load_input<'a, F: Shelf>(
     ensures unnamed { sought.now.best_of ≡ None → IfOk result (λ input. input.best ≡ None) }
 {
     let bytes = load(alloc, shelf, sought.query)?;
-    let selects = read_selects(alloc, sought.several, &bytes)?;
-    select_input(alloc, sought, &selects, shelf, keys)
+    match read_selects(alloc, sought.several, &bytes) {
+        Ok(selects) => select_input(alloc, sought, &selects, shelf, keys),
+        Err(fault) => Err(parse_refusal(fault)),
+    }
 }
 
 /// The stages after the query, or each of its branches, was parsed.

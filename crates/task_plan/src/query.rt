@@ -1,9 +1,8 @@
 //! The query of the query file, or its branches.
-ghost use Rattle.std.specs.Prelude.{◌≡◌, ◌∷◌, [], false, true, IfOk, Ok, length, map};
+ghost use Rattle.std.specs.Prelude.{◌≡◌, false, IfOk, length, map};
 ghost use Rattle.refusal_lines.specs.RefusalReasons.{reason_of};
 ghost use Rattle.verdict.specs.Faults.{of_parse};
 ghost use Rattle.verdict.specs.Loading.{IsReading, branches_of};
-ghost use Rattle.verdict.specs.Stages.{Is};
 ghost use Rattle.verdict.specs.StageResults.{Pure};
 ghost use Rattle.task_plan.specs.Limits.{AreWithinLimits, limited};
 ghost use Rattle.task_plan.specs.StageViews.{selects_result_view};
@@ -14,34 +13,25 @@ use query_select::select::{Select, SelectAll};
 use refusal_lines::Refusal;
 use std::alloc::Global;
 
-/// The query that these bytes write, or its branches if it may have several. The error is the
-/// refusal for the parser's fault.
-pub(crate) fn read_selects<'a>(
+/// The query that these bytes write, or its branches if it may have several.
+pub(crate) fn read_selects(
     alloc: Global,
     several: bool,
     bytes: &[u8],
-) -> Result<Vec<Select>, Refusal<'a>>
+) -> Result<Vec<Select>, ParseFault>
     ensures parsed { Pure (IsReading several bytes.now) (selects_result_view result) }
     ensures limits { IfOk result (λ selects. AreWithinLimits selects.items) }
     // If several branches are not allowed, there is one.
     ensures alone { several ≡ false → IfOk result (λ selects. length selects.items ≡ 1) }
 {
     if several {
-        read_branches(alloc, bytes)
-    } else {
-        read_alone(alloc, bytes)
+        let all = parse_all(alloc, bytes)?;
+        return Ok(with_limit(all));
     }
-}
-
-/// The branches that these bytes write, each with the limit of the whole.
-fn read_branches<'a>(alloc: Global, bytes: &[u8]) -> Result<Vec<Select>, Refusal<'a>>
-    ensures parsed { Pure (IsReading true bytes.now) (selects_result_view result) }
-    ensures limits { IfOk result (λ selects. AreWithinLimits selects.items) }
-{
-    match parse_all(alloc, bytes) {
-        Ok(all) => Ok(with_limit(all)),
-        Err(fault) => Err(parse_refusal(fault)),
-    }
+    let select = parse(alloc, bytes)?;
+    let mut selects = Vec::new(alloc);
+    selects.push(select)?;
+    Ok(selects)
 }
 
 /// The branches, each with the limit of the whole.
@@ -63,30 +53,8 @@ fn set_limits(selects: &mut [Select], limit: Option<u64>)
     }
 }
 
-/// The one query that these bytes write.
-fn read_alone<'a>(alloc: Global, bytes: &[u8]) -> Result<Vec<Select>, Refusal<'a>>
-    ensures parsed { Pure (IsReading false bytes.now) (selects_result_view result) }
-    ensures limits { IfOk result (λ selects. AreWithinLimits selects.items) }
-    ensures alone { IfOk result (λ selects. length selects.items ≡ 1) }
-{
-    match parse(alloc, bytes) {
-        Ok(select) => one_select(alloc, select),
-        Err(fault) => Err(parse_refusal(fault)),
-    }
-}
-
-/// This select alone. `NoMemory` if memory is refused.
-fn one_select<'a>(alloc: Global, select: Select) -> Result<Vec<Select>, Refusal<'a>>
-    ensures said { Pure (Is (Ok (select ∷ []))) (selects_result_view result) }
-    ensures alone { IfOk result (λ selects. selects.items ≡ select ∷ []) }
-{
-    let mut selects = Vec::new(alloc);
-    selects.push(select)?;
-    Ok(selects)
-}
-
 /// The refusal for a fault of a query's text.
-fn parse_refusal<'a>(fault: ParseFault) -> Refusal<'a>
+pub(crate) fn parse_refusal<'a>(fault: ParseFault) -> Refusal<'a>
     ensures { reason_of result ≡ of_parse fault }
 {
     match fault {

@@ -5,10 +5,10 @@ ghost use Rattle.std.specs.String.{string_bytes};
 ghost use Rattle.cmd_words.specs.NamedPairs.{named_pair};
 ghost use Rattle.rankings.specs.Order.{IsMember};
 ghost use Rattle.refusal_lines.specs.RefusalReasons.{reason_of};
-ghost use Rattle.verdict.specs.Loading.{files_read, sound_table, table_in, tables_in};
+ghost use Rattle.verdict.specs.Loading.{files_read, tables_in};
 ghost use Rattle.verdict.specs.Stages.{Is};
-ghost use Rattle.verdict.specs.StageResults.{Pure, Staged, shelved};
-ghost use Rattle.task_plan.specs.Entries.{IsEntryOf, table_after, tables_of};
+ghost use Rattle.verdict.specs.StageResults.{Staged, shelved};
+ghost use Rattle.task_plan.specs.Entries.{IsEntryOf, IsNext, tables_of};
 ghost use Rattle.task_plan.specs.StageViews.{said_as, tables_result_view, table_reason};
 
 use crate::file::load;
@@ -58,23 +58,29 @@ fn read_each<'a, F: Shelf>(
     ensures count { OnOk result (length reader.new ≡ length entries.now) }
 {
     for entry in entries {
-        let bytes = load(alloc, shelf, entry.file.as_str())?;
-        add_table(entry.table.as_bytes(), &bytes, reader)?;
+        read_entry(alloc, entry, shelf, reader)?;
     }
     Ok(())
 }
 
-/// Adds the table of these bytes. The error is the refusal for its first flaw.
-fn add_table<'a>(name: &'a [u8], bytes: &[u8], reader: &mut TableReader) -> Result<(), Refusal<'a>>
+/// Reads the table of this entry. The error is the refusal of its file or for its first flaw.
+fn read_entry<'a, F: Shelf>(
+    alloc: Global,
+    entry: &'a Named,
+    shelf: &mut F,
+    reader: &mut TableReader,
+) -> Result<(), Refusal<'a>>
     requires few { length reader.old < 16 }
-    requires size { length bytes.now ≤ 67108864 }
+    ensures staged { (named : List (List ℕ × List ℕ)) → IsEntryOf named (named_pair entry.now)
+        → Staged (IsNext named (string_bytes entry.now.table) reader.old)
+        (λ files file. file ≡ string_bytes entry.now.file)
+        (shelved F.Shelf shelf.old) (shelved F.Shelf shelf.new) (said_as reader.new result) }
     ensures longer { OnOk result (length reader.new ≡ length reader.old + 1) }
-    ensures added { Pure (Is (table_after reader.old (sound_table name.now bytes.now)))
-        (said_as reader.new result) }
 {
-    match reader.read(bytes) {
+    let bytes = load(alloc, shelf, entry.file.as_str())?;
+    match reader.read(&bytes) {
         Ok(_) => Ok(()),
-        Err(fault) => Err(table_refusal(name, fault)),
+        Err(fault) => Err(table_refusal(entry.table.as_bytes(), fault)),
     }
 }
 

@@ -10,60 +10,58 @@ use Rattle.task_plan.proofs.Best.{found_shaped, item_found, item_refused}
 use Rattle.task_plan.proofs.Shapes.{keys_none_odd}
 use Rattle.task_plan.proofs.binding.bound_to.Goals as goal
 
-pub returns-in_err-queries-clause-bound : goal.returns-in_err-queries-clause-bound
-returns-in_err-queries-clause-bound c = λ beside.
-    let sought = sought_view c.args.sought.now in
-    let e : c.from_residual.result ≡ Err c.in_err-queries.field-0.0 = search rules in
-    rw e (pure_refused (Is (bound_in c.args.selects.now c.args.tables)) (λ queries. Is (loaded_in sought.best_of queries c.args.tables beside)) _ c.in_err-queries.ensures.bound)
+pub returns-in_err-queries : goal.returns-in_err-queries
+returns-in_err-queries c = record {
+  bound =
+      λ beside.
+      let sought = sought_view c.args.sought.now in
+      let e : c.from_residual.result ≡ Err c.in_err-queries.field-0.0 = search rules in
+      rw e (pure_refused (Is (bound_in c.args.selects.now c.args.tables)) (λ queries. Is (loaded_in sought.best_of queries c.args.tables beside)) _ c.in_err-queries.ensures.bound);
+  whole = IfOk-from_err c.from_residual.result _ c.from_residual.ensures.0;
+  branches = IfOk-from_err c.from_residual.result _ c.from_residual.ensures.0;
+  unnamed = λ _. IfOk-from_err c.from_residual.result _ c.from_residual.ensures.0;
+}
 
-pub returns-in_err-best-clause-bound : goal.returns-in_err-best-clause-bound
-returns-in_err-best-clause-bound c = λ beside.
-    let sought = sought_view c.args.sought.now in
-    let queries = queries_in c.in_ok-queries.queries.items in
-    let reason = reason_of c.in_err-best.field-0.0 in
-    let e : c.from_residual-in_err-best.result ≡ Err c.in_err-best.field-0.0 = search rules in
-    rw e (pure_found (Is (bound_in c.args.selects.now c.args.tables)) (λ queries. Is (loaded_in sought.best_of queries c.args.tables beside)) queries (Err reason) c.in_ok-queries.ensures.bound
-    (item_refused queries c.args.tables beside sought.best_of reason (rw c.deref.ensures.value at c.in_err-best.ensures.best)))
+pub returns-in_err-best : goal.returns-in_err-best
+returns-in_err-best c = record {
+  bound =
+      λ beside.
+      let sought = sought_view c.args.sought.now in
+      let queries = queries_in c.in_ok-queries.queries.items in
+      let reason = reason_of c.in_err-best.field-0.0 in
+      let e : c.from_residual-in_err-best.result ≡ Err c.in_err-best.field-0.0 = search rules in
+      rw e (pure_found (Is (bound_in c.args.selects.now c.args.tables)) (λ queries. Is (loaded_in sought.best_of queries c.args.tables beside)) queries (Err reason) c.in_ok-queries.ensures.bound
+      (item_refused queries c.args.tables beside sought.best_of reason (rw c.deref.ensures.value at c.in_err-best.ensures.best)));
+  whole = IfOk-from_err c.from_residual-in_err-best.result _ c.from_residual-in_err-best.ensures.0;
+  branches = IfOk-from_err c.from_residual-in_err-best.result _ c.from_residual-in_err-best.ensures.0;
+  unnamed = λ _. IfOk-from_err c.from_residual-in_err-best.result _ c.from_residual-in_err-best.ensures.0;
+}
 
-pub returns-clause-bound : goal.returns-clause-bound
-returns-clause-bound c = λ beside.
-    let queries = queries_in c.in_ok-queries.queries.items in
-    followed {a = queries} c.in_ok-queries.ensures.bound
-    (item_found queries c.args.tables beside (sought_view c.args.sought.now).best_of c.in_ok-best.best (rw c.deref.ensures.value at c.in_ok-best.ensures.best))
-
-pub returns-clause-whole : goal.returns-clause-whole
-returns-clause-whole c = λ steps proof kept.
-    let queries = queries_in c.in_ok-queries.queries.items in
-    let as_many = c.in_ok-queries.ensures.count in
-    let some = c.requires.limits.some in
-    let few = c.requires.limits.few in
-    let best = rw c.deref.ensures.value at c.in_ok-best.ensures.best in
-    record {
-      some = omega (arith, as_many, some);
-      few = omega (arith, as_many, few);
-      fits = c.in_ok-queries.ensures.fits;
-      keys = keys_none_odd queries (found_shaped (sought_view c.args.sought.now).best_of queries c.in_ok-best.best best);
-      item = rw c.deref.ensures.value at c.in_ok-best.ensures.item;
-      rules = kept;
-    }
-
-pub returns-in_err-queries-clause-whole : goal.returns-in_err-queries-clause-whole
-returns-in_err-queries-clause-whole c = IfOk-from_err c.from_residual.result _ c.from_residual.ensures.0
-
-pub returns-in_err-queries-clause-branches : goal.returns-in_err-queries-clause-branches
-returns-in_err-queries-clause-branches c = IfOk-from_err c.from_residual.result _ c.from_residual.ensures.0
-
-pub returns-in_err-queries-clause-unnamed : goal.returns-in_err-queries-clause-unnamed
-returns-in_err-queries-clause-unnamed c = λ _. IfOk-from_err c.from_residual.result _ c.from_residual.ensures.0
-
-pub returns-in_err-best-clause-whole : goal.returns-in_err-best-clause-whole
-returns-in_err-best-clause-whole c = IfOk-from_err c.from_residual-in_err-best.result _ c.from_residual-in_err-best.ensures.0
-
-pub returns-in_err-best-clause-branches : goal.returns-in_err-best-clause-branches
-returns-in_err-best-clause-branches c = IfOk-from_err c.from_residual-in_err-best.result _ c.from_residual-in_err-best.ensures.0
-
-pub returns-in_err-best-clause-unnamed : goal.returns-in_err-best-clause-unnamed
-returns-in_err-best-clause-unnamed c = λ _. IfOk-from_err c.from_residual-in_err-best.result _ c.from_residual-in_err-best.ensures.0
+pub returns : goal.returns
+returns c = record {
+  bound =
+      λ beside.
+      let queries = queries_in c.in_ok-queries.queries.items in
+      followed {a = queries} c.in_ok-queries.ensures.bound
+      (item_found queries c.args.tables beside (sought_view c.args.sought.now).best_of c.in_ok-best.best (rw c.deref.ensures.value at c.in_ok-best.ensures.best));
+  whole =
+      λ steps proof kept.
+      let queries = queries_in c.in_ok-queries.queries.items in
+      let as_many = c.in_ok-queries.ensures.count in
+      let some = c.requires.limits.some in
+      let few = c.requires.limits.few in
+      let best = rw c.deref.ensures.value at c.in_ok-best.ensures.best in
+      record {
+        some = omega (arith, as_many, some);
+        few = omega (arith, as_many, few);
+        fits = c.in_ok-queries.ensures.fits;
+        keys = keys_none_odd queries (found_shaped (sought_view c.args.sought.now).best_of queries c.in_ok-best.best best);
+        item = rw c.deref.ensures.value at c.in_ok-best.ensures.item;
+        rules = kept;
+      };
+  branches = c.in_ok-queries.ensures.count;
+  unnamed = c.in_ok-best.ensures.unnamed;
+}
 
 pub bind_queries-requires-clause-limits : goal.bind_queries-requires-clause-limits
 bind_queries-requires-clause-limits c = c.requires.limits
@@ -83,9 +81,3 @@ pub best_item-requires-clause-few : goal.best_item-requires-clause-few
 best_item-requires-clause-few c =
     let as_many = c.in_ok-queries.ensures.count in
     let few = c.requires.limits.few in rw c.deref.ensures.value (omega (arith, as_many, few))
-
-pub returns-clause-branches : goal.returns-clause-branches
-returns-clause-branches c = c.in_ok-queries.ensures.count
-
-pub returns-clause-unnamed : goal.returns-clause-unnamed
-returns-clause-unnamed c = c.in_ok-best.ensures.unnamed

@@ -9,48 +9,42 @@ use Rattle.task_plan.specs.Turns.{IsAccompaniedTurn, IsReadTurn}
 use Rattle.task_plan.specs.Sought.{sought_view}
 use Rattle.task_plan.proofs.input.load_input.Goals as goal
 
-pub returns-in_err-bytes-clause-staged : goal.returns-in_err-bytes-clause-staged
-returns-in_err-bytes-clause-staged g c =
-    let sought = sought_view c.args.sought.now in
-    let e : c.from_residual.result ≡ Err c.in_err-bytes.field-0.0 = search rules in
-    rw e (refusal_then (λ files. Is (file_in files sought.query)) (λ files file. file ≡ sought.query) (λ bytes files. IsRead sought files bytes) (λ bytes files. IsReadTurn sought files bytes)
-    _ _ _ c.in_err-bytes.ensures.staged)
+pub returns-in_err-bytes : goal.returns-in_err-bytes
+returns-in_err-bytes g c = record {
+  staged =
+      let sought = sought_view c.args.sought.now in
+      let e : c.from_residual.result ≡ Err c.in_err-bytes.field-0.0 = search rules in
+      rw e (refusal_then (λ files. Is (file_in files sought.query)) (λ files file. file ≡ sought.query) (λ bytes files. IsRead sought files bytes) (λ bytes files. IsReadTurn sought files bytes)
+      _ _ _ c.in_err-bytes.ensures.staged);
+  alone = λ _. IfOk-from_err c.from_residual.result _ c.from_residual.ensures.0;
+  unnamed = λ _. IfOk-from_err c.from_residual.result _ c.from_residual.ensures.0;
+}
 
-pub returns-in_err-selects-clause-staged : goal.returns-in_err-selects-clause-staged
-returns-in_err-selects-clause-staged g c =
-    let sought = sought_view c.args.sought.now in
-    let bytes = c.in_ok-bytes.bytes.items in
-    let e : c.from_residual-in_err-selects.result ≡ Err c.in_err-selects.field-0.0 = search rules in
-    rw e (found_then (λ files. Is (file_in files sought.query)) (λ files file. file ≡ sought.query) (λ bytes files. IsRead sought files bytes) (λ bytes files. IsReadTurn sought files bytes)
-    _ _ _ bytes _ c.in_ok-bytes.ensures.staged
-    (refusal_then (λ files. IsReading sought.several bytes) NoTurn (λ selects files. IsAccompanied sought files selects) (λ selects files. IsAccompaniedTurn sought files selects)
-    _ _ _ (pure_staged (IsReading sought.several bytes) _ _ (rw c.deref.ensures.value at c.in_err-selects.ensures.parsed))))
+pub returns : goal.returns
+returns g c = record {
+  staged =
+      let sought = sought_view c.args.sought.now in
+      let bytes = c.in_ok-bytes.bytes.items in
+      rw c.parse_refusal.ensures (found_then (λ files. Is (file_in files sought.query)) (λ files file. file ≡ sought.query) (λ bytes files. IsRead sought files bytes) (λ bytes files. IsReadTurn sought files bytes)
+      _ _ _ bytes _ c.in_ok-bytes.ensures.staged
+      (refusal_then (λ files. IsReading sought.several bytes) NoTurn (λ selects files. IsAccompanied sought files selects) (λ selects files. IsAccompaniedTurn sought files selects)
+      _ _ _ (pure_staged (IsReading sought.several bytes) _ _ (rw c.deref.ensures.value at c.in-Err.ensures.parsed))));
+  alone = λ _. tt;
+  unnamed = λ _. tt;
+}
 
-pub returns-clause-staged : goal.returns-clause-staged
-returns-clause-staged g c =
-    let sought = sought_view c.args.sought.now in
-    let bytes = c.in_ok-bytes.bytes.items in
-    found_then (λ files. Is (file_in files sought.query)) (λ files file. file ≡ sought.query) (λ bytes files. IsRead sought files bytes) (λ bytes files. IsReadTurn sought files bytes)
-    _ _ _ bytes _ c.in_ok-bytes.ensures.staged
-    (found_then (λ files. IsReading sought.several bytes) NoTurn (λ selects files. IsAccompanied sought files selects) (λ selects files. IsAccompaniedTurn sought files selects)
-    _ _ _ c.in_ok-selects.selects.items _ (pure_staged (IsReading sought.several bytes) _ _ (rw c.deref.ensures.value at c.in_ok-selects.ensures.parsed))
-    (rw c.deref-2.ensures.value at c.select_input.ensures.staged))
-
-pub returns-in_err-bytes-clause-alone : goal.returns-in_err-bytes-clause-alone
-returns-in_err-bytes-clause-alone g c = λ _. IfOk-from_err c.from_residual.result _ c.from_residual.ensures.0
-
-pub returns-in_err-bytes-clause-unnamed : goal.returns-in_err-bytes-clause-unnamed
-returns-in_err-bytes-clause-unnamed g c = λ _. IfOk-from_err c.from_residual.result _ c.from_residual.ensures.0
-
-pub returns-in_err-selects-clause-alone : goal.returns-in_err-selects-clause-alone
-returns-in_err-selects-clause-alone g c = λ _. IfOk-from_err c.from_residual-in_err-selects.result _ c.from_residual-in_err-selects.ensures.0
-
-pub returns-in_err-selects-clause-unnamed : goal.returns-in_err-selects-clause-unnamed
-returns-in_err-selects-clause-unnamed g c = λ _. IfOk-from_err c.from_residual-in_err-selects.result _ c.from_residual-in_err-selects.ensures.0
-
-pub returns-clause-alone : goal.returns-clause-alone
-returns-clause-alone g c = λ one.
-    IfOk-weaker c.select_input.result _ _ (λ input same. same ∙ ap length c.deref-2.ensures.value ∙ c.in_ok-selects.ensures.alone one) c.select_input.ensures.branches
-
-pub returns-clause-unnamed : goal.returns-clause-unnamed
-returns-clause-unnamed g c = c.select_input.ensures.unnamed
+pub returns-in-Ok : goal.returns-in-Ok
+returns-in-Ok g c = record {
+  staged =
+      let sought = sought_view c.args.sought.now in
+      let bytes = c.in_ok-bytes.bytes.items in
+      found_then (λ files. Is (file_in files sought.query)) (λ files file. file ≡ sought.query) (λ bytes files. IsRead sought files bytes) (λ bytes files. IsReadTurn sought files bytes)
+      _ _ _ bytes _ c.in_ok-bytes.ensures.staged
+      (found_then (λ files. IsReading sought.several bytes) NoTurn (λ selects files. IsAccompanied sought files selects) (λ selects files. IsAccompaniedTurn sought files selects)
+      _ _ _ c.in-Ok.selects.items _ (pure_staged (IsReading sought.several bytes) _ _ (rw c.deref.ensures.value at c.in-Ok.ensures.parsed))
+      (rw c.deref-in-Ok.ensures.value at c.select_input.ensures.staged));
+  alone =
+      λ one.
+      IfOk-weaker c.select_input.result _ _ (λ input same. same ∙ ap length c.deref-in-Ok.ensures.value ∙ c.in-Ok.ensures.alone one) c.select_input.ensures.branches;
+  unnamed = c.select_input.ensures.unnamed;
+}

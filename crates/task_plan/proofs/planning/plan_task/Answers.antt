@@ -1,4 +1,5 @@
 use Rattle.std.proofs.Common.{◌≡◌, Err, Ok, rules}
+use Rattle.std.proofs.lemmas.Result.{IfOk-from_err}
 use Rattle.task_plan.specs.Input.{loaded_of}
 use Rattle.refusal_lines.specs.RefusalReasons.{reason_of}
 use Rattle.verdict.specs.MadeFiles.{known_to}
@@ -9,37 +10,49 @@ use Rattle.task_plan.specs.Tasks.{command_of}
 use Rattle.task_plan.proofs.Judging.{early_prepared, early_still, looked_refused, looked_then}
 use Rattle.task_plan.proofs.planning.plan_task.Goals as goal
 
-pub returns-in_err-input-clause-judged : goal.returns-in_err-input-clause-judged
-returns-in_err-input-clause-judged g c =
-    let before : Shelved = shelved g.F.Shelf c.args.shelf.now in
-    let after : Shelved = shelved g.F.Shelf c.look_at.new.shelf in
-    let e : c.from_residual.result ≡ Err c.in_err-input.field-0.0 = search rules in
-    rw e (looked_refused (command_of c.args.task.now) before after (reason_of c.in_err-input.field-0.0) c.in_err-input.ensures.looked)
+pub returns-in_err-input : goal.returns-in_err-input
+returns-in_err-input g c = record {
+  judged =
+      let before : Shelved = shelved g.F.Shelf c.args.shelf.now in
+      let after : Shelved = shelved g.F.Shelf c.look_at.new.shelf in
+      let e : c.from_residual.result ≡ Err c.in_err-input.field-0.0 = search rules in
+      rw e (looked_refused (command_of c.args.task.now) before after (reason_of c.in_err-input.field-0.0) c.in_err-input.ensures.looked);
+  plans = IfOk-from_err c.from_residual.result _ c.from_residual.ensures.0;
+  alone = IfOk-from_err c.from_residual.result _ c.from_residual.ensures.0;
+  cost = IfOk-from_err c.from_residual.result _ c.from_residual.ensures.0;
+  early =
+      let e : c.from_residual.result ≡ Err c.in_err-input.field-0.0 = search rules in
+      rw e (early_still (command_of c.args.task.now) (known_to (built (command_of c.args.task.now)) (g.F.Shelf.files c.args.shelf.now)) c.args.steps.now);
+}
 
-pub returns-in_err-input-clause-early : goal.returns-in_err-input-clause-early
-returns-in_err-input-clause-early g c =
-    let e : c.from_residual.result ≡ Err c.in_err-input.field-0.0 = search rules in
-    rw e (early_still (command_of c.args.task.now) (known_to (built (command_of c.args.task.now)) (g.F.Shelf.files c.args.shelf.now)) c.args.steps.now)
+pub returns-in_err-plans : goal.returns-in_err-plans
+returns-in_err-plans g c = record {
+  judged =
+      let before : Shelved = shelved g.F.Shelf c.args.shelf.now in
+      let after : Shelved = shelved g.F.Shelf c.look_at.new.shelf in
+      let e : c.from_residual-in_err-plans.result ≡ Err c.in_err-plans.field-0.0 = search rules in
+      rw e (looked_then c.args.task.now before after (loaded_of c.in_ok-input.input) (Err (reason_of c.in_err-plans.field-0.0))
+      c.in_ok-input.ensures.looked c.in_err-plans.ensures.shaped);
+  plans = IfOk-from_err c.from_residual-in_err-plans.result _ c.from_residual-in_err-plans.ensures.0;
+  alone = IfOk-from_err c.from_residual-in_err-plans.result _ c.from_residual-in_err-plans.ensures.0;
+  cost = IfOk-from_err c.from_residual-in_err-plans.result _ c.from_residual-in_err-plans.ensures.0;
+  early =
+      let before : Shelved = shelved g.F.Shelf c.args.shelf.now in
+      let after : Shelved = shelved g.F.Shelf c.look_at.new.shelf in
+      let e : c.from_residual-in_err-plans.result ≡ Err c.in_err-plans.field-0.0 = search rules in
+      rw e (early_prepared (command_of c.args.task.now) before after c.in_ok-input.input c.args.steps.now c.plans_of.new.steps
+      c.in_ok-input.ensures.looked c.in_ok-input.ensures.alone c.in_err-plans.ensures.cost);
+}
 
-pub returns-in_err-plans-clause-judged : goal.returns-in_err-plans-clause-judged
-returns-in_err-plans-clause-judged g c =
-    let before : Shelved = shelved g.F.Shelf c.args.shelf.now in
-    let after : Shelved = shelved g.F.Shelf c.look_at.new.shelf in
-    let e : c.from_residual-in_err-plans.result ≡ Err c.in_err-plans.field-0.0 = search rules in
-    rw e (looked_then c.args.task.now before after (loaded_of c.in_ok-input.input) (Err (reason_of c.in_err-plans.field-0.0))
-    c.in_ok-input.ensures.looked c.in_err-plans.ensures.shaped)
-
-pub returns-in_err-plans-clause-early : goal.returns-in_err-plans-clause-early
-returns-in_err-plans-clause-early g c =
-    let before : Shelved = shelved g.F.Shelf c.args.shelf.now in
-    let after : Shelved = shelved g.F.Shelf c.look_at.new.shelf in
-    let e : c.from_residual-in_err-plans.result ≡ Err c.in_err-plans.field-0.0 = search rules in
-    rw e (early_prepared (command_of c.args.task.now) before after c.in_ok-input.input c.args.steps.now c.plans_of.new.steps
-    c.in_ok-input.ensures.looked c.in_ok-input.ensures.alone c.in_err-plans.ensures.cost)
-
-pub returns-clause-judged : goal.returns-clause-judged
-returns-clause-judged g c =
-    let before : Shelved = shelved g.F.Shelf c.args.shelf.now in
-    let after : Shelved = shelved g.F.Shelf c.look_at.new.shelf in
-    looked_then c.args.task.now before after (loaded_of c.in_ok-input.input) (plans_result_view (loaded_of c.in_ok-input.input) (Ok c.in_ok-plans.plans))
-    c.in_ok-input.ensures.looked c.in_ok-plans.ensures.shaped
+pub returns : goal.returns
+returns g c = record {
+  judged =
+      let before : Shelved = shelved g.F.Shelf c.args.shelf.now in
+      let after : Shelved = shelved g.F.Shelf c.look_at.new.shelf in
+      looked_then c.args.task.now before after (loaded_of c.in_ok-input.input) (plans_result_view (loaded_of c.in_ok-input.input) (Ok c.in_ok-plans.plans))
+      c.in_ok-input.ensures.looked c.in_ok-plans.ensures.shaped;
+  plans = c.in_ok-plans.ensures.plans;
+  alone = c.in_ok-input.ensures.alone;
+  cost = c.in_ok-plans.ensures.cost;
+  early = tt;
+}

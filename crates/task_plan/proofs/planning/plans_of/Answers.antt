@@ -13,26 +13,50 @@ use Rattle.task_plan.proofs.Inputs.{input_view}
 use Rattle.task_plan.proofs.PlanList.{caps_each, keys_within, one_found, one_item, one_plan, one_prepared, one_refused, only_one, several_found, several_refused}
 use Rattle.task_plan.proofs.planning.plans_of.Goals as goal
 
-pub returns-in_err-plan-clause-shaped : goal.returns-in_err-plan-clause-shaped
-returns-in_err-plan-clause-shaped g c =
-    let e : c.from_residual.result ≡ Err c.in_err-plan.field-0.0 = search rules in
-    let input = input_view c.input.inside in
-    let query = c.index-queries-0.result in
-    let only = sym c.as_slice-queries.ensures.value ∙ only_one c.as_slice-queries.result.now query
-    c.if-queries-eq1.true c.index-queries-0.is in
-    let refusal = reason_of c.in_err-plan.field-0.0 in
-    rw e (subst (λ (i : InputView). Pure (IsShaped (loaded_of i)) (Err refusal)) c.input.view_is
-    (one_refused input query refusal only c.in_err-plan.ensures.shaped))
+pub returns-in_err-plan : goal.returns-in_err-plan
+returns-in_err-plan g c = record {
+  shaped =
+      let e : c.from_residual.result ≡ Err c.in_err-plan.field-0.0 = search rules in
+      let input = input_view c.input.inside in
+      let query = c.index-queries-0.result in
+      let only = sym c.as_slice-queries.ensures.value ∙ only_one c.as_slice-queries.result.now query
+      c.if-queries-eq1.true c.index-queries-0.is in
+      let refusal = reason_of c.in_err-plan.field-0.0 in
+      rw e (subst (λ (i : InputView). Pure (IsShaped (loaded_of i)) (Err refusal)) c.input.view_is
+      (one_refused input query refusal only c.in_err-plan.ensures.shaped));
+  plans = IfOk-from_err c.from_residual.result _ c.from_residual.ensures.0;
+  cost =
+      let query = c.index-queries-0.result in
+      let only = sym c.as_slice-queries.ensures.value ∙ only_one c.as_slice-queries.result.now query
+      c.if-queries-eq1.true c.index-queries-0.is in
+      subst (λ (i : InputView). ArePrepared (queries_in i.queries) i.tables c.args.steps.now c.plan_of.new.steps) c.input.view_is
+      (one_prepared (input_view c.input.inside) query only c.args.steps.now c.plan_of.new.steps c.plan_of.ensures.cost);
+}
 
-pub returns-then-queries-eq1-clause-shaped : goal.returns-then-queries-eq1-clause-shaped
-returns-then-queries-eq1-clause-shaped g c =
-    let input = input_view c.input.inside in
-    let query = c.index-queries-0.result in
-    let only = sym c.as_slice-queries.ensures.value ∙ only_one c.as_slice-queries.result.now query
-    c.if-queries-eq1.true c.index-queries-0.is in
-    let shape = shape_in c.in_ok-plan.plan in
-    subst (λ (i : InputView). IsShaped (loaded_of i) (Ok (found_of (loaded_of i) (shape ∷ [])))) c.input.view_is
-    (one_found input query shape only c.in_ok-plan.ensures.shaped)
+pub returns-then-queries-eq1 : goal.returns-then-queries-eq1
+returns-then-queries-eq1 g c = record {
+  shaped =
+      let input = input_view c.input.inside in
+      let query = c.index-queries-0.result in
+      let only = sym c.as_slice-queries.ensures.value ∙ only_one c.as_slice-queries.result.now query
+      c.if-queries-eq1.true c.index-queries-0.is in
+      let shape = shape_in c.in_ok-plan.plan in
+      subst (λ (i : InputView). IsShaped (loaded_of i) (Ok (found_of (loaded_of i) (shape ∷ [])))) c.input.view_is
+      (one_found input query shape only c.in_ok-plan.ensures.shaped);
+  plans =
+      let query = c.index-queries-0.result in
+      let only = sym c.as_slice-queries.ensures.value ∙ only_one c.as_slice-queries.result.now query
+      c.if-queries-eq1.true c.index-queries-0.is in
+      let plan = c.in_ok-plan.plan in
+      subst (λ (i : InputView). IsOnePlan i.queries i.tables i.best plan) c.input.view_is
+      (one_plan c.input.inside.queries.items c.input.inside.tables c.input.inside.best query only plan c.in_ok-plan.ensures.plan);
+  cost =
+      let query = c.index-queries-0.result in
+      let only = sym c.as_slice-queries.ensures.value ∙ only_one c.as_slice-queries.result.now query
+      c.if-queries-eq1.true c.index-queries-0.is in
+      subst (λ (i : InputView). ArePrepared (queries_in i.queries) i.tables c.args.steps.now c.plan_of.new.steps) c.input.view_is
+      (one_prepared (input_view c.input.inside) query only c.args.steps.now c.plan_of.new.steps c.plan_of.ensures.cost);
+}
 
 pub plans_for-requires-clause-keys : goal.plans_for-requires-clause-keys
 plans_for-requires-clause-keys g c =
@@ -49,16 +73,22 @@ pub plans_for-requires-clause-limit : goal.plans_for-requires-clause-limit
 plans_for-requires-clause-limit g c =
     rw c.as_slice-queries.ensures.value (caps_each c.input.inside.tables c.input.inside.queries.items c.input.invariant.fits)
 
-pub returns-in_err-plans-clause-shaped : goal.returns-in_err-plans-clause-shaped
-returns-in_err-plans-clause-shaped g c =
-    let e : c.from_residual-in_err-plans.result ≡ Err c.in_err-plans.field-0.0 = search rules in
-    let input = input_view c.input.inside in
-    let refusal = reason_of c.in_err-plans.field-0.0 in
-    let some = c.input.invariant.some in
-    let value = ap (length {A = BoundQuery}) c.as_slice-queries.ensures.value in
-    let more : 1 < length input.queries = omega (arith, some, value, c.if-queries-eq1.false) in
-    rw e (subst (λ (i : InputView). Pure (IsShaped (loaded_of i)) (Err refusal)) c.input.view_is
-    (several_refused input refusal more (rw c.as_slice-queries.ensures.value at c.in_err-plans.ensures.shaped)))
+pub returns-in_err-plans : goal.returns-in_err-plans
+returns-in_err-plans g c = record {
+  shaped =
+      let e : c.from_residual-in_err-plans.result ≡ Err c.in_err-plans.field-0.0 = search rules in
+      let input = input_view c.input.inside in
+      let refusal = reason_of c.in_err-plans.field-0.0 in
+      let some = c.input.invariant.some in
+      let value = ap (length {A = BoundQuery}) c.as_slice-queries.ensures.value in
+      let more : 1 < length input.queries = omega (arith, some, value, c.if-queries-eq1.false) in
+      rw e (subst (λ (i : InputView). Pure (IsShaped (loaded_of i)) (Err refusal)) c.input.view_is
+      (several_refused input refusal more (rw c.as_slice-queries.ensures.value at c.in_err-plans.ensures.shaped)));
+  plans = IfOk-from_err c.from_residual-in_err-plans.result _ c.from_residual-in_err-plans.ensures.0;
+  cost =
+      subst (λ (i : InputView). ArePrepared (queries_in i.queries) i.tables c.args.steps.now c.plans_for.new.steps) c.input.view_is
+      (rw c.as_slice-queries.ensures.value at c.plans_for.ensures.cost);
+}
 
 pub plans_for-requires-else-keys-le1-clause-keys : goal.plans_for-requires-else-keys-le1-clause-keys
 plans_for-requires-else-keys-le1-clause-keys g c =
@@ -75,87 +105,70 @@ pub plans_for-requires-else-keys-le1-clause-limit : goal.plans_for-requires-else
 plans_for-requires-else-keys-le1-clause-limit g c =
     rw c.as_slice-queries.ensures.value (caps_each c.input.inside.tables c.input.inside.queries.items c.input.invariant.fits)
 
-pub returns-in_err-plans-2-clause-shaped : goal.returns-in_err-plans-2-clause-shaped
-returns-in_err-plans-2-clause-shaped g c =
-    let e : c.from_residual-in_err-plans-2.result ≡ Err c.in_err-plans-2.field-0.0 = search rules in
-    let input = input_view c.input.inside in
-    let refusal = reason_of c.in_err-plans-2.field-0.0 in
-    let some = c.input.invariant.some in
-    let value = ap (length {A = BoundQuery}) c.as_slice-queries.ensures.value in
-    let more : 1 < length input.queries = omega (arith, some, value, c.if-queries-eq1.false) in
-    rw e (subst (λ (i : InputView). Pure (IsShaped (loaded_of i)) (Err refusal)) c.input.view_is
-    (several_refused input refusal more (rw c.as_slice-queries.ensures.value at c.in_err-plans-2.ensures.shaped)))
+pub returns-in_err-plans-2 : goal.returns-in_err-plans-2
+returns-in_err-plans-2 g c = record {
+  shaped =
+      let e : c.from_residual-in_err-plans-2.result ≡ Err c.in_err-plans-2.field-0.0 = search rules in
+      let input = input_view c.input.inside in
+      let refusal = reason_of c.in_err-plans-2.field-0.0 in
+      let some = c.input.invariant.some in
+      let value = ap (length {A = BoundQuery}) c.as_slice-queries.ensures.value in
+      let more : 1 < length input.queries = omega (arith, some, value, c.if-queries-eq1.false) in
+      rw e (subst (λ (i : InputView). Pure (IsShaped (loaded_of i)) (Err refusal)) c.input.view_is
+      (several_refused input refusal more (rw c.as_slice-queries.ensures.value at c.in_err-plans-2.ensures.shaped)));
+  plans = IfOk-from_err c.from_residual-in_err-plans-2.result _ c.from_residual-in_err-plans-2.ensures.0;
+  cost =
+      subst (λ (i : InputView). ArePrepared (queries_in i.queries) i.tables c.args.steps.now c.plans_for-else-keys-le1.new.steps) c.input.view_is
+      (rw c.as_slice-queries.ensures.value at c.plans_for-else-keys-le1.ensures.cost);
+}
 
-pub returns-in_ok-plans-clause-shaped : goal.returns-in_ok-plans-clause-shaped
-returns-in_ok-plans-clause-shaped g c =
-    let input = input_view c.input.inside in
-    let plans = c.in_ok-plans.plans.items in
-    let have : HavePlans 1 (fixed_key 1 16) input.tables input.queries plans =
-    rw c.as_slice-queries.ensures.value at c.in_ok-plans.ensures.plans in
-    subst (λ (i : InputView). IsShaped (loaded_of i) (Ok (found_of (loaded_of i) (shapes_of plans)))) c.input.view_is
-    (several_found 1 (fixed_key 1 16) input plans have)
+pub returns-in_ok-plans : goal.returns-in_ok-plans
+returns-in_ok-plans g c = record {
+  shaped =
+      let input = input_view c.input.inside in
+      let plans = c.in_ok-plans.plans.items in
+      let have : HavePlans 1 (fixed_key 1 16) input.tables input.queries plans =
+      rw c.as_slice-queries.ensures.value at c.in_ok-plans.ensures.plans in
+      subst (λ (i : InputView). IsShaped (loaded_of i) (Ok (found_of (loaded_of i) (shapes_of plans)))) c.input.view_is
+      (several_found 1 (fixed_key 1 16) input plans have);
+  plans =
+      let input = input_view c.input.inside in
+      let plans = c.in_ok-plans.plans.items in
+      let have : HavePlans 1 (fixed_key 1 16) input.tables input.queries plans =
+      rw c.as_slice-queries.ensures.value at c.in_ok-plans.ensures.plans in
+      let some = c.input.invariant.some in
+      let value = ap (length {A = BoundQuery}) c.as_slice-queries.ensures.value in
+      let more : 1 < length input.queries = omega (arith, some, value, c.if-queries-eq1.false) in
+      subst (λ (i : InputView). (1 < length i.queries) × HavePlans 1 (fixed_key 1 16) i.tables i.queries plans)
+      c.input.view_is (more, have);
+  cost =
+      subst (λ (i : InputView). ArePrepared (queries_in i.queries) i.tables c.args.steps.now c.plans_for.new.steps) c.input.view_is
+      (rw c.as_slice-queries.ensures.value at c.plans_for.ensures.cost);
+}
 
-pub returns-in_ok-plans-clause-plans : goal.returns-in_ok-plans-clause-plans
-returns-in_ok-plans-clause-plans g c =
-    let input = input_view c.input.inside in
-    let plans = c.in_ok-plans.plans.items in
-    let have : HavePlans 1 (fixed_key 1 16) input.tables input.queries plans =
-    rw c.as_slice-queries.ensures.value at c.in_ok-plans.ensures.plans in
-    let some = c.input.invariant.some in
-    let value = ap (length {A = BoundQuery}) c.as_slice-queries.ensures.value in
-    let more : 1 < length input.queries = omega (arith, some, value, c.if-queries-eq1.false) in
-    subst (λ (i : InputView). (1 < length i.queries) × HavePlans 1 (fixed_key 1 16) i.tables i.queries plans)
-    c.input.view_is (more, have)
-
-pub returns-in_ok-plans-2-clause-shaped : goal.returns-in_ok-plans-2-clause-shaped
-returns-in_ok-plans-2-clause-shaped g c =
-    let input = input_view c.input.inside in
-    let plans = c.in_ok-plans-2.plans.items in
-    let have : HavePlans 8 (fixed_key 8 16) input.tables input.queries plans =
-    rw c.as_slice-queries.ensures.value at c.in_ok-plans-2.ensures.plans in
-    subst (λ (i : InputView). IsShaped (loaded_of i) (Ok (found_of (loaded_of i) (shapes_of plans)))) c.input.view_is
-    (several_found 8 (fixed_key 8 16) input plans have)
-
-pub returns-in_ok-plans-2-clause-plans : goal.returns-in_ok-plans-2-clause-plans
-returns-in_ok-plans-2-clause-plans g c =
-    let input = input_view c.input.inside in
-    let plans = c.in_ok-plans-2.plans.items in
-    let have : HavePlans 8 (fixed_key 8 16) input.tables input.queries plans =
-    rw c.as_slice-queries.ensures.value at c.in_ok-plans-2.ensures.plans in
-    let some = c.input.invariant.some in
-    let value = ap (length {A = BoundQuery}) c.as_slice-queries.ensures.value in
-    let more : 1 < length input.queries = omega (arith, some, value, c.if-queries-eq1.false) in
-    subst (λ (i : InputView). (1 < length i.queries) × HavePlans 8 (fixed_key 8 16) i.tables i.queries plans)
-    c.input.view_is (more, have)
-
-pub returns-in_err-plan-clause-plans : goal.returns-in_err-plan-clause-plans
-returns-in_err-plan-clause-plans g c = IfOk-from_err c.from_residual.result _ c.from_residual.ensures.0
-
-pub returns-in_err-plans-clause-plans : goal.returns-in_err-plans-clause-plans
-returns-in_err-plans-clause-plans g c = IfOk-from_err c.from_residual-in_err-plans.result _ c.from_residual-in_err-plans.ensures.0
-
-pub returns-in_err-plans-2-clause-plans : goal.returns-in_err-plans-2-clause-plans
-returns-in_err-plans-2-clause-plans g c = IfOk-from_err c.from_residual-in_err-plans-2.result _ c.from_residual-in_err-plans-2.ensures.0
-
-pub returns-in_err-plans-clause-cost : goal.returns-in_err-plans-clause-cost
-returns-in_err-plans-clause-cost g c =
-    subst (λ (i : InputView). ArePrepared (queries_in i.queries) i.tables c.args.steps.now c.plans_for.new.steps) c.input.view_is
-    (rw c.as_slice-queries.ensures.value at c.plans_for.ensures.cost)
-
-pub returns-in_ok-plans-clause-cost : goal.returns-in_ok-plans-clause-cost
-returns-in_ok-plans-clause-cost g c =
-    subst (λ (i : InputView). ArePrepared (queries_in i.queries) i.tables c.args.steps.now c.plans_for.new.steps) c.input.view_is
-    (rw c.as_slice-queries.ensures.value at c.plans_for.ensures.cost)
-
-pub returns-in_err-plans-2-clause-cost : goal.returns-in_err-plans-2-clause-cost
-returns-in_err-plans-2-clause-cost g c =
-    subst (λ (i : InputView). ArePrepared (queries_in i.queries) i.tables c.args.steps.now c.plans_for-else-keys-le1.new.steps) c.input.view_is
-    (rw c.as_slice-queries.ensures.value at c.plans_for-else-keys-le1.ensures.cost)
-
-pub returns-in_ok-plans-2-clause-cost : goal.returns-in_ok-plans-2-clause-cost
-returns-in_ok-plans-2-clause-cost g c =
-    subst (λ (i : InputView). ArePrepared (queries_in i.queries) i.tables c.args.steps.now c.plans_for-else-keys-le1.new.steps) c.input.view_is
-    (rw c.as_slice-queries.ensures.value at c.plans_for-else-keys-le1.ensures.cost)
+pub returns-in_ok-plans-2 : goal.returns-in_ok-plans-2
+returns-in_ok-plans-2 g c = record {
+  shaped =
+      let input = input_view c.input.inside in
+      let plans = c.in_ok-plans-2.plans.items in
+      let have : HavePlans 8 (fixed_key 8 16) input.tables input.queries plans =
+      rw c.as_slice-queries.ensures.value at c.in_ok-plans-2.ensures.plans in
+      subst (λ (i : InputView). IsShaped (loaded_of i) (Ok (found_of (loaded_of i) (shapes_of plans)))) c.input.view_is
+      (several_found 8 (fixed_key 8 16) input plans have);
+  plans =
+      let input = input_view c.input.inside in
+      let plans = c.in_ok-plans-2.plans.items in
+      let have : HavePlans 8 (fixed_key 8 16) input.tables input.queries plans =
+      rw c.as_slice-queries.ensures.value at c.in_ok-plans-2.ensures.plans in
+      let some = c.input.invariant.some in
+      let value = ap (length {A = BoundQuery}) c.as_slice-queries.ensures.value in
+      let more : 1 < length input.queries = omega (arith, some, value, c.if-queries-eq1.false) in
+      subst (λ (i : InputView). (1 < length i.queries) × HavePlans 8 (fixed_key 8 16) i.tables i.queries plans)
+      c.input.view_is (more, have);
+  cost =
+      subst (λ (i : InputView). ArePrepared (queries_in i.queries) i.tables c.args.steps.now c.plans_for-else-keys-le1.new.steps) c.input.view_is
+      (rw c.as_slice-queries.ensures.value at c.plans_for-else-keys-le1.ensures.cost);
+}
 
 pub plans_for-requires-clause-fits : goal.plans_for-requires-clause-fits
 plans_for-requires-clause-fits g c = rw c.as_slice-queries.ensures.value c.input.invariant.fits
@@ -176,28 +189,3 @@ plan_of-requires-clause-item g c =
     let only = sym c.as_slice-queries.ensures.value ∙ only_one c.as_slice-queries.result.now query
     c.if-queries-eq1.true c.index-queries-0.is in
     one_item c.input.inside.best c.input.inside.queries.items query only c.input.invariant.item
-
-pub returns-in_err-plan-clause-cost : goal.returns-in_err-plan-clause-cost
-returns-in_err-plan-clause-cost g c =
-    let query = c.index-queries-0.result in
-    let only = sym c.as_slice-queries.ensures.value ∙ only_one c.as_slice-queries.result.now query
-    c.if-queries-eq1.true c.index-queries-0.is in
-    subst (λ (i : InputView). ArePrepared (queries_in i.queries) i.tables c.args.steps.now c.plan_of.new.steps) c.input.view_is
-    (one_prepared (input_view c.input.inside) query only c.args.steps.now c.plan_of.new.steps c.plan_of.ensures.cost)
-
-pub returns-then-queries-eq1-clause-cost : goal.returns-then-queries-eq1-clause-cost
-returns-then-queries-eq1-clause-cost g c =
-    let query = c.index-queries-0.result in
-    let only = sym c.as_slice-queries.ensures.value ∙ only_one c.as_slice-queries.result.now query
-    c.if-queries-eq1.true c.index-queries-0.is in
-    subst (λ (i : InputView). ArePrepared (queries_in i.queries) i.tables c.args.steps.now c.plan_of.new.steps) c.input.view_is
-    (one_prepared (input_view c.input.inside) query only c.args.steps.now c.plan_of.new.steps c.plan_of.ensures.cost)
-
-pub returns-then-queries-eq1-clause-plans : goal.returns-then-queries-eq1-clause-plans
-returns-then-queries-eq1-clause-plans g c =
-    let query = c.index-queries-0.result in
-    let only = sym c.as_slice-queries.ensures.value ∙ only_one c.as_slice-queries.result.now query
-    c.if-queries-eq1.true c.index-queries-0.is in
-    let plan = c.in_ok-plan.plan in
-    subst (λ (i : InputView). IsOnePlan i.queries i.tables i.best plan) c.input.view_is
-    (one_plan c.input.inside.queries.items c.input.inside.tables c.input.inside.best query only plan c.in_ok-plan.ensures.plan)

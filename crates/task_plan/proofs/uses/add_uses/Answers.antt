@@ -6,14 +6,17 @@ use Rattle.session_script.specs.Script.{unless}
 use Rattle.task_plan.proofs.FirstUses.{found_entry, found_table, items_end, items_known, items_more, items_none, items_used, none_file, number_shown}
 use Rattle.task_plan.proofs.uses.add_uses.Goals as goal
 
-pub returns-in_default-clause-known : goal.returns-in_default-clause-known
-returns-in_default-clause-known c =
-    let named = c.args.named.now in
-    let item = c.item-item.result in
-    let none : c.entry_of.result ≡ None = search rules in
-    let missing = none_file item.table named (rw c.bytes.ensures at (sym c.entry_of.ensures ∙ ap (option_map (λ e. e.now)) none)) in
-    let unknown = items_end (map named_pair named) c.args.items.now c.loop-item.item-index _ _ _ _ item c.loop-item-test.true c.item-item.is missing c.loop-item.invariant in
-    sym (ap (λ (o : Option Reason). unless o c.args.items.now) unknown)
+pub returns-in_default : goal.returns-in_default
+returns-in_default c = record {
+  known =
+      let named = c.args.named.now in
+      let item = c.item-item.result in
+      let none : c.entry_of.result ≡ None = search rules in
+      let missing = none_file item.table named (rw c.bytes.ensures at (sym c.entry_of.ensures ∙ ap (option_map (λ e. e.now)) none)) in
+      let unknown = items_end (map named_pair named) c.args.items.now c.loop-item.item-index _ _ _ _ item c.loop-item-test.true c.item-item.is missing c.loop-item.invariant in
+      sym (ap (λ (o : Option Reason). unless o c.args.items.now) unknown);
+  used = λ earlier used. tt;
+}
 
 pub loop-item-init : goal.loop-item-init
 loop-item-init c = items_none (map named_pair c.args.named.now) c.args.items.now (map (λ e. named_pair e.now) c.args.uses.now.firsts.items) c.args.uses.now.numbers.items
@@ -29,14 +32,13 @@ loop-item-preserved c =
     (found_table item.table named entry some) (found_entry item.table named entry some) c.in_ok-number.ensures.firsts
     (c.in_ok-number.ensures.number ∙ sym (number_shown (λ e. named_pair e.now) c.number_of.new.firsts.items (named_pair entry).0)) c.loop-item.invariant)
 
-pub returns-clause-known : goal.returns-clause-known
-returns-clause-known c =
-    sym (ap (λ (o : Option Reason). unless o c.args.items.now)
-    (items_known (map named_pair c.args.named.now) c.args.items.now c.loop-item.item-index _ _ _ _ (omega (arith, c.loop-item-test.false)) c.loop-item.invariant))
-
-pub returns-clause-used : goal.returns-clause-used
-returns-clause-used c =
-    items_used (map named_pair c.args.named.now) c.args.items.now c.loop-item.item-index _ _ _ _ (omega (arith, c.loop-item-test.false)) c.loop-item.invariant
+pub returns : goal.returns
+returns c = record {
+  known =
+      sym (ap (λ (o : Option Reason). unless o c.args.items.now)
+      (items_known (map named_pair c.args.named.now) c.args.items.now c.loop-item.item-index _ _ _ _ (omega (arith, c.loop-item-test.false)) c.loop-item.invariant));
+  used = items_used (map named_pair c.args.named.now) c.args.items.now c.loop-item.item-index _ _ _ _ (omega (arith, c.loop-item-test.false)) c.loop-item.invariant;
+}
 
 pub number_of-requires : goal.number_of-requires
 number_of-requires c =
