@@ -15,3 +15,4 @@ pub mod Reading
 pub mod Selected
 pub mod Shapes
 pub mod Seeking
+pub mod Handing

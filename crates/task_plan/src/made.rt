@@ -26,8 +26,6 @@ pub fn load_made<'a>(alloc: Global, made: &'a MadeTables) -> Result<Input, Refus
         (input_result_view result) }
     ensures alone { IfOk result (λ input. length input.queries ≡ 1) }
 {
-    let files = made_shelf(alloc, made)?;
-    let mut shelf = PureShelf::new(files);
     let sought = Sought {
         query: "load.sql",
         several: false,
@@ -35,7 +33,10 @@ pub fn load_made<'a>(alloc: Global, made: &'a MadeTables) -> Result<Input, Refus
         named: made.named.as_slice(),
         best_of: None,
     };
-    load_input(alloc, &sought, &mut shelf, Keys::Known)
+    match made_shelf(alloc, made) {
+        Ok(files) => load_input(alloc, &sought, &mut PureShelf::new(files), Keys::Known),
+        Err(_) => Err(Refusal::NoMemory),
+    }
 }
 
 /// The file of the query and the files of the tables, in memory.

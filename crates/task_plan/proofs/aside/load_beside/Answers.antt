@@ -1,6 +1,7 @@
 use Rattle.std.proofs.Common.{◌≡◌, Err, rules}
 use Rattle.std.proofs.lemmas.Result.{IfOk-from_err}
 use Rattle.task_plan.specs.Sought.{aside_view}
+use Rattle.task_plan.proofs.Handing.{handed_on}
 use Rattle.task_plan.proofs.Asides.{beside_none, beside_read, beside_unread}
 use Rattle.task_plan.proofs.aside.load_beside.Goals as goal
 
@@ -13,7 +14,7 @@ returns-in_default g c = record {
 pub returns-in_err-bytes : goal.returns-in_err-bytes
 returns-in_err-bytes g c = record {
   staged =
-      let e : c.from_residual.result ≡ Err c.in_err-bytes.field-0.0 = search rules in
+      let e = handed_on c.from_residual.result c.in_err-bytes.field-0.0 c.from_residual.ensures.1 in
       rw e (beside_unread (aside_view c.args.aside) c.in-Some.name.now c.in-Some.ensures _ _ _ c.in_err-bytes.ensures.staged);
   rules = IfOk-from_err c.from_residual.result _ c.from_residual.ensures.0;
 }

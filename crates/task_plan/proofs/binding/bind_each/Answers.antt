@@ -2,6 +2,7 @@ use Rattle.std.proofs.Common.{◌≡◌, ◌∙◌, ◌<◌, ℕ, List, length, 
 use Rattle.std.specs.List.{AllByRecursion}
 use Rattle.verdict.specs.Loading.{all_items, first_uses}
 use Rattle.task_plan.specs.Limits.{IsWithinLimits}
+use Rattle.task_plan.proofs.Handing.{handed_on}
 use Rattle.task_plan.proofs.BoundQueries.{HasQueries, all_take, each_end, each_refused, each_stopped, enough, no_queries, numbers_length, own_is_lem, queries_more}
 use Rattle.task_plan.proofs.FirstUses.{all_at}
 use Rattle.task_plan.proofs.binding.bind_each.Goals as goal
@@ -45,7 +46,7 @@ bind-requires c =
 
 pub returns-in_err-query : goal.returns-in_err-query
 returns-in_err-query c =
-    let e : c.from_residual.result ≡ Err c.in_err-query.field-0.0 = search rules in
+    let e = handed_on c.from_residual.result c.in_err-query.field-0.0 c.from_residual.ensures.1 in
     rw e (each_refused c.args.selects.now c.args.tables.now c.loop-select.select-index c.select-item.result c.loop-select.rest.now c.loop-select.queries.items c.loop-select-test.true
     c.select-item.is c.loop-select.invariant c.split_at.result.0.now c.in_err-query.field-0.0 (rw c.as_slice.ensures at c.split_at.ensures.front) c.in_err-query.ensures.fault)
 

@@ -3,6 +3,7 @@ use Rattle.std.proofs.lemmas.Result.{IfOk-from_err}
 use Rattle.cmd_words.specs.NamedPairs.{named_pair}
 use Rattle.verdict.specs.Loading.{all_items}
 use Rattle.task_plan.specs.Sought.{sought_view}
+use Rattle.task_plan.proofs.Handing.{handed_on}
 use Rattle.task_plan.proofs.FirstUses.{few_firsts, numbers_known}
 use Rattle.task_plan.proofs.Selected.{tables_read, tables_refused, unknown_refused}
 use Rattle.task_plan.proofs.input.load_bound.Goals as goal
@@ -11,7 +12,7 @@ pub returns-in_err-uses : goal.returns-in_err-uses
 returns-in_err-uses g c = record {
   staged =
       λ beside.
-      let e : c.from_residual.result ≡ Err c.in_err-uses.field-0.0 = search rules in
+      let e = handed_on c.from_residual.result c.in_err-uses.field-0.0 c.from_residual.ensures.1 in
       rw e (unknown_refused (sought_view c.args.sought.now) c.args.selects.now beside _ _ c.in_err-uses.ensures.known);
   whole = IfOk-from_err c.from_residual.result _ c.from_residual.ensures.0;
   branches = IfOk-from_err c.from_residual.result _ c.from_residual.ensures.0;
@@ -30,7 +31,7 @@ returns-in_err-tables g c = record {
       let sought = sought_view c.args.sought.now in
       let used = c.in_ok-uses.ensures.used in
       let read = (rw c.deref.ensures.value at c.in_err-tables.ensures.staged) sought.named used.entries in
-      let e : c.from_residual-in_err-tables.result ≡ Err c.in_err-tables.field-0.0 = search rules in
+      let e = handed_on c.from_residual-in_err-tables.result c.in_err-tables.field-0.0 c.from_residual-in_err-tables.ensures.1 in
       rw e (tables_refused sought c.args.selects.now beside _ _ _ c.in_ok-uses.ensures.known (rw used.tables at read));
   whole = IfOk-from_err c.from_residual-in_err-tables.result _ c.from_residual-in_err-tables.ensures.0;
   branches = IfOk-from_err c.from_residual-in_err-tables.result _ c.from_residual-in_err-tables.ensures.0;

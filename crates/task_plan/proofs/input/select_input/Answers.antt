@@ -3,13 +3,14 @@ use Rattle.std.proofs.lemmas.Result.{IfOk-from_err}
 use Rattle.refusal_lines.specs.RefusalReasons.{reason_of}
 use Rattle.task_plan.specs.StageViews.{beside_view}
 use Rattle.task_plan.specs.Sought.{sought_view}
+use Rattle.task_plan.proofs.Handing.{handed_on}
 use Rattle.task_plan.proofs.Selected.{beside_read, beside_refused}
 use Rattle.task_plan.proofs.input.select_input.Goals as goal
 
 pub returns-in_err-beside : goal.returns-in_err-beside
 returns-in_err-beside g c = record {
   staged =
-      let e : c.from_residual.result ≡ Err c.in_err-beside.field-0.0 = search rules in
+      let e = handed_on c.from_residual.result c.in_err-beside.field-0.0 c.from_residual.ensures.1 in
       rw e (beside_refused (sought_view c.args.sought.now) c.args.selects.now _ _ _ c.in_err-beside.ensures.staged);
   branches = IfOk-from_err c.from_residual.result _ c.from_residual.ensures.0;
   unnamed = λ _. IfOk-from_err c.from_residual.result _ c.from_residual.ensures.0;
@@ -19,7 +20,7 @@ pub returns-in_err-bound : goal.returns-in_err-bound
 returns-in_err-bound g c = record {
   staged =
       let beside = beside_view c.in_ok-beside.beside in
-      let e : c.from_residual-in_err-bound.result ≡ Err c.in_err-bound.field-0.0 = search rules in
+      let e = handed_on c.from_residual-in_err-bound.result c.in_err-bound.field-0.0 c.from_residual-in_err-bound.ensures.1 in
       rw e (beside_read (sought_view c.args.sought.now) c.args.selects.now _ _ _ beside (Err (reason_of c.in_err-bound.field-0.0)) c.in_ok-beside.ensures.staged (c.in_err-bound.ensures.staged beside));
   branches = IfOk-from_err c.from_residual-in_err-bound.result _ c.from_residual-in_err-bound.ensures.0;
   unnamed = λ _. IfOk-from_err c.from_residual-in_err-bound.result _ c.from_residual-in_err-bound.ensures.0;

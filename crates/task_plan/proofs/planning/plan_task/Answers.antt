@@ -1,5 +1,4 @@
 use Rattle.std.proofs.Common.{◌≡◌, Err, Ok, rules}
-use Rattle.std.proofs.lemmas.Result.{IfOk-from_err}
 use Rattle.task_plan.specs.Input.{loaded_of}
 use Rattle.refusal_lines.specs.RefusalReasons.{reason_of}
 use Rattle.verdict.specs.MadeFiles.{known_to}
@@ -7,42 +6,38 @@ use Rattle.verdict.specs.StageResults.{Shelved, shelved}
 use Rattle.verdict.specs.Words.{built}
 use Rattle.task_plan.specs.Plans.{plans_result_view}
 use Rattle.task_plan.specs.Tasks.{command_of}
+use Rattle.task_plan.proofs.Handing.{handed_on}
 use Rattle.task_plan.proofs.Judging.{early_prepared, early_still, looked_refused, looked_then}
 use Rattle.task_plan.proofs.planning.plan_task.Goals as goal
 
 pub returns-in_err-input : goal.returns-in_err-input
-returns-in_err-input g c = record {
-  judged =
-      let before : Shelved = shelved g.F.Shelf c.args.shelf.now in
-      let after : Shelved = shelved g.F.Shelf c.look_at.new.shelf in
-      let e : c.from_residual.result ≡ Err c.in_err-input.field-0.0 = search rules in
-      rw e (looked_refused (command_of c.args.task.now) before after (reason_of c.in_err-input.field-0.0) c.in_err-input.ensures.looked);
-  plans = IfOk-from_err c.from_residual.result _ c.from_residual.ensures.0;
-  alone = IfOk-from_err c.from_residual.result _ c.from_residual.ensures.0;
-  cost = IfOk-from_err c.from_residual.result _ c.from_residual.ensures.0;
-  early =
-      let e : c.from_residual.result ≡ Err c.in_err-input.field-0.0 = search rules in
-      rw e (early_still (command_of c.args.task.now) (known_to (built (command_of c.args.task.now)) (g.F.Shelf.files c.args.shelf.now)) c.args.steps.now);
-}
+returns-in_err-input g c =
+    let before : Shelved = shelved g.F.Shelf c.args.shelf.now in
+    let after : Shelved = shelved g.F.Shelf c.look_at.new.shelf in
+    let command = command_of c.args.task.now in
+    let e = handed_on c.from_residual.result c.in_err-input.field-0.0 c.from_residual.ensures.1 in
+    rw e (record {
+      judged = looked_refused command before after (reason_of c.in_err-input.field-0.0) c.in_err-input.ensures.looked;
+      plans = tt;
+      alone = tt;
+      cost = tt;
+      early = early_still command (known_to (built command) (g.F.Shelf.files c.args.shelf.now)) c.args.steps.now;
+    })
 
 pub returns-in_err-plans : goal.returns-in_err-plans
-returns-in_err-plans g c = record {
-  judged =
-      let before : Shelved = shelved g.F.Shelf c.args.shelf.now in
-      let after : Shelved = shelved g.F.Shelf c.look_at.new.shelf in
-      let e : c.from_residual-in_err-plans.result ≡ Err c.in_err-plans.field-0.0 = search rules in
-      rw e (looked_then c.args.task.now before after (loaded_of c.in_ok-input.input) (Err (reason_of c.in_err-plans.field-0.0))
-      c.in_ok-input.ensures.looked c.in_err-plans.ensures.shaped);
-  plans = IfOk-from_err c.from_residual-in_err-plans.result _ c.from_residual-in_err-plans.ensures.0;
-  alone = IfOk-from_err c.from_residual-in_err-plans.result _ c.from_residual-in_err-plans.ensures.0;
-  cost = IfOk-from_err c.from_residual-in_err-plans.result _ c.from_residual-in_err-plans.ensures.0;
-  early =
-      let before : Shelved = shelved g.F.Shelf c.args.shelf.now in
-      let after : Shelved = shelved g.F.Shelf c.look_at.new.shelf in
-      let e : c.from_residual-in_err-plans.result ≡ Err c.in_err-plans.field-0.0 = search rules in
-      rw e (early_prepared (command_of c.args.task.now) before after c.in_ok-input.input c.args.steps.now c.plans_of.new.steps
-      c.in_ok-input.ensures.looked c.in_ok-input.ensures.alone c.in_err-plans.ensures.cost);
-}
+returns-in_err-plans g c =
+    let before : Shelved = shelved g.F.Shelf c.args.shelf.now in
+    let after : Shelved = shelved g.F.Shelf c.look_at.new.shelf in
+    let e = handed_on c.from_residual-in_err-plans.result c.in_err-plans.field-0.0 c.from_residual-in_err-plans.ensures.1 in
+    rw e (record {
+      judged = looked_then c.args.task.now before after (loaded_of c.in_ok-input.input) (Err (reason_of c.in_err-plans.field-0.0))
+          c.in_ok-input.ensures.looked c.in_err-plans.ensures.shaped;
+      plans = tt;
+      alone = tt;
+      cost = tt;
+      early = early_prepared (command_of c.args.task.now) before after c.in_ok-input.input c.args.steps.now c.plans_of.new.steps
+          c.in_ok-input.ensures.looked c.in_ok-input.ensures.alone c.in_err-plans.ensures.cost;
+    })
 
 pub returns : goal.returns
 returns g c = record {

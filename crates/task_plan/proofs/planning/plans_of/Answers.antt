@@ -9,6 +9,7 @@ use Rattle.verdict.specs.AcceptedInput.{found_of, queries_in}
 use Rattle.verdict.specs.StageResults.{Pure}
 use Rattle.verdict.specs.Verdict.{IsShaped}
 use Rattle.task_plan.specs.Plans.{IsOnePlan, shape_in, shapes_of}
+use Rattle.task_plan.proofs.Handing.{handed_on}
 use Rattle.task_plan.proofs.Inputs.{input_view}
 use Rattle.task_plan.proofs.PlanList.{caps_each, keys_within, one_found, one_item, one_plan, one_prepared, one_refused, only_one, several_found, several_refused}
 use Rattle.task_plan.proofs.planning.plans_of.Goals as goal
@@ -16,7 +17,7 @@ use Rattle.task_plan.proofs.planning.plans_of.Goals as goal
 pub returns-in_err-plan : goal.returns-in_err-plan
 returns-in_err-plan g c = record {
   shaped =
-      let e : c.from_residual.result ≡ Err c.in_err-plan.field-0.0 = search rules in
+      let e = handed_on c.from_residual.result c.in_err-plan.field-0.0 c.from_residual.ensures.1 in
       let input = input_view c.input.inside in
       let query = c.index-queries-0.result in
       let only = sym c.as_slice-queries.ensures.value ∙ only_one c.as_slice-queries.result.now query
@@ -76,7 +77,7 @@ plans_for-requires-clause-limit g c =
 pub returns-in_err-plans : goal.returns-in_err-plans
 returns-in_err-plans g c = record {
   shaped =
-      let e : c.from_residual-in_err-plans.result ≡ Err c.in_err-plans.field-0.0 = search rules in
+      let e = handed_on c.from_residual-in_err-plans.result c.in_err-plans.field-0.0 c.from_residual-in_err-plans.ensures.1 in
       let input = input_view c.input.inside in
       let refusal = reason_of c.in_err-plans.field-0.0 in
       let some = c.input.invariant.some in
@@ -108,7 +109,7 @@ plans_for-requires-else-keys-le1-clause-limit g c =
 pub returns-in_err-plans-2 : goal.returns-in_err-plans-2
 returns-in_err-plans-2 g c = record {
   shaped =
-      let e : c.from_residual-in_err-plans-2.result ≡ Err c.in_err-plans-2.field-0.0 = search rules in
+      let e = handed_on c.from_residual-in_err-plans-2.result c.in_err-plans-2.field-0.0 c.from_residual-in_err-plans-2.ensures.1 in
       let input = input_view c.input.inside in
       let refusal = reason_of c.in_err-plans-2.field-0.0 in
       let some = c.input.invariant.some in

@@ -1,5 +1,6 @@
 use Rattle.std.proofs.Common.{◌≡◌, ◌∙◌, ◌∷◌, ◌++◌, [], Bool, List, Err, true, false, ap, length, rules, sym}
 use Rattle.query_select.specs.declared.select.Select.{Select}
+use Rattle.task_plan.proofs.Handing.{handed_on}
 use Rattle.task_plan.proofs.Faults.{branches_limits, branches_read, branches_refused, one_limits, one_read, one_refused}
 use Rattle.task_plan.proofs.query.read_selects.Goals as goal
 
@@ -8,7 +9,7 @@ clash e = cc
 
 pub returns-in_err-all : goal.returns-in_err-all
 returns-in_err-all c =
-    let e : c.from_residual.result ≡ Err c.in_err-all.field-0.0 = search rules in
+    let e = handed_on c.from_residual.result c.in_err-all.field-0.0 c.from_residual.ensures.1 in
     rw (e, c.if-several.true) (record { parsed = branches_refused c.args.bytes.now _ c.in_err-all.ensures.sound; limits = tt; alone = λ _. tt })
 
 pub returns-then-several : goal.returns-then-several
@@ -20,7 +21,7 @@ returns-then-several c = record {
 
 pub returns-in_err-select : goal.returns-in_err-select
 returns-in_err-select c =
-    let e : c.from_residual-in_err-select.result ≡ Err c.in_err-select.field-0.0 = search rules in
+    let e = handed_on c.from_residual-in_err-select.result c.in_err-select.field-0.0 c.from_residual-in_err-select.ensures.1 in
     rw (e, c.if-several.false) (record { parsed = one_refused c.args.bytes.now _ c.in_err-select.ensures.sound; limits = tt; alone = λ _. tt })
 
 pub returns : goal.returns

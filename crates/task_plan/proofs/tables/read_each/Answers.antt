@@ -2,13 +2,14 @@ use Rattle.std.proofs.Common.{◌≡◌, ◌≤◌, Err, length, map, arith, rul
 use Rattle.std.proofs.lemmas.List.{length-map}
 use Rattle.cmd_words.specs.NamedPairs.{named_pair}
 use Rattle.task_plan.specs.Entries.{IsEntryOf}
+use Rattle.task_plan.proofs.Handing.{handed_on}
 use Rattle.task_plan.proofs.FirstUses.{mapped_all, mapped_at, mapped_inside}
 use Rattle.task_plan.proofs.Reading.{reached_end, reached_more, reached_refused}
 use Rattle.task_plan.proofs.tables.read_each.Goals as goal
 
 pub returns-in_err-read_entry : goal.returns-in_err-read_entry
 returns-in_err-read_entry g c =
-    let e : c.from_residual.result ≡ Err c.in_err-read_entry.field-0.0 = search rules in
+    let e = handed_on c.from_residual.result c.in_err-read_entry.field-0.0 c.from_residual.ensures.1 in
     rw e (record {
       staged = λ named known.
           let i = c.loop-entry.entry-index in

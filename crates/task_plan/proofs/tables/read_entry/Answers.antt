@@ -1,13 +1,14 @@
 use Rattle.std.proofs.Common.{◌≡◌, ◌∷◌, [], Err, Ok, length, length-append, ap, arith, rules}
 use Rattle.anyk_model.specs.Table.{flaw_of, records_of, table_of}
 use Rattle.cmd_words.specs.NamedPairs.{named_pair}
+use Rattle.task_plan.proofs.Handing.{handed_on}
 use Rattle.task_plan.proofs.Faults.{table_added, table_refused}
 use Rattle.task_plan.proofs.Reading.{file_read, file_refused}
 use Rattle.task_plan.proofs.tables.read_entry.Goals as goal
 
 pub returns-in_err-bytes : goal.returns-in_err-bytes
 returns-in_err-bytes g c =
-    let e : c.from_residual.result ≡ Err c.in_err-bytes.field-0.0 = search rules in
+    let e = handed_on c.from_residual.result c.in_err-bytes.field-0.0 c.from_residual.ensures.1 in
     rw e (record {
       staged = λ named is_entry.
           file_refused named (named_pair c.args.entry.now) is_entry c.args.reader.now _ _ _ (rw c.as_str.ensures.value at c.in_err-bytes.ensures.staged);

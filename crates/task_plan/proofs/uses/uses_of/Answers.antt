@@ -3,6 +3,7 @@ use Rattle.std.proofs.lemmas.Result.{IfOk-from_err}
 use Rattle.std.proofs.lemmas.List.{length-map}
 use Rattle.cmd_words.specs.NamedPairs.{named_pair}
 use Rattle.refusal_lines.specs.RefusalReasons.{reason_of}
+use Rattle.task_plan.proofs.Handing.{handed_on}
 use Rattle.task_plan.proofs.AllItems.{all_known, all_more, all_refused, all_room, all_used}
 use Rattle.task_plan.proofs.uses.uses_of.Goals as goal
 
@@ -16,7 +17,7 @@ add_uses-requires c =
 pub returns-in_err-add_uses : goal.returns-in_err-add_uses
 returns-in_err-add_uses c = record {
   known =
-      let e : c.from_residual.result ≡ Err c.in_err-add_uses.field-0.0 = search rules in
+      let e = handed_on c.from_residual.result c.in_err-add_uses.field-0.0 c.from_residual.ensures.1 in
       rw e (all_refused (map named_pair c.args.named.now) c.args.selects.now c.loop-select.select-index c.select-item.result _ _ c.loop-select-test.true c.select-item.is
       c.loop-select.invariant c.args.selects.now (reason_of c.in_err-add_uses.field-0.0) (rw c.as_slice.ensures at c.in_err-add_uses.ensures.known));
   used = IfOk-from_err c.from_residual.result _ c.from_residual.ensures.0;

@@ -1,0 +1,7 @@
+-- An error that `?` hands on.
+use Rattle.std.proofs.Common.{◌≡◌, Result, Ok, Err, ap}
+use Rattle.std.specs.Prelude.{IsErrAnd}
+
+pub handed_on : {T E : Type 0} (r : Result T E) (x : E) → IsErrAnd r (λ y. y ≡ x) → r ≡ Err x
+handed_on (Ok a) x h = absurd h
+handed_on (Err y) x h = ap Err h
