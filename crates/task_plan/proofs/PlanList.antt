@@ -1,6 +1,8 @@
 -- The structures of the queries, from their plans, and the steps of the preparation.
 use Rattle.std.proofs.Common.{◌≡◌, ◌≤◌, ◌<◌, ◌+◌, ◌^◌, ◌∙◌, ℕ, Bool, true, false, List, [], ◌∷◌, ◌++◌, length, take, drop}
-use Rattle.std.proofs.Common.{get_or, append_assoc, IfSome, Option, None, Some, Ok, Err, refl, sym, ap, subst, arith}
+use Rattle.std.proofs.Common.{get_or, append_assoc, IfSome, Result, Vec, Option, None, Some, Ok, Err, refl, sym, ap, subst, arith}
+use Rattle.std.specs.Prelude.{IsErrAnd}
+use Rattle.std.specs.Global.{Global}
 use Rattle.std.specs.List.{All, AllByRecursion, sum_by}
 use Rattle.std.proofs.lemmas.Bool.{lt-ltb}
 use Rattle.std.proofs.lemmas.List.{length-map, length-take-le, map-append, take-append-drop, take_more}
@@ -39,8 +41,8 @@ use Rattle.verdict.specs.UnionBound.{HaveShapes}
 use Rattle.verdict.specs.Verdict.{AreStructures, IsFlawed, IsShaped, IsStructure}
 use Rattle.verdict.proofs.Staging.{pure_refused}
 use Rattle.verdict.proofs.Structure.{shapes_found, structures_refused}
-use Rattle.task_plan.specs.Plans.{IsOnePlan, IsOnePlanOf, found_by, plan_reason, shapes_of}
-use Rattle.task_plan.specs.Plans.{shape_result_view}
+use Rattle.task_plan.specs.Plans.{IsOnePlan, IsOnePlanOf, found_by, plan_reason, shape_in, shapes_of, shapes_result_view}
+use Rattle.task_plan.specs.declared.planning.Unplanned.{Unplanned}
 
 -- # One query
 
@@ -52,7 +54,7 @@ plan_structured d key query tables best made is =
 
 pub planned_shown : (query : BoundQuery) (tables : List Table) (best : Option ℕ) (made : RankedPlan)
     → IsRankedPlan query tables best made
-    → Pure (IsStructure None tables query.query) (shape_result_view (Ok made))
+    → Pure (IsStructure None tables query.query) (Ok (shape_in made))
 planned_shown query tables best (Packed made) is = plan_structured 1 key_of_packed query tables best made is
 planned_shown query tables best (MiddleSum made) is = plan_structured 1 (fixed_key 1 8) query tables best made is
 planned_shown query tables best (Sum made) is = plan_structured 1 (fixed_key 1 16) query tables best made is
@@ -110,6 +112,15 @@ module _ {R : Type 0} (d : ℕ) (key : R → KeyOf d 16) (tables : List Table) w
     pub made : HavePlans d key tables (take n queries) plans
     pub count : length plans ≡ n
     pub cost : now ≤ before + sum_by (λ (q : BoundQuery). preparation_of tables q.query) (take n queries)
+
+  -- memory was refused
+  pub unplanned_memory : (G : Result (List Shape) Reason → Type 0) (r : Result (Vec (PlanView R) Global) Unplanned) → IsErrAnd r (λ u. u.fault ≡ fault.NoMemory)
+      → Pure G (shapes_result_view r)
+  unplanned_memory G (Ok plans) gives = absurd gives
+  unplanned_memory G (Err unplanned) gives = rw gives tt
+
+  pub unplanned_cost : (queries : List BoundQuery) (before : ℕ) → ArePrepared (queries_in queries) tables before before
+  unplanned_cost queries before = omega arith
 
   pub none_planned : (queries : List BoundQuery) (before : ℕ) → HasPlanned queries 0 [] before before
   none_planned queries before = record { made = tt; count = refl; cost = omega arith }

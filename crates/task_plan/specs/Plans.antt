@@ -28,6 +28,7 @@ use Rattle.verdict.specs.Loading.{Loaded}
 use Rattle.verdict.specs.Verdict.{IsVerdict}
 use Rattle.verdict.specs.Words.{Command, built, run, plan, session, load, prove, verify}
 use Rattle.task_plan.specs.declared.planning.Planned.{Planned}
+use Rattle.task_plan.specs.declared.planning.Unplanned.{Unplanned}
 use Rattle.task_plan.specs.declared.planning.Plans.{Plans}
 use Rattle.task_plan.specs.declared.planning.Plans.TheVariants.{One, Sums, Lexes}
 
@@ -49,19 +50,6 @@ abbrev pub shapes_in : Plans → List Shape
 shapes_in (One made) = shape_in made ∷ []
 shapes_in (Sums plans) = shapes_of plans.items
 shapes_in (Lexes plans) = shapes_of plans.items
-
-abbrev pub shape_result_view : Result RankedPlan Refusal → Result Shape Reason
-shape_result_view (Ok made) = Ok (shape_in made)
-shape_result_view (Err refusal) = Err (reason_of refusal)
-
-abbrev pub shapes_result_view : {R : Type 0} → Result (Vec (PlanView R) Global) Refusal
-    → Result (List Shape) Reason
-shapes_result_view (Ok plans) = Ok (shapes_of plans.items)
-shapes_result_view (Err refusal) = Err (reason_of refusal)
-
-abbrev pub plans_result_view : Loaded → Result Plans Refusal → Result Found Reason
-plans_result_view loaded (Ok plans) = Ok (found_of loaded (shapes_in plans))
-plans_result_view loaded (Err refusal) = Err (reason_of refusal)
 
 -- what is known of a query, its tables, the item whose rows are asked for, a script and a
 -- certificate, with the structure of the query
@@ -87,6 +75,15 @@ abbrev pub plan_reason : Option ℕ → PlanFault → Reason
 plan_reason branch (fault.Cyclic core) = reason.Cyclic branch (items_of core)
 plan_reason branch (fault.TooManyRows most) = reason.TooManyNodeRows
 plan_reason branch fault.NoMemory = reason.NoMemory
+
+abbrev pub shapes_result_view : {R : Type 0} → Result (Vec (PlanView R) Global) Unplanned
+    → Result (List Shape) Reason
+shapes_result_view (Ok plans) = Ok (shapes_of plans.items)
+shapes_result_view (Err unplanned) = Err (plan_reason unplanned.branch unplanned.fault)
+
+abbrev pub plans_result_view : Loaded → Result Plans Unplanned → Result Found Reason
+plans_result_view loaded (Ok plans) = Ok (found_of loaded (shapes_in plans))
+plans_result_view loaded (Err unplanned) = Err (plan_reason unplanned.branch unplanned.fault)
 
 -- ---- the plans of the queries
 

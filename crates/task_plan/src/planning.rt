@@ -4,7 +4,6 @@ ghost use Rattle.std.specs.List.{All};
 ghost use Rattle.task_plan.specs.Input.{loaded_of};
 ghost use Rattle.node_build.specs.Nodes.{CapsBelow};
 ghost use Rattle.plan_build.specs.Plans.{ArePrepared, HavePlans};
-ghost use Rattle.plan_build.specs.RankedPlan.{IsRankedPlan};
 ghost use Rattle.bound_query.specs.WeighedQuery.{Fits};
 ghost use Rattle.refusal_lines.specs.RefusalReasons.{reason_of};
 ghost use Rattle.step_bounds.specs.RunBounds.{IsPrepared};
@@ -15,7 +14,7 @@ ghost use Rattle.verdict.specs.Verdict.{AreStructures, IsShaped, IsStructure};
 ghost use Rattle.verdict.specs.Words.{built};
 ghost use Rattle.task_plan.specs.Judgement.{HasOne, IsJudged};
 ghost use Rattle.task_plan.specs.Plans.{ArePlans, IsEarlyWithin, plan_reason};
-ghost use Rattle.task_plan.specs.Plans.{plans_result_view, planned_result_view, shape_result_view, shapes_result_view};
+ghost use Rattle.task_plan.specs.Plans.{plans_result_view, planned_result_view, shapes_result_view};
 ghost use Rattle.task_plan.specs.Tasks.{command_of};
 
 use crate::binding::Input;
@@ -27,7 +26,7 @@ use outer_io::Shelf;
 use plan_build::{Plan, PlanFault, RankedPlan, prepare, prepare_ranked};
 use rank_key::{LexRank, Rank, SumRank};
 use refusal_lines::Refusal;
-use std::alloc::Global;
+use std::alloc::{AllocError, AllocFailed, Global};
 use std::sync::ledger::Ledger;
 use step_counter::Steps;
 use table_store::Tables;
@@ -71,16 +70,55 @@ pub fn plan_task<'a, F: Shelf, L: Ledger>(
         (known_to (built (command_of task.now)) (F.files shelf.old)) steps.old steps.new) }
 {
     let input = look_at(alloc, task, shelf, keys)?;
-    let plans = plans_of(alloc, &input, steps)?;
-    Ok(Planned { input, plans })
+    match plans_of(alloc, &input, steps) {
+        Ok(plans) => Ok(Planned { input, plans }),
+        Err(unplanned) => Err(plan_refusal(unplanned.branch, unplanned.fault)),
+    }
 }
 
-/// The plans of the input's queries, or the first refusal in their order.
-fn plans_of<'a, L: Ledger>(
+/// Why queries have no plans.
+#[derive(Clone, Copy)]
+struct Unplanned {
+    /// The branch of the query that has none, from 1; none if no branch is told.
+    branch: Option<u32>,
+    /// What is wrong with it, or that memory was refused.
+    fault: PlanFault,
+}
+
+impl From<AllocError> for Unplanned {
+    ghost use Rattle.std.specs.Prelude.{◌≡◌};
+    ghost use Rattle.plan_build.specs.declared.fault.PlanFault.TheVariants.{NoMemory};
+
+    ghost from_gives = { λ _ u. u.fault ≡ NoMemory };
+
+    fn from(_error: AllocError) -> Self {
+        Unplanned {
+            branch: None,
+            fault: PlanFault::NoMemory,
+        }
+    }
+}
+
+impl<T: Drop> From<AllocFailed<T>> for Unplanned {
+    ghost use Rattle.std.specs.Prelude.{◌≡◌};
+    ghost use Rattle.plan_build.specs.declared.fault.PlanFault.TheVariants.{NoMemory};
+
+    ghost from_gives = { λ _ u. u.fault ≡ NoMemory };
+
+    fn from(_error: AllocFailed<T>) -> Self {
+        Unplanned {
+            branch: None,
+            fault: PlanFault::NoMemory,
+        }
+    }
+}
+
+/// The plans of the input's queries, or the first fault in their order.
+fn plans_of<L: Ledger>(
     alloc: Global,
     input: &Input,
     steps: &mut Steps<L>,
-) -> Result<Plans, Refusal<'a>>
+) -> Result<Plans, Unplanned>
     ensures shaped { Pure (IsShaped (loaded_of input.now))
         (plans_result_view (loaded_of input.now) result) }
     ensures plans { IfOk result (ArePlans input.now) }
@@ -90,8 +128,13 @@ fn plans_of<'a, L: Ledger>(
     let tables = &input.tables;
     let first = &queries[0];
     if queries.len() == 1 {
-        let plan = plan_of(alloc, first, tables, input.best, steps)?;
-        return Ok(Plans::One(plan));
+        return match prepare_ranked(alloc, first, tables, input.best, steps) {
+            Ok(plan) => Ok(Plans::One(plan)),
+            Err(fault) => Err(Unplanned {
+                branch: None,
+                fault,
+            }),
+        };
     }
     if first.keys() <= 1 {
         let plans = plans_for::<SumRank, L>(alloc, queries, tables, steps)?;
@@ -102,36 +145,14 @@ fn plans_of<'a, L: Ledger>(
     }
 }
 
-/// The plan of the one query of an input. `Cyclic` if it has no join tree, and `TooManyNodeRows` if
-/// its nodes have too many rows.
-fn plan_of<'a, L: Ledger>(
-    alloc: Global,
-    query: &Query,
-    tables: &Tables,
-    best: Option<u32>,
-    steps: &mut Steps<L>,
-) -> Result<RankedPlan, Refusal<'a>>
-    requires fits { Fits query.now tables.now }
-    requires item { IfSome best (λ i. i < length query.now.query.items) }
-    ensures shaped { Pure (IsStructure None tables.now query.now.query) (shape_result_view result) }
-    ensures plan { IfOk result (IsRankedPlan query.now tables.now best) }
-    ensures cost { IsPrepared query.now.query tables.now steps.old steps.new }
-{
-    match prepare_ranked(alloc, query, tables, best, steps) {
-        Ok(plan) => Ok(plan),
-        Err(fault) => Err(plan_refusal(None, fault)),
-    }
-}
-
-/// The plan of each of several queries, by one rank type. The refusal is that of the first query
-/// that has none, and `Cyclic` tells its number: `Cyclic` if it has no join tree, and
-/// `TooManyNodeRows` if its nodes have too many rows.
-fn plans_for<'a, R: Rank, L: Ledger>(
+/// The plan of each of several queries, by one rank type. The fault is that of the first query that
+/// has none, with its number.
+fn plans_for<R: Rank, L: Ledger>(
     alloc: Global,
     queries: &[Query],
     tables: &Tables,
     steps: &mut Steps<L>,
-) -> Result<Vec<Plan<R>>, Refusal<'a>>
+) -> Result<Vec<Plan<R>>, Unplanned>
     requires few { length queries.now ≤ 8 }
     requires fits { All (λ q. Fits q tables.now) queries.now }
     requires keys { All (λ q. length q.query.order ≤ R.KEYS) queries.now }
@@ -150,7 +171,10 @@ fn plans_for<'a, R: Rank, L: Ledger>(
             Ok(plan) => plans.push(plan)?,
             Err(fault) => {
                 let branch = plans.len() as u32 + 1;
-                return Err(plan_refusal(Some(branch), fault));
+                return Err(Unplanned {
+                    branch: Some(branch),
+                    fault,
+                });
             }
         }
     }

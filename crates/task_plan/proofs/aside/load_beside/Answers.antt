@@ -1,4 +1,3 @@
-use Rattle.std.proofs.Common.{◌≡◌, Err, rules}
 use Rattle.std.proofs.lemmas.Result.{IfOk-from_err}
 use Rattle.task_plan.specs.Sought.{aside_view}
 use Rattle.task_plan.proofs.Handing.{handed_on}

@@ -1,4 +1,4 @@
-use Rattle.std.proofs.Common.{◌≡◌, ◌∙◌, ◌<◌, ℕ, List, length, Err, ap, subst, sym, rules, arith}
+use Rattle.std.proofs.Common.{◌∙◌, ◌<◌, ℕ, List, length, ap, subst, sym, arith}
 use Rattle.std.specs.List.{AllByRecursion}
 use Rattle.verdict.specs.Loading.{all_items, first_uses}
 use Rattle.task_plan.specs.Limits.{IsWithinLimits}

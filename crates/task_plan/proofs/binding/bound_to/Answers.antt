@@ -1,4 +1,4 @@
-use Rattle.std.proofs.Common.{◌≡◌, Err, rules, arith}
+use Rattle.std.proofs.Common.{Err, arith}
 use Rattle.std.proofs.lemmas.Result.{IfOk-from_err}
 use Rattle.refusal_lines.specs.RefusalReasons.{reason_of}
 use Rattle.verdict.specs.AcceptedInput.{queries_in}

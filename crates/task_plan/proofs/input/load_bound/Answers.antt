@@ -1,4 +1,3 @@
-use Rattle.std.proofs.Common.{◌≡◌, Err, rules}
 use Rattle.std.proofs.lemmas.Result.{IfOk-from_err}
 use Rattle.cmd_words.specs.NamedPairs.{named_pair}
 use Rattle.verdict.specs.Loading.{all_items}

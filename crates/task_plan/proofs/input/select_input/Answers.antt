@@ -1,4 +1,4 @@
-use Rattle.std.proofs.Common.{◌≡◌, Err, rules}
+use Rattle.std.proofs.Common.{Err}
 use Rattle.std.proofs.lemmas.Result.{IfOk-from_err}
 use Rattle.refusal_lines.specs.RefusalReasons.{reason_of}
 use Rattle.task_plan.specs.StageViews.{beside_view}

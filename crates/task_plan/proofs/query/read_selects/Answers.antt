@@ -1,4 +1,4 @@
-use Rattle.std.proofs.Common.{◌≡◌, ◌∙◌, ◌∷◌, ◌++◌, [], Bool, List, Err, true, false, ap, length, rules, sym}
+use Rattle.std.proofs.Common.{◌≡◌, ◌∙◌, ◌∷◌, ◌++◌, [], Bool, List, true, false, ap, length, sym}
 use Rattle.query_select.specs.declared.select.Select.{Select}
 use Rattle.task_plan.proofs.Handing.{handed_on}
 use Rattle.task_plan.proofs.Faults.{branches_limits, branches_read, branches_refused, one_limits, one_read, one_refused}

@@ -1,4 +1,4 @@
-use Rattle.std.proofs.Common.{◌≡◌, ◌≤◌, Err, length, map, arith, rules}
+use Rattle.std.proofs.Common.{◌≤◌, length, map, arith}
 use Rattle.std.proofs.lemmas.List.{length-map}
 use Rattle.cmd_words.specs.NamedPairs.{named_pair}
 use Rattle.task_plan.specs.Entries.{IsEntryOf}

@@ -1,4 +1,4 @@
-use Rattle.std.proofs.Common.{◌≡◌, ◌∷◌, [], Err, Ok, length, length-append, ap, arith, rules}
+use Rattle.std.proofs.Common.{◌∷◌, [], Ok, length, length-append, ap, arith}
 use Rattle.anyk_model.specs.Table.{flaw_of, records_of, table_of}
 use Rattle.cmd_words.specs.NamedPairs.{named_pair}
 use Rattle.task_plan.proofs.Handing.{handed_on}
