@@ -3,3 +3,4 @@ pub mod Digits
 pub mod Distinct
 pub mod Pairing
 pub mod Taken
+pub mod Forming
