@@ -1,7 +1,17 @@
 -- An error that `?` hands on.
 use Rattle.std.proofs.Common.{◌≡◌, Result, Ok, Err, ap}
 use Rattle.std.specs.Prelude.{IsErrAnd}
+use Rattle.refusal_lines.specs.Reason.{Reason}
+use Rattle.verdict.specs.StageResults.{Pure}
+use Rattle.task_plan.specs.StageViews.{used_as}
+use Rattle.task_plan.specs.declared.uses.UsesFault.{UsesFault}
+use Rattle.task_plan.specs.declared.uses.UsesFault.TheVariants.{NoMemory}
 
 pub handed_on : {T E : Type 0} (r : Result T E) (x : E) → IsErrAnd r (λ y. y ≡ x) → r ≡ Err x
 handed_on (Ok a) x h = absurd h
 handed_on (Err y) x h = ap Err h
+
+-- memory was refused while tables were looked up
+pub uses_memory : {A B : Type 0} (G : Result B Reason → Type 0) (b : B) (r : Result A UsesFault) → IsErrAnd r (λ e. e ≡ NoMemory) → Pure G (used_as b r)
+uses_memory G b (Ok a) gives = absurd gives
+uses_memory G b (Err fault) gives = rw gives tt

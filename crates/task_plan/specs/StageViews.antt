@@ -23,6 +23,8 @@ use Rattle.verdict.specs.Loading.{Beside, Loaded, are_several, bound_in, told_br
 use Rattle.verdict.specs.StageResults.{Pure}
 use Rattle.verdict.specs.Stages.{Is}
 use Rattle.task_plan.specs.declared.aside.Beside.{Beside as BesideRead}
+use Rattle.task_plan.specs.declared.uses.UsesFault.{UsesFault}
+use Rattle.task_plan.specs.declared.uses.UsesFault.TheVariants as uses
 use Rattle.task_plan.specs.Input.{InputView, loaded_of}
 
 abbrev pub tables_result_view : Result (List Table) Refusal → Result (List Table) Reason
@@ -33,6 +35,15 @@ tables_result_view (Err refusal) = Err (reason_of refusal)
 abbrev pub said_as : {A B : Type 0} → B → Result A Refusal → Result B Reason
 said_as b (Ok a) = Ok b
 said_as b (Err refusal) = Err (reason_of refusal)
+
+abbrev pub uses_reason : UsesFault → Reason
+uses_reason (uses.UnknownTable at) = reason.UnknownTable at
+uses_reason uses.NoMemory = reason.NoMemory
+
+-- the same as `said_as` for the tables that items use
+abbrev pub used_as : {A B : Type 0} → B → Result A UsesFault → Result B Reason
+used_as b (Ok a) = Ok b
+used_as b (Err fault) = Err (uses_reason fault)
 
 abbrev pub file_reason : List ℕ → FileFault → Reason
 file_reason name file.Missing = reason.NoFile name

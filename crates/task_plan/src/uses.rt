@@ -5,17 +5,18 @@ ghost use Rattle.std.specs.Str.{bytes_eq};
 ghost use Rattle.std.specs.String.{string_bytes};
 ghost use Rattle.query_select.specs.declared.select.ItemRef.{ItemRef as Item};
 ghost use Rattle.cmd_words.specs.NamedPairs.{named_pair};
+ghost use Rattle.refusal_lines.specs.RefusalReasons.{reason_of};
 ghost use Rattle.verdict.specs.Loading.{all_items, unknown_table};
 ghost use Rattle.session_script.specs.Script.{unless};
 ghost use Rattle.verdict.specs.Stages.{Is};
 ghost use Rattle.verdict.specs.StageResults.{Pure};
 ghost use Rattle.task_plan.specs.Entries.{HasUses, with_entry};
-ghost use Rattle.task_plan.specs.StageViews.{said_as};
+ghost use Rattle.task_plan.specs.StageViews.{said_as, used_as, uses_reason};
 
 use cmd_words::Named;
 use query_select::select::{ItemRef, Select};
 use refusal_lines::Refusal;
-use std::alloc::Global;
+use std::alloc::{AllocFailed, Global};
 use step_counter::NoMemory;
 
 /// The tables that items use.
@@ -25,6 +26,47 @@ pub(crate) struct Uses<'a> {
     pub(crate) firsts: Vec<&'a Named>,
     /// For each item the number of its table, which is its place among `firsts`, from 0.
     pub(crate) numbers: Vec<u32>,
+}
+
+/// Why the tables of items are not known.
+#[derive(Clone, Copy)]
+enum UsesFault {
+    /// No entry names the table of the item at this offset.
+    UnknownTable(u32),
+    /// Memory was refused.
+    NoMemory,
+}
+
+impl From<NoMemory> for UsesFault {
+    ghost use Rattle.std.specs.Prelude.{◌≡◌};
+    ghost use Rattle.task_plan.specs.declared.uses.UsesFault.TheVariants.{NoMemory as OutOfMemory};
+
+    ghost from_gives = { λ _ e. e ≡ OutOfMemory };
+
+    fn from(_error: NoMemory) -> Self {
+        UsesFault::NoMemory
+    }
+}
+
+impl<T: Drop> From<AllocFailed<T>> for UsesFault {
+    ghost use Rattle.std.specs.Prelude.{◌≡◌};
+    ghost use Rattle.task_plan.specs.declared.uses.UsesFault.TheVariants.{NoMemory as OutOfMemory};
+
+    ghost from_gives = { λ _ e. e ≡ OutOfMemory };
+
+    fn from(_error: AllocFailed<T>) -> Self {
+        UsesFault::NoMemory
+    }
+}
+
+/// The refusal for tables that are not known.
+fn uses_refusal<'a>(fault: UsesFault) -> Refusal<'a>
+    ensures { reason_of result ≡ uses_reason fault }
+{
+    match fault {
+        UsesFault::UnknownTable(at) => Refusal::UnknownTable(at),
+        UsesFault::NoMemory => Refusal::NoMemory,
+    }
 }
 
 /// The tables that the items of all selects use. `UnknownTable` at the first item whose table has
@@ -46,7 +88,10 @@ pub(crate) fn uses_of<'a>(
         numbers: Vec::new(alloc),
     };
     for select in selects {
-        add_uses(named, select.items.as_slice(), &mut uses)?;
+        match add_uses(named, select.items.as_slice(), &mut uses) {
+            Ok(()) => {}
+            Err(fault) => return Err(uses_refusal(fault)),
+        }
     }
     Ok(uses)
 }
@@ -57,10 +102,10 @@ fn add_uses<'a>(
     named: &'a [Named],
     items: &[ItemRef],
     uses: &mut Uses<'a>,
-) -> Result<(), Refusal<'a>>
+) -> Result<(), UsesFault>
     requires { length uses.old.firsts.items + length items.now ≤ 16 }
     ensures known { let words = map named_pair named.now in
-        Pure (Is (unless (unknown_table words items.now) items.now)) (said_as items.now result) }
+        Pure (Is (unless (unknown_table words items.now) items.now)) (used_as items.now result) }
     ensures used { (earlier : List Item) → HasUses (map named_pair named.now) earlier
         (map (λ e. named_pair e.now) uses.old.firsts.items) uses.old.numbers.items
         → OnOk result (HasUses (map named_pair named.now) (earlier ++ items.now)
@@ -68,7 +113,7 @@ fn add_uses<'a>(
 {
     for item in items {
         let Some(entry) = entry_of(named, item.table.bytes()) else {
-            return Err(Refusal::UnknownTable(item.at));
+            return Err(UsesFault::UnknownTable(item.at));
         };
         let number = number_of(&mut uses.firsts, entry)?;
         uses.numbers.push(number)?;

@@ -1,8 +1,12 @@
 use Rattle.std.proofs.Common.{◌≡◌, ◌∙◌, None, Option, map, option_map, sym, ap, rules, arith}
 use Rattle.std.proofs.lemmas.List.{length-map}
+use Rattle.std.proofs.lemmas.Result.{IfOk-from_err}
 use Rattle.cmd_words.specs.NamedPairs.{named_pair}
 use Rattle.refusal_lines.specs.Reason.{Reason}
 use Rattle.session_script.specs.Script.{unless}
+use Rattle.verdict.specs.Loading.{unknown_table}
+use Rattle.verdict.specs.Stages.{Is}
+use Rattle.task_plan.proofs.Handing.{uses_memory}
 use Rattle.task_plan.proofs.FirstUses.{found_entry, found_table, items_end, items_known, items_more, items_none, items_used, none_file, number_shown}
 use Rattle.task_plan.proofs.uses.add_uses.Goals as goal
 
@@ -16,6 +20,19 @@ returns-in_default c = record {
       let unknown = items_end (map named_pair named) c.args.items.now c.loop-item.item-index _ _ _ _ item c.loop-item-test.true c.item-item.is missing c.loop-item.invariant in
       sym (ap (λ (o : Option Reason). unless o c.args.items.now) unknown);
   used = λ earlier used. tt;
+}
+
+pub returns-in_err-number : goal.returns-in_err-number
+returns-in_err-number c = record {
+  known = uses_memory (Is (unless (unknown_table (map named_pair c.args.named.now) c.args.items.now) c.args.items.now)) c.args.items.now c.from_residual.result c.from_residual.ensures.1;
+  used = λ earlier used. IfOk-from_err c.from_residual.result _ c.from_residual.ensures.0;
+}
+
+pub returns-in_err-push : goal.returns-in_err-push
+returns-in_err-push c = record {
+  known = uses_memory (Is (unless (unknown_table (map named_pair c.args.named.now) c.args.items.now) c.args.items.now)) c.args.items.now c.from_residual-in_err-push.result
+      c.from_residual-in_err-push.ensures.1;
+  used = λ earlier used. IfOk-from_err c.from_residual-in_err-push.result _ c.from_residual-in_err-push.ensures.0;
 }
 
 pub loop-item-init : goal.loop-item-init

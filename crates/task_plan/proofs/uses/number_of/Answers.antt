@@ -45,3 +45,6 @@ loop-place-preserved c =
       place_later (λ e. bytes_eq (string_bytes e.now.table) (string_bytes c.args.entry.now.table)) c.args.firsts.now.items c.loop-place.place c.index.result.now
           inside c.index.ensures other c.loop-place.invariant.1,
     )
+
+pub overflow_cast-result : goal.overflow_cast-result
+overflow_cast-result c = omega (arith, c.loop-place-test.true, c.len-number.ensures, c.args.firsts.now.ok.0, c.requires)
