@@ -98,11 +98,7 @@ pub(crate) fn uses_of<'a>(
 
 /// Adds the tables that these items use. `UnknownTable` at the first item whose table has no entry,
 /// and `NoMemory` if memory is refused.
-fn add_uses<'a>(
-    named: &'a [Named],
-    items: &[ItemRef],
-    uses: &mut Uses<'a>,
-) -> Result<(), UsesFault>
+fn add_uses<'a>(named: &'a [Named], items: &[ItemRef], uses: &mut Uses<'a>) -> Result<(), UsesFault>
     requires { length uses.old.firsts.items + length items.now ≤ 16 }
     ensures known { let words = map named_pair named.now in
         Pure (Is (unless (unknown_table words items.now) items.now)) (used_as items.now result) }
