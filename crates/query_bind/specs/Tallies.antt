@@ -1,5 +1,5 @@
 -- The columns of an order key, each with the number of times that it is added and subtracted.
-use Rattle.std.specs.Prelude.{◌≡◌, ℕ, ◌+◌, ◌*◌, ◌==◌, Bool, if◌then◌else◌, List, [], ◌∷◌, map, filter, Option, ℤ, pos, ◌-ℤ◌, ◌*ℤ◌, neg_ℤ, ⊤}
+use Rattle.std.specs.Prelude.{◌≡◌, ℕ, ◌+◌, ◌<◌, ◌*◌, ◌==◌, Bool, if◌then◌else◌, List, [], ◌∷◌, map, filter, length, get_or, Option, ℤ, pos, ◌-ℤ◌, ◌*ℤ◌, neg_ℤ, ⊤}
 use Rattle.anyk_model.specs.Table.{Table}
 use Rattle.anyk_model.specs.Query.{Item, Column, Term, total}
 use Rattle.rankings.specs.Order.{IsMember}
@@ -53,6 +53,16 @@ columns_of tallies = map (λ (y : Tally). y.column) tallies
 abbrev pub StandOnce : List (ℕ × ℕ) → Type 0
 StandOnce [] = ⊤
 StandOnce (c ∷ cs) = (IsMember c cs → ⊥) × StandOnce cs
+
+-- the tallies of some terms, each column once
+pub record AreTalliesOnce (terms : List Term) (tallies : List Tally) : Type 0 where
+  pub same : AreTallies terms tallies
+  pub once : StandOnce (columns_of tallies)
+
+-- the place of the tally of a column
+pub record IsTallyOf (column : ℕ × ℕ) (tallies : List Tally) (place : ℕ) : Type 0 where
+  pub within : place < length tallies
+  pub there : (d : Tally) → (get_or tallies place d).column ≡ column
 
 -- ---- the tallies of an item
 

@@ -3,8 +3,8 @@ ghost use Rattle.std.specs.Prelude.{◌≡◌, ◌<◌, ◌≤◌, length, map, 
 ghost use Rattle.std.specs.Option.{option_or};
 ghost use Rattle.std.specs.List.{AllByRecursion};
 ghost use Rattle.query_select.specs.TextOrder.{AreInTextOrder, columns_of};
-ghost use Rattle.query_bind.specs.Answers.{Tells};
-ghost use Rattle.query_bind.specs.Bind.{bind_fault, HasNames, HasBinding};
+ghost use Rattle.query_bind.specs.Answers.{Means, Tells};
+ghost use Rattle.query_bind.specs.Bind.{bind_fault, HasNames};
 ghost use Rattle.query_bind.specs.Binding.{bound_query};
 ghost use Rattle.bound_query.specs.Inside.{IsWithin};
 ghost use Rattle.query_bind.specs.Names.{items_of};
@@ -63,16 +63,10 @@ fn weigh_selection(
     tables: &Tables,
 ) -> Result<Vec<Vec<ItemWeights>>, BindFault>
     requires { IsWithin selection.now tables.now }
-    ensures weighed { IfOk result
-        (λ v. map weighed_view v.items
-        ≡ map (key_parts tables.now selection.now.items) selection.now.order) }
-    ensures weights { OnOk result
-        (weights_fault tables.now selection.now.items selection.now.order ≡ None) }
-    ensures range { OnOk result
-        (range_fault tables.now selection.now.items selection.now.order ≡ None) }
-    ensures fault { IfErr result
-        (Tells (option_or (weights_fault tables.now selection.now.items selection.now.order)
-        (range_fault tables.now selection.now.items selection.now.order))) }
+    ensures { Means (λ v. map weighed_view v.items)
+        (map (key_parts tables.now selection.now.items) selection.now.order)
+        (option_or (weights_fault tables.now selection.now.items selection.now.order)
+        (range_fault tables.now selection.now.items selection.now.order)) result }
 {
     let _tables = tables.count();
     weigh(
@@ -81,13 +75,6 @@ fn weigh_selection(
         tables,
         selection.bound_keys(),
     )
-}
-
-/// The classes that the equalities of a query make.
-fn find_classes(alloc: Global, selection: &Selection) -> Result<Vec<Member>, AllocError>
-    ensures { IfOk result (λ v. IsLabelling selection.now.equalities (least_in v.items)) }
-{
-    classes_of(alloc, selection.equalities())
 }
 
 /// The variables of a query, and those of each of its items.
@@ -112,23 +99,6 @@ fn find_structure(
     Ok(Variables { least, of_items })
 }
 
-/// The tests of the rows of each item.
-fn find_filters(
-    alloc: Global,
-    selection: &Selection,
-    tables: &Tables,
-    classes: &[Member],
-) -> Result<Vec<Filter>, AllocError>
-    requires within { IsWithin selection.now tables.now }
-    requires known { IsLabelling selection.now.equalities (least_in classes.now) }
-    ensures { IfOk result (λ v. HasFilters selection.now (map filter_view v.items)) }
-{
-    let _tables = tables.count();
-    let items = selection.bound_items();
-    let equalities = selection.equalities();
-    filters_of(alloc, classes, equalities, items, tables)
-}
-
 /// The variables of a query, and the tests of the rows of each item.
 fn find_parts(
     alloc: Global,
@@ -136,35 +106,19 @@ fn find_parts(
     tables: &Tables,
 ) -> Result<(Variables, Vec<Filter>), AllocError>
     requires { IsWithin selection.now tables.now }
-    ensures variables { IfOk result
+    ensures { IfOk result
         (λ p. HasVariables selection.now (map column_view p.0.least.items)
-        (lists_view p.0.of_items.items)) }
-    ensures filters { IfOk result (λ p. HasFilters selection.now (map filter_view p.1.items)) }
+        (lists_view p.0.of_items.items)
+        × HasFilters selection.now (map filter_view p.1.items)) }
 {
-    let classes = find_classes(alloc, selection)?;
-    let variables = find_structure(alloc, selection, tables, classes.as_slice())?;
-    let filters = find_filters(alloc, selection, tables, classes.as_slice())?;
+    let _tables = tables.count();
+    let items = selection.bound_items();
+    let equalities = selection.equalities();
+    let classes = classes_of(alloc, equalities)?;
+    let classes = classes.as_slice();
+    let variables = find_structure(alloc, selection, tables, classes)?;
+    let filters = filters_of(alloc, classes, equalities, items, tables)?;
     Ok((variables, filters))
-}
-
-/// The query, or the first fault, in the order of the select's parts.
-fn bind_by_parts(
-    alloc: Global,
-    select: &Select,
-    tables: &Tables,
-    which: &[u32],
-) -> Result<Query, BindFault>
-    requires some { 1 ≤ length select.now.items }
-    requires items { length select.now.items ≤ 16 }
-    requires keys { length select.now.keys ≤ 8 }
-    requires tables { length which.now ≡ length select.now.items }
-    requires known { AllByRecursion (λ t. t < length tables.now) which.now }
-    ensures { HasBinding select.now tables.now which.now result }
-{
-    let selection = bind_names(alloc, select, tables, which)?;
-    let weighed = weigh_selection(alloc, &selection, tables)?;
-    let (variables, filters) = find_parts(alloc, &selection, tables)?;
-    Ok(Query::new(alloc, selection, weighed, variables, filters))
 }
 
 /// The query that a select of 1 to 16 items means over tables. `which` has the number of each
@@ -192,5 +146,8 @@ pub fn bind(
         → IsFirstFailing tables.now (items_of select.now.items which.now)
         (columns_of select.now) fault) }
 {
-    bind_by_parts(alloc, select, tables, which)
+    let selection = bind_names(alloc, select, tables, which)?;
+    let weighed = weigh_selection(alloc, &selection, tables)?;
+    let (variables, filters) = find_parts(alloc, &selection, tables)?;
+    Ok(Query::new(alloc, selection, weighed, variables, filters))
 }

@@ -27,9 +27,8 @@ pub(crate) fn bind_items(
 ) -> Result<Vec<BoundItem>, BindFault>
     requires few { length refs.now ≤ 16 }
     requires tables { length which.now ≡ length refs.now }
-    ensures items { IfOk result (λ v. items_view v.items ≡ items_of refs.now which.now) }
-    ensures sound { OnOk result (alias_fault (items_of refs.now which.now) ≡ None) }
-    ensures fault { IfErr result (Tells (alias_fault (items_of refs.now which.now))) }
+    ensures { Means (λ v. items_view v.items) (items_of refs.now which.now)
+        (alias_fault (items_of refs.now which.now)) result }
 {
     let mut items: Vec<BoundItem> = Vec::new(alloc);
     for i in 0..refs.len() {

@@ -87,10 +87,8 @@ pub(crate) fn filter_of(
     item: u32,
     width: u32,
 ) -> Result<Filter, AllocError>
-    ensures pairs { IfOk result
-        (λ f. HavePairs (least_in classes.now) item width (filter_view f).pairs) }
-    ensures constants { IfOk result
-        (λ f. HaveConstants (least_in classes.now) item width (map equality_view equalities.now)
+    ensures { IfOk result (λ f. HavePairs (least_in classes.now) item width (filter_view f).pairs
+        × HaveConstants (least_in classes.now) item width (map equality_view equalities.now)
         (filter_view f).constants) }
 {
     let pairs = pairs_of(alloc, classes, item, width)?;

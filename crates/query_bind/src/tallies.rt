@@ -1,11 +1,11 @@
 //! The columns of an order key, each once, with the number of times that the key adds and subtracts
 //! it. A key may name a column any number of times; what is done for each row then depends only on
 //! the distinct columns.
-ghost use Rattle.std.specs.Prelude.{◌≡◌, ◌<◌, ◌+◌, ◌^◌, ◌++◌, ◌∷◌, [], List, map, length, get_or, IfOk, OnOk, IfSome, IfNone};
+ghost use Rattle.std.specs.Prelude.{◌≡◌, ◌<◌, ◌+◌, ◌^◌, ◌++◌, ◌∷◌, [], List, map, IfOk, OnOk, MatchOption};
 ghost use Rattle.anyk_model.specs.Query.{Term};
 ghost use Rattle.bound_query.specs.Parts.{sum_of_all};
 ghost use Rattle.bound_query.specs.StoredParts.{term_view};
-ghost use Rattle.query_bind.specs.Tallies.{AreTallies, StandOnce, columns_of, tally_size, with_one};
+ghost use Rattle.query_bind.specs.Tallies.{AreTalliesOnce, IsTallyOf, columns_of, tally_size, with_one};
 ghost use Rattle.rankings.specs.Order.{IsMember};
 
 use bound_query::BoundTerm;
@@ -42,10 +42,8 @@ fn counted(tally: Tally, minus: bool) -> Tally
 
 /// The place of a column among tallies, from 0, if it has one.
 fn place_of(tallies: &[Tally], column: (u32, u32)) -> Option<usize>
-    ensures within { IfSome result (λ place. place < length tallies.now) }
-    ensures there { IfSome result
-        (λ place. (d : Tally) → (get_or tallies.now place d).column ≡ column) }
-    ensures absent { IfNone result (IsMember column (columns_of tallies.now) → ⊥) }
+    ensures { MatchOption result (IsMember column (columns_of tallies.now) → ⊥)
+        (λ place. IsTallyOf column tallies.now place) }
 {
     for i in 0..tallies.len() {
         if tallies[i].column == column {
@@ -58,10 +56,8 @@ fn place_of(tallies: &[Tally], column: (u32, u32)) -> Option<usize>
 /// Counts one more term.
 fn count(tallies: &mut Vec<Tally>, term: &BoundTerm) -> Result<(), AllocError>
     requires { sum_of_all (map (tally_size (λ c. 1)) tallies.old.items) + 1 < 2 ^ 64 }
-    ensures same { OnOk result ((terms : List Term) → AreTallies terms tallies.old.items
-        → AreTallies (terms ++ term_view term.now ∷ []) tallies.new.items) }
-    ensures once { OnOk result
-        (StandOnce (columns_of tallies.old.items) → StandOnce (columns_of tallies.new.items)) }
+    ensures { OnOk result ((terms : List Term) → AreTalliesOnce terms tallies.old.items
+        → AreTalliesOnce (terms ++ term_view term.now ∷ []) tallies.new.items) }
 {
     let column = term.column;
     match place_of(tallies.as_slice(), column) {
@@ -83,8 +79,7 @@ fn count(tallies: &mut Vec<Tally>, term: &BoundTerm) -> Result<(), AllocError>
 
 /// The columns of these terms, each once, in the order in which they are first named.
 pub(crate) fn tallies_of(alloc: Global, terms: &[BoundTerm]) -> Result<Vec<Tally>, AllocError>
-    ensures same { IfOk result (λ v. AreTallies (map term_view terms.now) v.items) }
-    ensures once { IfOk result (λ v. StandOnce (columns_of v.items)) }
+    ensures { IfOk result (λ v. AreTalliesOnce (map term_view terms.now) v.items) }
 {
     let mut tallies = Vec::new(alloc);
     for term in terms {

@@ -17,7 +17,7 @@ loop-i-preserved c =
     let items = c.args.items.now in
     subst (λ (l : List Filter). HaveFilters label es c.args.tables.now (items_view items) (c.loop-i.i + 1) (map filter_view l)) (sym c.in_ok-push.ensures.items)
     (filters_more label es c.args.tables.now items c.loop-i.i c.width-width.result c.index-items-i.result c.loop-i.filters.items c.in_ok-filter.filter
-    c.loop-i-test.true c.width-width.ensures.columns c.loop-i.invariant c.in_ok-filter.ensures.pairs c.in_ok-filter.ensures.constants)
+    c.loop-i-test.true c.width-width.ensures.columns c.loop-i.invariant c.in_ok-filter.ensures.0 c.in_ok-filter.ensures.1)
 
 pub returns-in_err-filter : goal.returns-in_err-filter
 returns-in_err-filter c = IfOk-from_err c.from_residual.result _ c.from_residual.ensures.0

@@ -2,7 +2,7 @@ use Rattle.std.proofs.Common.{◌≡◌, ◌<◌, ◌+◌, ◌*◌, ◌++◌, �
 use Rattle.anyk_model.specs.Query.{Column}
 use Rattle.rankings.specs.Order.{IsMember}
 use Rattle.bound_query.specs.StoredParts.{column_view, term_view}
-use Rattle.query_bind.specs.Tallies.{AreTallies, StandOnce, columns_of, tally_size, with_one}
+use Rattle.query_bind.specs.Tallies.{AreTalliesOnce, columns_of, tally_size, with_one}
 use Rattle.query_bind.specs.declared.tallies.Tally.{Tally}
 use Rattle.query_bind.proofs.Tallying.{at_most_sum, once_again, once_first, tallies_again, tallies_first}
 use Rattle.query_bind.proofs.tallies.count.Goals as goal
@@ -19,8 +19,8 @@ counted-requires c =
     let limit = c.requires in
     omega (arith, below, is, one, limit)
 
-pub returns-in-Some-clause-same : goal.returns-in-Some-clause-same
-returns-in-Some-clause-same c = λ terms known.
+pub returns-in-Some : goal.returns-in-Some
+returns-in-Some c = λ terms known.
     let ys = c.args.tallies.now.items in
     let j = c.in-Some.place in
     let y = c.index.result.now in
@@ -28,29 +28,14 @@ returns-in-Some-clause-same c = λ terms known.
     let same : column_view (get_or ys j y).column ≡ (term_view c.args.term.now).column =
     ap (λ (l : List Tally). column_view (get_or l j y).column) (sym c.as_slice.ensures.value) ∙ ap column_view (c.in-Some.ensures.there y) in
     let new : c.counted.result ≡ with_one c.args.term.now.minus (get_or ys j y) = c.counted.ensures ∙ ap (with_one c.args.term.now.minus) c.index.ensures in
-    subst (λ (z : Tally). AreTallies (terms ++ term_view c.args.term.now ∷ []) (set ys j z)) (sym new)
-    (tallies_again terms ys (term_view c.args.term.now) known j y inside same)
+    subst (λ (z : Tally). AreTalliesOnce (terms ++ term_view c.args.term.now ∷ []) (set ys j z)) (sym new)
+    (record { same = tallies_again terms ys (term_view c.args.term.now) known.same j y inside same; once = once_again ys j y c.args.term.now.minus known.once })
 
-pub returns-in_ok-push-in-None-clause-same : goal.returns-in_ok-push-in-None-clause-same
-returns-in_ok-push-in-None-clause-same c = λ terms known.
+pub returns-in_ok-push-in-None : goal.returns-in_ok-push-in-None
+returns-in_ok-push-in-None c = λ terms known.
     let ys = c.args.tallies.now.items in
     let fresh : Tally = record { column = c.args.term.now.column; plus = 0; minus = 0 } in
     let pushed = c.in_ok-push-in-None.ensures.items ∙ ap (λ (z : Tally). ys ++ z ∷ []) c.counted-in-None.ensures in
-    subst (λ (l : List Tally). AreTallies (terms ++ term_view c.args.term.now ∷ []) l) (sym pushed)
-    (tallies_first terms ys (term_view c.args.term.now) known fresh refl refl refl)
-
-pub returns-in-Some-clause-once : goal.returns-in-Some-clause-once
-returns-in-Some-clause-once c = λ known.
-    let ys = c.args.tallies.now.items in
-    let j = c.in-Some.place in
-    let y = c.index.result.now in
-    let new : c.counted.result ≡ with_one c.args.term.now.minus (get_or ys j y) = c.counted.ensures ∙ ap (with_one c.args.term.now.minus) c.index.ensures in
-    subst (λ (z : Tally). StandOnce (columns_of (set ys j z))) (sym new) (once_again ys j y c.args.term.now.minus known)
-
-pub returns-in_ok-push-in-None-clause-once : goal.returns-in_ok-push-in-None-clause-once
-returns-in_ok-push-in-None-clause-once c = λ known.
-    let ys = c.args.tallies.now.items in
-    let fresh : Tally = record { column = c.args.term.now.column; plus = 0; minus = 0 } in
-    let pushed = c.in_ok-push-in-None.ensures.items ∙ ap (λ (z : Tally). ys ++ z ∷ []) c.counted-in-None.ensures in
-    let absent : IsMember fresh.column (columns_of ys) → ⊥ = subst (λ (l : List Tally). IsMember fresh.column (columns_of l) → ⊥) c.as_slice.ensures.value c.in-None.ensures.absent in
-    subst (λ (l : List Tally). StandOnce (columns_of l)) (sym pushed) (once_first ys fresh c.args.term.now.minus absent known)
+    let absent : IsMember fresh.column (columns_of ys) → ⊥ = subst (λ (l : List Tally). IsMember fresh.column (columns_of l) → ⊥) c.as_slice.ensures.value c.in-None.ensures in
+    subst (λ (l : List Tally). AreTalliesOnce (terms ++ term_view c.args.term.now ∷ []) l) (sym pushed)
+    (record { same = tallies_first terms ys (term_view c.args.term.now) known.same fresh refl refl refl; once = once_first ys fresh c.args.term.now.minus absent known.once })

@@ -2,20 +2,19 @@ use Rattle.std.proofs.Common.{◌∙◌, ◌∷◌, [], ap, sym, subst, map, tak
 use Rattle.std.proofs.lemmas.List.{length-map, length-take, map-append, take_all, take_more}
 use Rattle.anyk_model.specs.Query.{Column, Term}
 use Rattle.bound_query.specs.StoredParts.{term_view}
-use Rattle.query_bind.specs.Tallies.{AreTallies, StandOnce, columns_of}
+use Rattle.query_bind.specs.Tallies.{AreTalliesOnce}
 use Rattle.bound_query.specs.declared.bound.BoundTerm.{BoundTerm}
-use Rattle.query_bind.specs.declared.tallies.Tally.{Tally}
 use Rattle.query_bind.proofs.Tallying.{ones_length, tallies_none}
 use Rattle.query_bind.proofs.tallies.tallies_of.Goals as goal
 
 pub loop-term-init : goal.loop-term-init
-loop-term-init c = subst (λ (l : List Tally). AreTallies [] l × StandOnce (columns_of l)) (sym c.new-tallies.ensures.items) (tallies_none, tt)
+loop-term-init c = subst (AreTalliesOnce []) (sym c.new-tallies.ensures.items) (record { same = tallies_none; once = tt })
 
 pub count-requires : goal.count-requires
 count-requires c =
     let i = c.loop-term.term-index in
     let terms = map term_view (take i c.args.terms.now) in
-    let sum = c.loop-term.invariant.0.size (λ (k : Column). 1) in
+    let sum = c.loop-term.invariant.same.size (λ (k : Column). 1) in
     let ones = ones_length terms in
     let size = length-map (take i c.args.terms.now) term_view in
     let cut = length-take i c.args.terms.now in
@@ -28,16 +27,10 @@ loop-term-preserved c =
     let terms = c.args.terms.now in
     let d : BoundTerm = record { minus = false; column = (0, 0) } in
     let t = get_or terms i d in
-    let more = take_more terms i d c.loop-term-test.true in (
-      subst (λ (l : List Term). AreTallies l c.count.new.tallies.items) (sym (ap (map term_view) more ∙ map-append term_view (take i terms) (t ∷ [])))
-          (c.in_ok-count.ensures.same (map term_view (take i terms)) c.loop-term.invariant.0),
-      c.in_ok-count.ensures.once c.loop-term.invariant.1,
-    )
+    subst (λ (l : List Term). AreTalliesOnce l c.count.new.tallies.items) (sym (ap (map term_view) (take_more terms i d c.loop-term-test.true) ∙ map-append term_view (take i terms) (t ∷ [])))
+    (c.in_ok-count.ensures (map term_view (take i terms)) c.loop-term.invariant)
 
-pub returns-clause-same : goal.returns-clause-same
-returns-clause-same c =
-    subst (λ (l : List BoundTerm). AreTallies (map term_view l) c.loop-term.tallies.items)
-    (take_all c.loop-term.term-index c.args.terms.now c.loop-term-test.false) c.loop-term.invariant.0
-
-pub returns-clause-once : goal.returns-clause-once
-returns-clause-once c = c.loop-term.invariant.1
+pub returns : goal.returns
+returns c =
+    subst (λ (l : List BoundTerm). AreTalliesOnce (map term_view l) c.loop-term.tallies.items)
+    (take_all c.loop-term.term-index c.args.terms.now c.loop-term-test.false) c.loop-term.invariant

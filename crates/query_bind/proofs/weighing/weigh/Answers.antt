@@ -1,18 +1,18 @@
 use Rattle.std.proofs.Common.{◌≡◌, ◌<◌, ◌≤◌, ◌+◌, ◌∙◌, ◌∷◌, ◌++◌, [], sym, ap, subst, length, map, take, get_or, arith, ℕ, List, Option}
 use Rattle.std.proofs.lemmas.List.{get_or-map, length-map, map-append, take_all, take_more}
-use Rattle.std.proofs.lemmas.Result.{IfOk-from_err, err_from_is_err_and}
+use Rattle.std.proofs.lemmas.Result.{err_from_is_err_and}
 use Rattle.anyk_model.specs.Query.{OrderKey}
 use Rattle.query_bind.specs.Fits.{KeysInside}
 use Rattle.query_bind.specs.Measures.{HasKeys}
 use Rattle.bound_query.specs.StoredParts.{items_view, key_view}
 use Rattle.bound_query.specs.WeighedQuery.{ItemParts, key_parts}
 use Rattle.bound_query.specs.WeighedView.{weighed_view}
-use Rattle.query_bind.proofs.Measuring.{all_sound, keys_fault, keys_more, no_key_met, none_past, one_past}
+use Rattle.query_bind.proofs.Measuring.{keys_fault, keys_more, no_fault, no_key_met, one_past}
 use Rattle.bound_query.proofs.Lists.{all_at}
 use Rattle.query_bind.proofs.weighing.weigh.Goals as goal
 
-pub returns-in_err-sum-clause-fault : goal.returns-in_err-sum-clause-fault
-returns-in_err-sum-clause-fault c =
+pub returns-in_err-sum : goal.returns-in_err-sum
+returns-in_err-sum c =
     let p = err_from_is_err_and c.from_residual.result c.from_residual.ensures.1 in
     let keys = c.args.keys.now in
     let i = c.loop-i.i in
@@ -50,58 +50,20 @@ weigh_key-requires c =
     subst (KeysInside c.args.tables.now c.args.items.now) (sym c.index-keys-i.is)
     (all_at (KeysInside c.args.tables.now c.args.items.now) keys c.loop-i.i x c.requires.inside c.loop-i-test.true)
 
-pub returns-in-None-clause-parts : goal.returns-in-None-clause-parts
-returns-in-None-clause-parts c =
+pub returns-in-None : goal.returns-in-None
+returns-in-None c =
     let tables = c.args.tables.now in
     let items = items_view c.args.items.now in
     let order = map key_view c.args.keys.now in
-    let past : length order ≤ c.loop-i.i = let f = c.loop-i-test.false in omega (arith, f, length-map c.args.keys.now key_view) in
-    c.loop-i.invariant.1 c.in-None.is ∙ ap (map (key_parts tables items)) (take_all c.loop-i.i order past)
+    let past : length order ≤ c.loop-i.i = let f = c.loop-i-test.false in omega (arith, f, length-map c.args.keys.now key_view) in (
+      c.loop-i.invariant.1 c.in-None.is ∙ ap (map (key_parts tables items)) (take_all c.loop-i.i order past),
+      no_fault tables items order c.loop-i.i c.loop-i.first c.loop-i.invariant.0 past c.in-None.is,
+    )
 
-pub returns-in-None-clause-weights : goal.returns-in-None-clause-weights
-returns-in-None-clause-weights c =
-    let past : length (map key_view c.args.keys.now) ≤ c.loop-i.i = let f = c.loop-i-test.false in omega (arith, f, length-map c.args.keys.now key_view) in
-    all_sound c.args.tables.now (items_view c.args.items.now) (map key_view c.args.keys.now) c.loop-i.i c.loop-i.first c.loop-i.invariant.0 past
-
-pub returns-in-None-clause-range : goal.returns-in-None-clause-range
-returns-in-None-clause-range c =
-    let past : length (map key_view c.args.keys.now) ≤ c.loop-i.i = let f = c.loop-i-test.false in omega (arith, f, length-map c.args.keys.now key_view) in
-    none_past c.args.tables.now (items_view c.args.items.now) (map key_view c.args.keys.now) c.loop-i.i c.loop-i.first c.loop-i.invariant.0 past c.in-None.is
-
-pub returns-in-Some-clause-fault : goal.returns-in-Some-clause-fault
-returns-in-Some-clause-fault c =
+pub returns-in-Some : goal.returns-in-Some
+returns-in-Some c =
     let past : length (map key_view c.args.keys.now) ≤ c.loop-i.i = let f = c.loop-i-test.false in omega (arith, f, length-map c.args.keys.now key_view) in
     one_past c.args.tables.now (items_view c.args.items.now) (map key_view c.args.keys.now) c.loop-i.i c.loop-i.first c.loop-i.invariant.0 past c.in-Some.key c.in-Some.is
-
-pub returns-in_err-sum-clause-parts : goal.returns-in_err-sum-clause-parts
-returns-in_err-sum-clause-parts c = IfOk-from_err c.from_residual.result _ c.from_residual.ensures.0
-
-pub returns-in_err-sum-clause-weights : goal.returns-in_err-sum-clause-weights
-returns-in_err-sum-clause-weights c = IfOk-from_err c.from_residual.result _ c.from_residual.ensures.0
-
-pub returns-in_err-sum-clause-range : goal.returns-in_err-sum-clause-range
-returns-in_err-sum-clause-range c = IfOk-from_err c.from_residual.result _ c.from_residual.ensures.0
-
-pub returns-in_err-push-clause-parts : goal.returns-in_err-push-clause-parts
-returns-in_err-push-clause-parts c = IfOk-from_err c.from_residual-in_err-push.result _ c.from_residual-in_err-push.ensures.0
-
-pub returns-in_err-push-clause-weights : goal.returns-in_err-push-clause-weights
-returns-in_err-push-clause-weights c = IfOk-from_err c.from_residual-in_err-push.result _ c.from_residual-in_err-push.ensures.0
-
-pub returns-in_err-push-clause-range : goal.returns-in_err-push-clause-range
-returns-in_err-push-clause-range c = IfOk-from_err c.from_residual-in_err-push.result _ c.from_residual-in_err-push.ensures.0
-
-pub returns-in-None-clause-fault : goal.returns-in-None-clause-fault
-returns-in-None-clause-fault c = tt
-
-pub returns-in-Some-clause-parts : goal.returns-in-Some-clause-parts
-returns-in-Some-clause-parts c = tt
-
-pub returns-in-Some-clause-weights : goal.returns-in-Some-clause-weights
-returns-in-Some-clause-weights c = tt
-
-pub returns-in-Some-clause-range : goal.returns-in-Some-clause-range
-returns-in-Some-clause-range c = tt
 
 pub overflow_cast-i : goal.overflow_cast-i
 overflow_cast-i c = omega (arith, c.requires.few, c.loop-i-test.true)
