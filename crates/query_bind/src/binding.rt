@@ -12,7 +12,7 @@ ghost use Rattle.bound_query.specs.StoredParts.{column_view, equality_view, item
 ghost use Rattle.bound_query.specs.declared.bound.BoundItem.{BoundItem};
 
 use crate::fault::BindFault;
-use crate::names::{has_alias, look_up};
+use crate::names::{column_of_all, column_of_item, has_alias};
 use bound_query::{BoundEquality, BoundItem, BoundKey, BoundSide, BoundTerm};
 use query_select::name::{Bytes, Name};
 use query_select::select::{ColumnRef, Equality, ItemRef, KeyRef, SelectList, Side, Term};
@@ -135,13 +135,17 @@ impl Binds for ColumnRef {
 
     ghost first_fault = { ref_fault };
 
+    /// The item and the place of the column, both from 0.
     fn bind(
         &self,
         alloc: Global,
         items: &[BoundItem],
         tables: &Tables,
     ) -> Result<(u32, u32), BindFault> {
-        look_up(items, tables, self)
+        match &self.alias {
+            None => column_of_all(items, tables, self),
+            Some(alias) => column_of_item(items, tables, self, alias),
+        }
     }
 }
 

@@ -87,17 +87,6 @@ fn join(classes: &mut Vec<Member>, left: (u32, u32), right: (u32, u32)) -> Resul
     Ok(())
 }
 
-/// Joins the classes of the two columns of an equality.
-fn join_sides(classes: &mut Vec<Member>, equality: &BoundEquality) -> Result<(), AllocError>
-    ensures { OnOk result ((es : List Equality) → IsLabelling es (least_in classes.old.items)
-        → IsLabelling (es ++ equality_view equality.now ∷ []) (least_in classes.new.items)) }
-{
-    match &equality.right {
-        BoundSide::Column(right) => join(classes, equality.left, *right),
-        BoundSide::Constant(_) => Ok(()),
-    }
-}
-
 /// The classes that equalities make.
 pub(crate) fn classes_of(
     alloc: Global,
@@ -108,7 +97,10 @@ pub(crate) fn classes_of(
 {
     let mut classes = Vec::new(alloc);
     for equality in equalities {
-        join_sides(&mut classes, equality)?;
+        let BoundSide::Column(right) = &equality.right else {
+            continue;
+        };
+        join(&mut classes, equality.left, *right)?;
     }
     Ok(classes)
 }

@@ -1,10 +1,10 @@
-use Rattle.std.proofs.Common.{[], sym, subst, map, take, List}
+use Rattle.std.proofs.Common.{[], ap, refl, sym, subst, map, take, List}
 use Rattle.std.proofs.lemmas.List.{take_all}
 use Rattle.query_bind.specs.Labels.{IsLabelling, least_in}
-use Rattle.bound_query.specs.StoredParts.{equality_view}
+use Rattle.bound_query.specs.StoredParts.{equality_view, side_view}
 use Rattle.bound_query.specs.declared.bound.BoundEquality.{BoundEquality}
 use Rattle.query_bind.specs.declared.classes.Member.{Member}
-use Rattle.query_bind.proofs.Labels.{labels_more, labels_none}
+use Rattle.query_bind.proofs.Labels.{labels_more, labels_none, labels_stay}
 use Rattle.query_bind.proofs.classes.classes_of.Goals as goal
 
 pub loop-equality-init : goal.loop-equality-init
@@ -12,8 +12,15 @@ loop-equality-init c = subst (λ (l : List Member). IsLabelling [] (least_in l))
 
 pub loop-equality-preserved : goal.loop-equality-preserved
 loop-equality-preserved c =
-    labels_more c.args.equalities.now c.loop-equality.equality-index c.equality-item.result (least_in c.join_sides.new.classes.items) c.loop-equality-test.true c.equality-item.is
-    (c.in_ok-join_sides.ensures (map equality_view (take c.loop-equality.equality-index c.args.equalities.now)) c.loop-equality.invariant)
+    let before = map equality_view (take c.loop-equality.equality-index c.args.equalities.now) in
+    labels_more c.args.equalities.now c.loop-equality.equality-index c.equality-item.result (least_in c.join.new.classes.items) c.loop-equality-test.true c.equality-item.is
+    (c.in_ok-join.ensures before (equality_view c.equality-item.result) refl (ap side_view c.in-Column.is) c.loop-equality.invariant)
+
+pub loop-equality-preserved-in_default : goal.loop-equality-preserved-in_default
+loop-equality-preserved-in_default c =
+    let before = map equality_view (take c.loop-equality.equality-index c.args.equalities.now) in
+    labels_more c.args.equalities.now c.loop-equality.equality-index c.equality-item.result (least_in c.loop-equality.classes.items) c.loop-equality-test.true c.equality-item.is
+    (labels_stay before (least_in c.loop-equality.classes.items) (equality_view c.equality-item.result) c.in_default.field-0 (ap side_view c.in_default.is) c.loop-equality.invariant)
 
 pub returns : goal.returns
 returns c =
