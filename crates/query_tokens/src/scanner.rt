@@ -26,34 +26,47 @@ pub(crate) fn begins_word(byte: u8) -> bool
 }
 
 /// Whether a word can go on with this byte: a letter, an underscore or a digit.
-pub(crate) fn goes_on_word(byte: u8) -> bool
+fn goes_on_word(byte: u8) -> bool
     ensures { result ≡ is_word_byte byte }
 {
     byte.is_ascii_alphanumeric() || byte == b'_'
 }
 
 /// The number of bytes at the front that go on a word.
-fn word_len(bytes: &[u8]) -> usize
+pub(crate) fn word_len(bytes: &[u8]) -> usize
     ensures { result ≡ prefix_len is_word_byte bytes.now }
 {
-    bytes.iter().take_while(|byte| goes_on_word(**byte)).count()
+    for (i, byte) in bytes.iter().enumerate() {
+        if !goes_on_word(*byte) {
+            return i;
+        }
+    }
+    bytes.len()
 }
 
 /// The number of digits at the front.
 fn digits_len(bytes: &[u8]) -> usize
     ensures { result ≡ prefix_len is_ascii_digit bytes.now }
 {
-    bytes
-        .iter()
-        .take_while(|byte| byte.is_ascii_digit())
-        .count()
+    for (i, byte) in bytes.iter().enumerate() {
+        if !byte.is_ascii_digit() {
+            return i;
+        }
+    }
+    bytes.len()
 }
 
 /// The place of the quote that ends a quoted name, from 0.
 fn name_len(bytes: &[u8]) -> Option<usize>
-    ensures { result ≡ position (λ x. x == 34) bytes.now }
+    ensures value { result ≡ position (λ x. x == 34) bytes.now }
+    ensures within { IfSome result (λ n. n < length bytes.now) }
 {
-    bytes.iter().position(|byte| *byte == b'"')
+    for (i, byte) in bytes.iter().enumerate() {
+        if *byte == b'"' {
+            return Some(i);
+        }
+    }
+    None
 }
 
 /// The place of the quote that ends a string, from 0. Two quotes one after the other end none.

@@ -6,7 +6,7 @@ ghost use Rattle.query_tokens.specs.Kinds.{same};
 ghost use Rattle.query_tokens.specs.Tokens.{is_word_byte, kind_of_word};
 ghost use Rattle.query_tokens.specs.Text.{is_bare, name_text_of};
 
-use crate::scanner::{begins_word, goes_on_word, word_kind};
+use crate::scanner::{begins_word, word_kind, word_len};
 use crate::token::Kind;
 use std::alloc::{AllocError, Global};
 use step_counter::NoMemory;
@@ -22,7 +22,7 @@ fn is_no_keyword(word: &[u8]) -> bool
 fn go_on_word(bytes: &[u8]) -> bool
     ensures { result ≡ list_all is_word_byte bytes.now }
 {
-    bytes.iter().all(|byte| goes_on_word(*byte))
+    word_len(bytes) == bytes.len()
 }
 
 /// Whether a name can stand without quotes.
