@@ -1,4 +1,5 @@
 pub mod Kinds
+pub mod Keywords
 pub mod Lexeme
 pub mod Tokens
 pub mod Scans

@@ -4,6 +4,7 @@ ghost use Rattle.std.specs.Prelude.{◌≡◌, ◌<◌, ◌≤◌, ◌++◌, len
 ghost use Rattle.std.specs.List.{prefix_len, position};
 ghost use Rattle.std.specs.Str.{bytes_eq};
 ghost use Rattle.std.specs.Char.{is_ascii_digit, to_ascii_lowercase};
+ghost use Rattle.query_tokens.specs.Keywords.{kind_among};
 ghost use Rattle.query_tokens.specs.Lexeme.{lexemes};
 ghost use Rattle.query_tokens.specs.Scans.{scan_view};
 ghost use Rattle.query_tokens.specs.Tokens.{is_blank, is_letter, is_word_byte, kind_of_word, kind_of_sign, closing, scan_of, quoted_scan, tokens_of};
@@ -98,44 +99,43 @@ fn is_keyword(word: &[u8], keyword: &[u8]) -> bool
     word.eq_ignore_ascii_case(keyword)
 }
 
+/// The keywords.
+const KEYWORDS: &[(&[u8], Kind)] = &[
+    (b"select", Kind::Select),
+    (b"from", Kind::From),
+    (b"where", Kind::Where),
+    (b"and", Kind::And),
+    (b"order", Kind::Order),
+    (b"by", Kind::By),
+    (b"limit", Kind::Limit),
+    (b"asc", Kind::Asc),
+    (b"desc", Kind::Desc),
+    (b"as", Kind::As),
+    (b"join", Kind::Join),
+    (b"inner", Kind::Inner),
+    (b"on", Kind::On),
+    (b"union", Kind::Union),
+    (b"all", Kind::All),
+];
+
+/// The first of these keywords that a word is, or else a name.
+fn kind_among(keywords: &[(&[u8], Kind)], word: &[u8]) -> Kind
+    ensures { result ≡ kind_among keywords.now word.now }
+{
+    for (keyword, kind) in keywords {
+        if is_keyword(word, keyword) {
+            return *kind;
+        }
+    }
+    Kind::Name
+}
+
 /// The keyword that a word is, or else a name.
 #[tactic(auto, unfolding(crate::specs::Tokens::kind_of_word))]
 pub(crate) fn word_kind(word: &[u8]) -> Kind
     ensures { result ≡ kind_of_word word.now }
 {
-    if is_keyword(word, b"select") {
-        Kind::Select
-    } else if is_keyword(word, b"from") {
-        Kind::From
-    } else if is_keyword(word, b"where") {
-        Kind::Where
-    } else if is_keyword(word, b"and") {
-        Kind::And
-    } else if is_keyword(word, b"order") {
-        Kind::Order
-    } else if is_keyword(word, b"by") {
-        Kind::By
-    } else if is_keyword(word, b"limit") {
-        Kind::Limit
-    } else if is_keyword(word, b"asc") {
-        Kind::Asc
-    } else if is_keyword(word, b"desc") {
-        Kind::Desc
-    } else if is_keyword(word, b"as") {
-        Kind::As
-    } else if is_keyword(word, b"join") {
-        Kind::Join
-    } else if is_keyword(word, b"inner") {
-        Kind::Inner
-    } else if is_keyword(word, b"on") {
-        Kind::On
-    } else if is_keyword(word, b"union") {
-        Kind::Union
-    } else if is_keyword(word, b"all") {
-        Kind::All
-    } else {
-        Kind::Name
-    }
+    kind_among(KEYWORDS, word)
 }
 
 /// The kind of a sign, `Stray` for a byte that is none.
