@@ -6,6 +6,7 @@ pub mod Stuck
 pub mod OneQuery
 pub mod Loops
 pub mod Stepping
+pub mod Fronts
 pub mod Handed
 pub mod Adding
 pub mod Putting
