@@ -8,6 +8,7 @@ pub mod Loops
 pub mod Stepping
 pub mod Fronts
 pub mod Handed
+pub mod Columns
 pub mod Adding
 pub mod Putting
 pub mod Examples
