@@ -10,7 +10,7 @@ use Rattle.query_grammar.specs.declared.fault.ParseFault.TheVariants as fault
 use Rattle.query_grammar.specs.Reading.{◌>>=◌, Fails, Gives, Read, behind, column_at, expect_at, found, optional_at, some_lexeme}
 use Rattle.query_grammar.proofs.Handed.{found_gives}
 
-fails_on : {A B : Type 0} (end : ℕ) (e : ParseFault) (r : Result A (List Lexeme)) (f : A → Result B (List Lexeme)) → Fails end e r → Fails end e (r >>= f)
+pub fails_on : {A B : Type 0} (end : ℕ) (e : ParseFault) (r : Result A (List Lexeme)) (f : A → Result B (List Lexeme)) → Fails end e r → Fails end e (r >>= f)
 fails_on end fault.NoMemory r f h = tt
 fails_on end (fault.Syntax at) r f h = (h.0, ap (λ (s : Result _ (List Lexeme)). s >>= f) h.1, h.2)
 fails_on end fault.TooLong r f h = h

@@ -9,6 +9,7 @@ pub mod Stepping
 pub mod Fronts
 pub mod Handed
 pub mod Columns
+pub mod Parts
 pub mod Adding
 pub mod Putting
 pub mod Examples
