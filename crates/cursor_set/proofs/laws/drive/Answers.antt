@@ -34,81 +34,41 @@ loop-given-preserved-in-Ok-Some g c =
 
 -- # The end was met
 
-pub returns-in-Ok-None-clause-places : goal.returns-in-Ok-None-clause-places
-returns-in-Ok-None-clause-places g c =
+pub returns-in-Ok-None : goal.returns-in-Ok-None
+returns-in-Ok-None g c =
     let before = c.loop-given.invariant in
     let end = rw c.in-Ok-None.field-0-is at c.in-Ok-None.ensures.end in
     let driven = IsDriven-same c.args.cursors.now c.loop-given.cursors c.next.new.self c.args.id.number c.loop-given.given before.driven end.1 c.in-Ok-None.ensures.kept in
-    λ place at. IsDriven-moved c.args.cursors.now c.next.new.self c.args.id.number c.loop-given.given place driven at
-
-pub returns-in-Ok-None-clause-kept : goal.returns-in-Ok-None-clause-kept
-returns-in-Ok-None-clause-kept g c =
-    let before = c.loop-given.invariant in
-    let end = rw c.in-Ok-None.field-0-is at c.in-Ok-None.ensures.end in
-    let driven = IsDriven-same c.args.cursors.now c.loop-given.cursors c.next.new.self c.args.id.number c.loop-given.given before.driven end.1 c.in-Ok-None.ensures.kept in
-    driven.kept
-
-pub returns-in-Ok-None-clause-counted : goal.returns-in-Ok-None-clause-counted
-returns-in-Ok-None-clause-counted g c =
-    c.in-Ok-None.ensures.counted ∙ c.loop-given.invariant.counted
-
-pub returns-in-Ok-None-clause-outcome : goal.returns-in-Ok-None-clause-outcome
-returns-in-Ok-None-clause-outcome g c =
-    let before = c.loop-given.invariant in
-    let end = rw c.in-Ok-None.field-0-is at c.in-Ok-None.ensures.end in
-    λ place at. inr (inl (c.loop-given-test.true, refl, before.refused, IsDriven-end c.args.cursors.now c.loop-given.cursors c.args.id.number c.loop-given.given place before.driven at end.0))
-
-pub returns-in-Ok-None-clause-covered : goal.returns-in-Ok-None-clause-covered
-returns-in-Ok-None-clause-covered g c =
-    let before = c.loop-given.invariant in
-    λ place at within. before.covered (omega (arith, within, start_is c.args.cursors.now c.args.id.number place at))
-
-pub returns-in-Ok-None-clause-after_end : goal.returns-in-Ok-None-clause-after_end
-returns-in-Ok-None-clause-after_end g c =
-    c.loop-given.invariant.after_end
+    record {
+      places = λ place at. IsDriven-moved c.args.cursors.now c.next.new.self c.args.id.number c.loop-given.given place driven at;
+      kept = driven.kept;
+      counted = c.in-Ok-None.ensures.counted ∙ c.loop-given.invariant.counted;
+      outcome = λ place at. inr (inl (c.loop-given-test.true, refl, before.refused, IsDriven-end c.args.cursors.now c.loop-given.cursors c.args.id.number c.loop-given.given place before.driven at end.0));
+      covered = λ place at within. before.covered (omega (arith, within, start_is c.args.cursors.now c.args.id.number place at));
+      after_end = c.loop-given.invariant.after_end;
+    }
 
 -- # Memory was refused
 
-pub returns-then-refused-refusals-clause-places : goal.returns-then-refused-refusals-clause-places
-returns-then-refused-refusals-clause-places g c =
+pub returns-then-refused-refusals : goal.returns-then-refused-refusals
+returns-then-refused-refusals g c =
     let before = c.loop-given.invariant in
     let driven = IsDriven-same c.args.cursors.now c.loop-given.cursors c.next.new.self c.args.id.number c.loop-given.given before.driven c.in-Err.ensures.refused.1 c.in-Err.ensures.kept in
-    λ place at. IsDriven-moved c.args.cursors.now c.next.new.self c.args.id.number c.loop-given.given place driven at
-
-pub returns-then-refused-refusals-clause-kept : goal.returns-then-refused-refusals-clause-kept
-returns-then-refused-refusals-clause-kept g c =
-    let before = c.loop-given.invariant in
-    let driven = IsDriven-same c.args.cursors.now c.loop-given.cursors c.next.new.self c.args.id.number c.loop-given.given before.driven c.in-Err.ensures.refused.1 c.in-Err.ensures.kept in
-    driven.kept
-
-pub returns-then-refused-refusals-clause-counted : goal.returns-then-refused-refusals-clause-counted
-returns-then-refused-refusals-clause-counted g c =
-    let before = c.loop-given.invariant in
     let here = IsDriven-place c.args.cursors.now c.loop-given.cursors c.args.id.number c.loop-given.given before.driven in
     let one : c.next.new.self.refused ≡ counted c.loop-given.cursors.refused = c.in-Err.ensures.counted ∙ refused_counted (Option (Answer g.row.E-Key.Denot)) c.loop-given.cursors c.args.id.number (start_of c.args.cursors.now c.args.id.number + c.loop-given.given) c.loop-given.cursors.refused c.in-Err.field-0 c.in-Err.ensures.refused.0 here in
-    omega (arith, one, before.counted)
-
-pub returns-then-refused-refusals-clause-outcome : goal.returns-then-refused-refusals-clause-outcome
-returns-then-refused-refusals-clause-outcome g c =
-    let before = c.loop-given.invariant in
-    elim c.then-refused-refusals.branch [
-      | then-refused-refusals-via-then-refused-refusals w ↦ λ place at. inr (inr (c.loop-given-test.true, refl, omega (arith, before.refused, before.room, w.if-refused-refusals.true)))
-      | then-refused-refusals-via-else-refused-refusals+then-refused w ↦ λ place at. inr (inr (c.loop-given-test.true, refl, omega (arith, w.if-refused-refusals.false, w.if-refused.true)))
-    ]
-
-pub returns-then-refused-refusals-clause-covered : goal.returns-then-refused-refusals-clause-covered
-returns-then-refused-refusals-clause-covered g c =
-    let before = c.loop-given.invariant in
-    let here = IsDriven-place c.args.cursors.now c.loop-given.cursors c.args.id.number c.loop-given.given before.driven in
     let known = refused_at c.loop-given.cursors c.args.id.number (start_of c.args.cursors.now c.args.id.number + c.loop-given.given) c.in-Err.field-0 c.in-Err.ensures.refused.0 here in
-    λ place at within. absurd (omega (arith, within, start_is c.args.cursors.now c.args.id.number place at, known.0, before.driven.kept.known, c.loop-given-test.true))
-
-pub returns-then-refused-refusals-clause-after_end : goal.returns-then-refused-refusals-clause-after_end
-returns-then-refused-refusals-clause-after_end g c =
-    let before = c.loop-given.invariant in
-    let here = IsDriven-place c.args.cursors.now c.loop-given.cursors c.args.id.number c.loop-given.given before.driven in
-    let known = refused_at c.loop-given.cursors c.args.id.number (start_of c.args.cursors.now c.args.id.number + c.loop-given.given) c.in-Err.field-0 c.in-Err.ensures.refused.0 here in
-    λ end. absurd (false≢true (sym known.1 ∙ before.driven.kept.ended end))
+    record {
+      places = λ place at. IsDriven-moved c.args.cursors.now c.next.new.self c.args.id.number c.loop-given.given place driven at;
+      kept = driven.kept;
+      counted = omega (arith, one, before.counted);
+      outcome =
+          elim c.then-refused-refusals.branch [
+            | then-refused-refusals-via-then-refused-refusals w ↦ λ place at. inr (inr (c.loop-given-test.true, refl, omega (arith, before.refused, before.room, w.if-refused-refusals.true)))
+            | then-refused-refusals-via-else-refused-refusals+then-refused w ↦ λ place at. inr (inr (c.loop-given-test.true, refl, omega (arith, w.if-refused-refusals.false, w.if-refused.true)))
+          ];
+      covered = λ place at within. absurd (omega (arith, within, start_is c.args.cursors.now c.args.id.number place at, known.0, before.driven.kept.known, c.loop-given-test.true));
+      after_end = λ end. absurd (false≢true (sym known.1 ∙ before.driven.kept.ended end));
+    }
 
 pub loop-given-preserved : goal.loop-given-preserved
 loop-given-preserved g c =
@@ -129,28 +89,14 @@ loop-given-preserved g c =
 
 -- # All were given
 
-pub returns-clause-places : goal.returns-clause-places
-returns-clause-places g c =
-    λ place at. IsDriven-moved c.args.cursors.now c.loop-given.cursors c.args.id.number c.loop-given.given place c.loop-given.invariant.driven at
-
-pub returns-clause-kept : goal.returns-clause-kept
-returns-clause-kept g c =
-    c.loop-given.invariant.driven.kept
-
-pub returns-clause-counted : goal.returns-clause-counted
-returns-clause-counted g c =
-    c.loop-given.invariant.counted
-
-pub returns-clause-outcome : goal.returns-clause-outcome
-returns-clause-outcome g c =
+pub returns : goal.returns
+returns g c =
     let before = c.loop-given.invariant in
-    λ place at. inl (omega (arith, before.given, c.loop-given-test.false), refl, before.refused)
-
-pub returns-clause-covered : goal.returns-clause-covered
-returns-clause-covered g c =
-    let before = c.loop-given.invariant in
-    λ place at within. before.covered (omega (arith, within, start_is c.args.cursors.now c.args.id.number place at))
-
-pub returns-clause-after_end : goal.returns-clause-after_end
-returns-clause-after_end g c =
-    c.loop-given.invariant.after_end
+    record {
+      places = λ place at. IsDriven-moved c.args.cursors.now c.loop-given.cursors c.args.id.number c.loop-given.given place c.loop-given.invariant.driven at;
+      kept = c.loop-given.invariant.driven.kept;
+      counted = c.loop-given.invariant.counted;
+      outcome = λ place at. inl (omega (arith, before.given, c.loop-given-test.false), refl, before.refused);
+      covered = λ place at within. before.covered (omega (arith, within, start_is c.args.cursors.now c.args.id.number place at));
+      after_end = c.loop-given.invariant.after_end;
+    }

@@ -8,30 +8,28 @@ use Rattle.cursor_set.proofs.Moving.{at_most_same, place_within, places_set}
 use Rattle.cursor_set.proofs.Placing.{none_from_err, some_from_ok, refused_with, place_here, open_here, changed_here}
 use Rattle.cursor_set.proofs.cursors.Cursors.fork.Goals as goal
 
-pub returns-in_err-place-clause-forked : goal.returns-in_err-place-clause-forked
-returns-in_err-place-clause-forked g c = IfOk-from_err c.from_residual.result _ c.from_residual.ensures.0
-
-pub returns-in_err-place-clause-place : goal.returns-in_err-place-clause-place
-returns-in_err-place-clause-place g c = IfOk-from_err c.from_residual.result _ c.from_residual.ensures.0
-
-pub returns-in_err-place-clause-refused : goal.returns-in_err-place-clause-refused
-returns-in_err-place-clause-refused g c =
+pub returns-in_err-place : goal.returns-in_err-place
+returns-in_err-place g c =
     let none = none_from_err _ _ _ _ c.ok_or.ensures.value c.in_err-place.was in
-    refused_with _ c.from_residual.result (Unknown c.args.id) _ c.from_residual.ensures.0 c.from_residual.ensures.1 none.1
-    ((refl, place_here _ _ c.self.view_is c.args.id.number None none.0), refl)
+    record {
+      forked = IfOk-from_err c.from_residual.result _ c.from_residual.ensures.0;
+      place = IfOk-from_err c.from_residual.result _ c.from_residual.ensures.0;
+      refused =
+          refused_with _ c.from_residual.result (Unknown c.args.id) _ c.from_residual.ensures.0 c.from_residual.ensures.1 none.1
+          ((refl, place_here _ _ c.self.view_is c.args.id.number None none.0), refl);
+    }
 
-pub returns-in_err-number-clause-forked : goal.returns-in_err-number-clause-forked
-returns-in_err-number-clause-forked g c = IfOk-from_err c.from_residual-in_err-number.result _ c.from_residual-in_err-number.ensures.0
-
-pub returns-in_err-number-clause-place : goal.returns-in_err-number-clause-place
-returns-in_err-number-clause-place g c = IfOk-from_err c.from_residual-in_err-number.result _ c.from_residual-in_err-number.ensures.0
-
-pub returns-in_err-number-clause-refused : goal.returns-in_err-number-clause-refused
-returns-in_err-number-clause-refused g c =
+pub returns-in_err-number : goal.returns-in_err-number
+returns-in_err-number g c =
     let at = some_from_ok _ _ _ _ c.ok_or.ensures.value c.in_ok-place.was in
     let none = none_from_err _ _ _ _ c.ok_or-2.ensures.value c.in_err-number.was in
-    refused_with _ c.from_residual-in_err-number.result TooMany _ c.from_residual-in_err-number.ensures.0 c.from_residual-in_err-number.ensures.1 none.1
-    ((open_here _ _ c.self.view_is c.args.id.number _ at, ap first_free (sym c.self.view_is) ∙ sym c.free_number.ensures ∙ none.0), refl)
+    record {
+      forked = IfOk-from_err c.from_residual-in_err-number.result _ c.from_residual-in_err-number.ensures.0;
+      place = IfOk-from_err c.from_residual-in_err-number.result _ c.from_residual-in_err-number.ensures.0;
+      refused =
+          refused_with _ c.from_residual-in_err-number.result TooMany _ c.from_residual-in_err-number.ensures.0 c.from_residual-in_err-number.ensures.1 none.1
+          ((open_here _ _ c.self.view_is c.args.id.number _ at, ap first_free (sym c.self.view_is) ∙ sym c.free_number.ensures ∙ none.0), refl);
+    }
 
 pub invariant_of-self : goal.invariant_of-self
 invariant_of-self g c =
@@ -40,18 +38,17 @@ invariant_of-self g c =
     let within = place_within c.self.inside.places c.args.id.number found c.in_ok-place.place c.self.invariant.1 at in
     (c.self.invariant.0, places_set c.self.inside.places c.in_ok-number.number found found c.in_ok-place.place (at_most_same found) within c.self.invariant.1)
 
-pub returns-clause-forked : goal.returns-clause-forked
-returns-clause-forked g c =
-    let at = some_from_ok _ _ _ _ c.ok_or.ensures.value c.in_ok-place.was in
-    let free = some_from_ok _ _ _ _ c.ok_or-2.ensures.value c.in_ok-number.was in (
-      open_here _ _ c.self.view_is c.args.id.number _ at,
-      ap first_free (sym c.self.view_is) ∙ sym c.free_number.ensures ∙ free,
-      changed_here _ _ c.self.view_is c.in_ok-number.number _ _ (sym (place_here _ _ c.self.view_is c.args.id.number _ at)),
-    )
-
-pub returns-clause-place : goal.returns-clause-place
-returns-clause-place g c =
+pub returns : goal.returns
+returns g c =
     let at = some_from_ok _ _ _ _ c.ok_or.ensures.value c.in_ok-place.was in
     let free = some_from_ok _ _ _ _ c.ok_or-2.ensures.value c.in_ok-number.was in
     let first = position-Some is_none c.self.inside.places c.in_ok-number.number None (sym c.free_number.ensures ∙ free) in
-    get_or-set_same c.self.inside.places c.in_ok-number.number _ None first.0 ∙ sym (place_here _ _ c.self.view_is c.args.id.number _ at)
+    record {
+      forked = (
+        open_here _ _ c.self.view_is c.args.id.number _ at,
+        ap first_free (sym c.self.view_is) ∙ sym c.free_number.ensures ∙ free,
+        changed_here _ _ c.self.view_is c.in_ok-number.number _ _ (sym (place_here _ _ c.self.view_is c.args.id.number _ at)),
+      );
+      place = get_or-set_same c.self.inside.places c.in_ok-number.number _ None first.0 ∙ sym (place_here _ _ c.self.view_is c.args.id.number _ at);
+      refused = tt;
+    }

@@ -8,30 +8,28 @@ use Rattle.cursor_set.proofs.Moving.{at_most_same, places_set}
 use Rattle.cursor_set.proofs.Placing.{none_from_err, some_from_ok, refused_with, changed_here}
 use Rattle.cursor_set.proofs.cursors.Cursors.open.Goals as goal
 
-pub returns-in_err-number-clause-opened : goal.returns-in_err-number-clause-opened
-returns-in_err-number-clause-opened g c = IfOk-from_err c.from_residual.result _ c.from_residual.ensures.0
-
-pub returns-in_err-number-clause-place : goal.returns-in_err-number-clause-place
-returns-in_err-number-clause-place g c = IfOk-from_err c.from_residual.result _ c.from_residual.ensures.0
-
-pub returns-in_err-number-clause-refused : goal.returns-in_err-number-clause-refused
-returns-in_err-number-clause-refused g c =
+pub returns-in_err-number : goal.returns-in_err-number
+returns-in_err-number g c =
     let none = none_from_err _ _ _ _ c.ok_or.ensures.value c.in_err-number.was in
-    refused_with _ c.from_residual.result TooMany _ c.from_residual.ensures.0 c.from_residual.ensures.1 none.1
-    (refl, ap first_free (sym c.self.view_is) ∙ sym c.free_number.ensures ∙ none.0, refl)
+    record {
+      opened = IfOk-from_err c.from_residual.result _ c.from_residual.ensures.0;
+      place = IfOk-from_err c.from_residual.result _ c.from_residual.ensures.0;
+      refused =
+          refused_with _ c.from_residual.result TooMany _ c.from_residual.ensures.0 c.from_residual.ensures.1 none.1
+          (refl, ap first_free (sym c.self.view_is) ∙ sym c.free_number.ensures ∙ none.0, refl);
+    }
 
 pub invariant_of-self : goal.invariant_of-self
 invariant_of-self g c =
     let found = c.self.inside.found.len in
     (c.self.invariant.0, places_set c.self.inside.places c.in_ok-number.number found found 0 (at_most_same found) (omega arith) c.self.invariant.1)
 
-pub returns-clause-opened : goal.returns-clause-opened
-returns-clause-opened g c =
-    let free = some_from_ok _ _ _ _ c.ok_or.ensures.value c.in_ok-number.was in
-    (ap first_free (sym c.self.view_is) ∙ sym c.free_number.ensures ∙ free, changed_here _ _ c.self.view_is c.in_ok-number.number (Some 0) (Some 0) refl)
-
-pub returns-clause-place : goal.returns-clause-place
-returns-clause-place g c =
+pub returns : goal.returns
+returns g c =
     let free = some_from_ok _ _ _ _ c.ok_or.ensures.value c.in_ok-number.was in
     let first = position-Some is_none c.self.inside.places c.in_ok-number.number None (sym c.free_number.ensures ∙ free) in
-    get_or-set_same c.self.inside.places c.in_ok-number.number (Some 0) None first.0
+    record {
+      opened = (ap first_free (sym c.self.view_is) ∙ sym c.free_number.ensures ∙ free, changed_here _ _ c.self.view_is c.in_ok-number.number (Some 0) (Some 0) refl);
+      place = get_or-set_same c.self.inside.places c.in_ok-number.number (Some 0) None first.0;
+      refused = tt;
+    }

@@ -7,29 +7,27 @@ use Rattle.cursor_set.proofs.Moving.{at_most_same, places_set}
 use Rattle.cursor_set.proofs.Placing.{none_from_err, some_from_ok, refused_with, place_here, open_here, changed_here}
 use Rattle.cursor_set.proofs.cursors.Cursors.rewind.Goals as goal
 
-pub returns-in_err-ok_or-clause-rewound : goal.returns-in_err-ok_or-clause-rewound
-returns-in_err-ok_or-clause-rewound g c = IfOk-from_err c.from_residual.result _ c.from_residual.ensures.0
-
-pub returns-in_err-ok_or-clause-place : goal.returns-in_err-ok_or-clause-place
-returns-in_err-ok_or-clause-place g c = IfOk-from_err c.from_residual.result _ c.from_residual.ensures.0
-
-pub returns-in_err-ok_or-clause-refused : goal.returns-in_err-ok_or-clause-refused
-returns-in_err-ok_or-clause-refused g c =
+pub returns-in_err-ok_or : goal.returns-in_err-ok_or
+returns-in_err-ok_or g c =
     let none = none_from_err _ _ _ _ c.ok_or.ensures.value c.in_err-ok_or.was in
-    refused_with _ c.from_residual.result (Unknown c.args.id) _ c.from_residual.ensures.0 c.from_residual.ensures.1 none.1
-    (refl, place_here _ _ c.self.view_is c.args.id.number None none.0, refl)
+    record {
+      rewound = IfOk-from_err c.from_residual.result _ c.from_residual.ensures.0;
+      place = IfOk-from_err c.from_residual.result _ c.from_residual.ensures.0;
+      refused =
+          refused_with _ c.from_residual.result (Unknown c.args.id) _ c.from_residual.ensures.0 c.from_residual.ensures.1 none.1
+          (refl, place_here _ _ c.self.view_is c.args.id.number None none.0, refl);
+    }
 
 pub invariant_of-self : goal.invariant_of-self
 invariant_of-self g c =
     let found = c.self.inside.found.len in
     (c.self.invariant.0, places_set c.self.inside.places c.args.id.number found found 0 (at_most_same found) (omega arith) c.self.invariant.1)
 
-pub returns-clause-rewound : goal.returns-clause-rewound
-returns-clause-rewound g c =
+pub returns : goal.returns
+returns g c =
     let at = some_from_ok _ _ _ _ c.ok_or.ensures.value c.in_ok-ok_or.was in
-    (open_here _ _ c.self.view_is c.args.id.number _ at, changed_here _ _ c.self.view_is c.args.id.number (Some 0) (Some 0) refl)
-
-pub returns-clause-place : goal.returns-clause-place
-returns-clause-place g c =
-    let at = some_from_ok _ _ _ _ c.ok_or.ensures.value c.in_ok-ok_or.was in
-    get_or-set_same c.self.inside.places c.args.id.number (Some 0) None (in_range c.self.inside.places c.args.id.number _ at)
+    record {
+      rewound = (open_here _ _ c.self.view_is c.args.id.number _ at, changed_here _ _ c.self.view_is c.args.id.number (Some 0) (Some 0) refl);
+      place = get_or-set_same c.self.inside.places c.args.id.number (Some 0) None (in_range c.self.inside.places c.args.id.number _ at);
+      refused = tt;
+    }
