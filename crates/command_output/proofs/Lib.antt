@@ -13,3 +13,4 @@ pub mod SessionSteps
 pub mod SessionCosts
 pub mod Reach
 pub mod SessionRun
+pub mod Spending

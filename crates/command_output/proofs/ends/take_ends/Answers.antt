@@ -1,34 +1,38 @@
 use Rattle.std.proofs.Common.{◌≡◌, ◌≤◌, ◌+◌, ℕ, Option, None, IfSome, subst, sym, refl, arith, rules}
 use Rattle.std.proofs.lemmas.List.{length-take-le}
+use Rattle.std.proofs.lemmas.Result.{IfOk-from_err}
 use Rattle.step_bounds.proofs.Pacing.{calls_more, calls_same}
 use Rattle.step_bounds.proofs.Calls.{called_more, counted_few, limit_below, limit_reached, limit_within}
 use Rattle.command_output.proofs.GivenEnds.{calls_within, taken_all, taken_limit, taken_more}
 use Rattle.command_output.proofs.ends.take_ends.Goals as goal
 
-pub returns-in_err-answer-clause-bounded : goal.returns-in_err-answer-clause-bounded
-returns-in_err-answer-clause-bounded g c =
+pub returns-in_err-answer : goal.returns-in_err-answer
+returns-in_err-answer g c =
     let answers = g.E.Ranked.rest c.args.engine.now in
     let i = c.loop-given._given in
     let below = limit_below c.args.limit i _ _ c.unwrap_or-most.ensures c.loop-given-test.true in
-    let called = called_more g.E.Ranked.share g.met.E.Ranked.share_rises _ _ i _ _ _ _ _ _ _ _ c.loop-given.invariant.called (g.met.E.Ranked.due_within c.loop-given.engine)
-    c.next.ensures.cost (counted_few _ _ c.next.ensures.counted) c.next.ensures.size in
-    calls_within g.E.Ranked.share g.met.E.Ranked.share_rises _ _ (i + 1) _ _ _ _ _ called (calls_more c.args.limit answers i c.loop-given.invariant.within below)
+    record {
+      ends = IfOk-from_err c.from_residual.result _ c.from_residual.ensures.0;
+      bounded =
+          let called = called_more g.E.Ranked.share g.met.E.Ranked.share_rises _ _ i _ _ _ _ _ _ _ _ c.loop-given.invariant.called (g.met.E.Ranked.due_within c.loop-given.engine)
+          c.next.ensures.cost (counted_few _ _ c.next.ensures.counted) c.next.ensures.size in
+          calls_within g.E.Ranked.share g.met.E.Ranked.share_rises _ _ (i + 1) _ _ _ _ _ called (calls_more c.args.limit answers i c.loop-given.invariant.within below);
+    }
 
-pub returns-in_default-clause-ends : goal.returns-in_default-clause-ends
-returns-in_default-clause-ends g c =
+pub returns-in_default : goal.returns-in_default
+returns-in_default g c =
     let i = c.loop-given._given in
     let low = limit_within c.args.limit i _ _ c.unwrap_or-most.ensures c.loop-given-test.true in
     let ended = rw c.in_default.is at c.in_ok-answer.ensures.end in
-    taken_all (g.E.Ranked.rest c.args.engine.now) i _ c.loop-given.ends _ _ _ _ _ _ _ c.loop-given.invariant c.args.limit low ended.0
-
-pub returns-in_default-clause-bounded : goal.returns-in_default-clause-bounded
-returns-in_default-clause-bounded g c =
     let answers = g.E.Ranked.rest c.args.engine.now in
-    let i = c.loop-given._given in
     let below = limit_below c.args.limit i _ _ c.unwrap_or-most.ensures c.loop-given-test.true in
-    let called = called_more g.E.Ranked.share g.met.E.Ranked.share_rises _ _ i _ _ _ _ _ _ _ _ c.loop-given.invariant.called (g.met.E.Ranked.due_within c.loop-given.engine)
-    c.next.ensures.cost (counted_few _ _ c.next.ensures.counted) c.next.ensures.size in
-    calls_within g.E.Ranked.share g.met.E.Ranked.share_rises _ _ (i + 1) _ _ _ _ _ called (calls_more c.args.limit answers i c.loop-given.invariant.within below)
+    record {
+      ends = taken_all (g.E.Ranked.rest c.args.engine.now) i _ c.loop-given.ends _ _ _ _ _ _ _ c.loop-given.invariant c.args.limit low ended.0;
+      bounded =
+          let called = called_more g.E.Ranked.share g.met.E.Ranked.share_rises _ _ i _ _ _ _ _ _ _ _ c.loop-given.invariant.called (g.met.E.Ranked.due_within c.loop-given.engine)
+          c.next.ensures.cost (counted_few _ _ c.next.ensures.counted) c.next.ensures.size in
+          calls_within g.E.Ranked.share g.met.E.Ranked.share_rises _ _ (i + 1) _ _ _ _ _ called (calls_more c.args.limit answers i c.loop-given.invariant.within below);
+    }
 
 pub push-requires : goal.push-requires
 push-requires g c =
@@ -47,24 +51,24 @@ loop-given-preserved g c =
     taken_more answers i _ c.loop-given.ends _ _ _ _ _ _ _ c.loop-given.invariant _ _ _ _ _ _ found
     (c.push.ensures _ _ c.loop-given.invariant.kept refl) called
 
-pub returns-then-is_none-clause-bounded : goal.returns-then-is_none-clause-bounded
-returns-then-is_none-clause-bounded g c =
+pub returns-then-is_none : goal.returns-then-is_none
+returns-then-is_none g c =
     let answers = g.E.Ranked.rest c.args.engine.now in
     let i = c.loop-given._given in
     let none : c.args.limit ≡ None = search rules in
     let low = subst (λ (o : Option ℕ). IfSome o (λ n. i ≤ n)) (sym none) tt in
-    calls_within g.E.Ranked.share g.met.E.Ranked.share_rises _ _ i _ _ _ _ _ c.loop-given.invariant.called (calls_same c.args.limit answers i c.loop-given.invariant.within low)
+    record {
+      ends = tt;
+      bounded = calls_within g.E.Ranked.share g.met.E.Ranked.share_rises _ _ i _ _ _ _ _ c.loop-given.invariant.called (calls_same c.args.limit answers i c.loop-given.invariant.within low);
+    }
 
-pub returns-clause-ends : goal.returns-clause-ends
-returns-clause-ends g c =
+pub returns : goal.returns
+returns g c =
     let i = c.loop-given._given in
     let reached = limit_reached c.args.limit i _ _ c.unwrap_or-most.ensures c.if-is_none.ensures c.loop-given-test.false c.loop-given.auto._given-end in
-    taken_limit (g.E.Ranked.rest c.args.engine.now) i _ c.loop-given.ends _ _ _ _ _ _ _ c.loop-given.invariant c.args.limit reached
-
-pub returns-clause-bounded : goal.returns-clause-bounded
-returns-clause-bounded g c =
     let answers = g.E.Ranked.rest c.args.engine.now in
-    let i = c.loop-given._given in
-    let reached = limit_reached c.args.limit i _ _ c.unwrap_or-most.ensures c.if-is_none.ensures c.loop-given-test.false c.loop-given.auto._given-end in
     let low = subst (λ (o : Option ℕ). IfSome o (λ n. i ≤ n)) (sym reached) (omega arith) in
-    calls_within g.E.Ranked.share g.met.E.Ranked.share_rises _ _ i _ _ _ _ _ c.loop-given.invariant.called (calls_same c.args.limit answers i c.loop-given.invariant.within low)
+    record {
+      ends = taken_limit (g.E.Ranked.rest c.args.engine.now) i _ c.loop-given.ends _ _ _ _ _ _ _ c.loop-given.invariant c.args.limit reached;
+      bounded = calls_within g.E.Ranked.share g.met.E.Ranked.share_rises _ _ i _ _ _ _ _ c.loop-given.invariant.called (calls_same c.args.limit answers i c.loop-given.invariant.within low);
+    }

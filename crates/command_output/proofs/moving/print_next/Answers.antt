@@ -75,37 +75,31 @@ loop-given-init g c =
 pub next_member-requires : goal.next_member-requires
 next_member-requires g c = c.loop-given.invariant.here
 
-pub returns-in_default-clause-printed : goal.returns-in_default-clause-printed
-returns-in_default-clause-printed g c =
-    let loop = (goal.at.returns-in_default-clause-printed g c).At-loop-given in
+pub returns-in_default : goal.returns-in_default
+returns-in_default g c =
+    let loop = (goal.at.returns-in_default g c).At-loop-given in
     let start = c.args.place.now in
     let done = c.loop-given._given in
     let ended = at_none _ _ c.in_default.is c.in_ok-answer.ensures.end in
     let short = answers_ended (rows_of g loop) c.args.listing.now.query.now.query.limit c.args.set.now.answers start done c.loop-given.place c.loop-given.invariant.place
     (rw (c.limit.ensures, c.loop-given.invariant.answers) at ended.1) in
-    let last = ending_left (line g loop) (ending g loop) (members g loop) start done c.args.count short c.loop-given-test.true in
-    let P : List ℕ → Type 0 = λ text. Printed (state_of g.S.Sink c.loop-given.out) (state_of g.S.Sink c.print_end.new.out) text c.print_end.result in
-    left_last (whole g loop) (left g loop) _ _ _ c.loop-given.invariant.left c.print_end.result (subst P (sym last) c.print_end.ensures)
-
-pub returns-in_default-clause-moved : goal.returns-in_default-clause-moved
-returns-in_default-clause-moved g c =
-    let loop = (goal.at.returns-in_default-clause-moved g c).At-loop-given in
-    let start = c.args.place.now in
-    let done = c.loop-given._given in
-    let ended = at_none _ _ c.in_default.is c.in_ok-answer.ensures.end in
-    let short = answers_ended (rows_of g loop) c.args.listing.now.query.now.query.limit c.args.set.now.answers start done c.loop-given.place c.loop-given.invariant.place
-    (rw (c.limit.ensures, c.loop-given.invariant.answers) at ended.1) in
-    let all = given_less (members g loop) start done c.args.count c.loop-given.invariant.within c.loop-given-test.true short in
-    always c.print_end.result (omega (arith, ended.0, c.loop-given.invariant.place, all))
-
-pub returns-in_default-clause-places : goal.returns-in_default-clause-places
-returns-in_default-clause-places g c =
-    always c.print_end.result
-    (places_set c.args.set.now.places c.loop-given.set.places c.next_member.new.set.places c.args.id.number c.loop-given.place c.next_member.new.place
-    c.loop-given.invariant.places c.in_ok-answer.ensures.places)
-
-pub returns-in_default-clause-kept : goal.returns-in_default-clause-kept
-returns-in_default-clause-kept g c = always c.print_end.result (c.in_ok-answer.ensures.kept ∙ c.loop-given.invariant.answers)
+    record {
+      printed =
+          let last = ending_left (line g loop) (ending g loop) (members g loop) start done c.args.count short c.loop-given-test.true in
+          let P : List ℕ → Type 0 = λ text. Printed (state_of g.S.Sink c.loop-given.out) (state_of g.S.Sink c.print_end.new.out) text c.print_end.result in
+          left_last (whole g loop) (left g loop) _ _ _ c.loop-given.invariant.left c.print_end.result (subst P (sym last) c.print_end.ensures);
+      moved =
+          let all = given_less (members g loop) start done c.args.count c.loop-given.invariant.within c.loop-given-test.true short in
+          always c.print_end.result (omega (arith, ended.0, c.loop-given.invariant.place, all));
+      places =
+          always c.print_end.result
+          (places_set c.args.set.now.places c.loop-given.set.places c.next_member.new.set.places c.args.id.number c.loop-given.place c.next_member.new.place
+          c.loop-given.invariant.places c.in_ok-answer.ensures.places);
+      kept = always c.print_end.result (c.in_ok-answer.ensures.kept ∙ c.loop-given.invariant.answers);
+      paid =
+          paid_spent g.E.Ranked.share g.met.E.Ranked.share_rises c.args.set.now c.next_member.new.set _ _ c.args.steps.now c.next_member.new.steps c.print_end.result
+          (given_spent (given g loop) c.next_member.new.set c.next_member.new.steps c.loop-given-test.true (rw c.limit.ensures at c.in_ok-answer.ensures.paid.spent));
+    }
 
 pub print_answer-requires-clause-rows : goal.print_answer-requires-clause-rows
 print_answer-requires-clause-rows g c =
@@ -141,40 +135,27 @@ loop-given-preserved g c =
       spent = given_more (given g loop) c.next_member.new.set c.next_member.new.steps below (rw c.limit.ensures at c.in_ok-answer.ensures.paid.spent);
     }
 
-pub returns-clause-printed : goal.returns-clause-printed
-returns-clause-printed g c =
-    let loop = (goal.at.returns-clause-printed g c).At-loop-given in
+pub returns : goal.returns
+returns g c =
+    let loop = (goal.at.returns g c).At-loop-given in
     let start = c.args.place.now in
     let done = c.loop-given._given in
-    left_none (whole g loop) (left g loop) _ _ c.loop-given.invariant.left
-    (next_done (line g loop) (ending g loop) (members g loop) (start + done) (c.args.count - done) (omega (arith, c.loop-given-test.false)))
-
-pub returns-clause-moved : goal.returns-clause-moved
-returns-clause-moved g c =
-    let loop = (goal.at.returns-clause-moved g c).At-loop-given in
     let all = given_all (members g loop) c.args.place.now c.loop-given._given c.args.count c.loop-given.invariant.within (omega arith) in
-    omega (arith, c.loop-given.invariant.place, all)
-
-pub returns-in_default-clause-paid : goal.returns-in_default-clause-paid
-returns-in_default-clause-paid g c =
-    let loop = (goal.at.returns-in_default-clause-paid g c).At-loop-given in
-    paid_spent g.E.Ranked.share g.met.E.Ranked.share_rises c.args.set.now c.next_member.new.set _ _ c.args.steps.now c.next_member.new.steps c.print_end.result
-    (given_spent (given g loop) c.next_member.new.set c.next_member.new.steps c.loop-given-test.true (rw c.limit.ensures at c.in_ok-answer.ensures.paid.spent))
-
-pub returns-clause-paid : goal.returns-clause-paid
-returns-clause-paid g c =
-    let loop = (goal.at.returns-clause-paid g c).At-loop-given in
-    paid_spent g.E.Ranked.share g.met.E.Ranked.share_rises c.args.set.now c.loop-given.set _ _ c.args.steps.now c.loop-given.steps (Ok tt)
-    (given_done (given g loop) (omega arith))
+    record {
+      printed =
+          left_none (whole g loop) (left g loop) _ _ c.loop-given.invariant.left
+          (next_done (line g loop) (ending g loop) (members g loop) (start + done) (c.args.count - done) (omega (arith, c.loop-given-test.false)));
+      moved =
+          omega (arith, c.loop-given.invariant.place, all);
+      places = c.loop-given.invariant.places;
+      kept = c.loop-given.invariant.answers;
+      paid =
+          paid_spent g.E.Ranked.share g.met.E.Ranked.share_rises c.args.set.now c.loop-given.set _ _ c.args.steps.now c.loop-given.steps (Ok tt)
+          (given_done (given g loop) (omega arith));
+    }
 
 pub print_answer-requires-clause-fits : goal.print_answer-requires-clause-fits
 print_answer-requires-clause-fits g c = c.requires.fits
-
-pub returns-clause-places : goal.returns-clause-places
-returns-clause-places g c = c.loop-given.invariant.places
-
-pub returns-clause-kept : goal.returns-clause-kept
-returns-clause-kept g c = c.loop-given.invariant.answers
 
 pub returns-in_err-answer : goal.returns-in_err-answer
 returns-in_err-answer g c =

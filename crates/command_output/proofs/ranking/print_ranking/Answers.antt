@@ -1,28 +1,26 @@
-use Rattle.std.proofs.Common.{◌≡◌, Err, rules, arith}
+use Rattle.std.proofs.Common.{◌≡◌, Err, rules}
 use Rattle.step_bounds.proofs.Pacing.{paced_after}
 use Rattle.refusal_lines.proofs.Prints.{printed_stopped, printed_then}
+use Rattle.command_output.proofs.Spending.{at_most_one}
 use Rattle.command_output.proofs.ranking.print_ranking.Goals as goal
 
-pub returns-in_err-print_header-clause-printed : goal.returns-in_err-print_header-clause-printed
-returns-in_err-print_header-clause-printed g c =
+pub returns-in_err-print_header : goal.returns-in_err-print_header
+returns-in_err-print_header g c =
     let e : c.from_residual.result ≡ Err c.in_err-print_header.field-0.0 = search rules in
-    rw e (printed_stopped _ _ _ _ c.in_err-print_header.field-0.0 c.in_err-print_header.ensures)
+    record {
+      printed = rw e (printed_stopped _ _ _ _ c.in_err-print_header.field-0.0 c.in_err-print_header.ensures);
+      bounded = at_most_one _ _;
+      prompt = λ start part is_old is_new. at_most_one _ _;
+    }
 
-pub returns-clause-printed : goal.returns-clause-printed
-returns-clause-printed g c =
+pub returns : goal.returns
+returns g c =
     let head = c.in_ok-print_header.ensures in
-    printed_then _ _ _ _ _ _ head.whole head.later c.print_answers.ensures.printed
-
-pub returns-in_err-print_header-clause-bounded : goal.returns-in_err-print_header-clause-bounded
-returns-in_err-print_header-clause-bounded g c = omega arith
-
-pub returns-in_err-print_header-clause-prompt : goal.returns-in_err-print_header-clause-prompt
-returns-in_err-print_header-clause-prompt g c start part is_old is_new = omega arith
-
-pub returns-clause-bounded : goal.returns-clause-bounded
-returns-clause-bounded g c = c.print_answers.ensures.paced.bounded
-
-pub returns-clause-prompt : goal.returns-clause-prompt
-returns-clause-prompt g c start part is_old is_new =
-    let rest = c.print_answers.ensures.printed.prefix in
-    paced_after _ _ _ _ _ _ _ _ _ rest.0 c.in_ok-print_header.ensures.whole rest.1 c.print_answers.ensures.paced start part is_old is_new
+    record {
+      printed = printed_then _ _ _ _ _ _ head.whole head.later c.print_answers.ensures.printed;
+      bounded = c.print_answers.ensures.paced.bounded;
+      prompt =
+          λ start part is_old is_new.
+          let rest = c.print_answers.ensures.printed.prefix in
+          paced_after _ _ _ _ _ _ _ _ _ rest.0 c.in_ok-print_header.ensures.whole rest.1 c.print_answers.ensures.paced start part is_old is_new;
+    }

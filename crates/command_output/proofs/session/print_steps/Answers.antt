@@ -1,13 +1,17 @@
 use Rattle.std.proofs.Common.{◌≡◌, ◌<◌, Err, get_or, length, refl, subst, sym, ◌∙◌, arith, rules}
 use Rattle.refusal_lines.proofs.Prints.{printed_stopped, printed_then}
 use Rattle.witness_key.specs.WitnessKey.{AreCombinations}
+use Rattle.command_output.proofs.Spending.{at_most_more}
 use Rattle.command_output.proofs.SessionRun.{run_all, run_cost, run_more, run_start, run_stopped, run_within}
 use Rattle.command_output.proofs.session.print_steps.Goals as goal
 
-pub returns-in_err-print_header-clause-printed : goal.returns-in_err-print_header-clause-printed
-returns-in_err-print_header-clause-printed g c =
+pub returns-in_err-print_header : goal.returns-in_err-print_header
+returns-in_err-print_header g c =
     let e : c.from_residual.result ≡ Err c.in_err-print_header.field-0.0 = search rules in
-    rw e (printed_stopped _ _ _ _ c.in_err-print_header.field-0.0 c.in_err-print_header.ensures)
+    record {
+      printed = rw e (printed_stopped _ _ _ _ c.in_err-print_header.field-0.0 c.in_err-print_header.ensures);
+      within = at_most_more _ _ _;
+    }
 
 pub loop-step-init : goal.loop-step-init
 loop-step-init g c = record {
@@ -35,29 +39,28 @@ loop-step-preserved g c =
           _ _ _ _ _ c.loop-step.invariant.run c.loop-step.invariant.answers c.in_ok-take_step.ensures.taken;
     }
 
-pub returns-in_err-take_step-clause-printed : goal.returns-in_err-take_step-clause-printed
-returns-in_err-take_step-clause-printed g c =
+pub returns-in_err-take_step : goal.returns-in_err-take_step
+returns-in_err-take_step g c =
     let inside : c.loop-step.step-index < length c.args.script.now = omega arith in
     let here : get_or c.args.script.now c.loop-step.step-index c.step-item.result ≡ c.step-item.result = sym c.step-item.is in
     let head = c.in_ok-print_header.ensures in
     let e : c.from_residual-in_err-take_step.result ≡ Err c.in_err-take_step.field-0.0 = search rules in
-    rw e (printed_then _ _ _ _ _ _ head.whole head.later
-    (run_stopped g.E.Ranked.share g.met.E.Ranked.share_rises c.args.listing.now c.args.set.now.answers c.args.script.now c.loop-step.step-index c.step-item.result inside here
-    _ _ _ _ _ c.loop-step.invariant.run c.loop-step.invariant.answers c.in_err-take_step.field-0.0 c.in_err-take_step.ensures.taken))
+    record {
+      printed =
+          rw e (printed_then _ _ _ _ _ _ head.whole head.later
+          (run_stopped g.E.Ranked.share g.met.E.Ranked.share_rises c.args.listing.now c.args.set.now.answers c.args.script.now c.loop-step.step-index c.step-item.result inside here
+          _ _ _ _ _ c.loop-step.invariant.run c.loop-step.invariant.answers c.in_err-take_step.field-0.0 c.in_err-take_step.ensures.taken));
+      within =
+          run_within g.E.Ranked.share g.met.E.Ranked.share_rises c.args.listing.now c.args.set.now.answers c.args.script.now c.loop-step.step-index c.step-item.result inside here
+          _ _ _ _ _ c.loop-step.invariant.run c.loop-step.invariant.answers _ c.in_err-take_step.ensures.taken;
+    }
 
-pub returns-in_err-take_step-clause-within : goal.returns-in_err-take_step-clause-within
-returns-in_err-take_step-clause-within g c =
-    let inside : c.loop-step.step-index < length c.args.script.now = omega arith in
-    let here : get_or c.args.script.now c.loop-step.step-index c.step-item.result ≡ c.step-item.result = sym c.step-item.is in
-    run_within g.E.Ranked.share g.met.E.Ranked.share_rises c.args.listing.now c.args.set.now.answers c.args.script.now c.loop-step.step-index c.step-item.result inside here
-    _ _ _ _ _ c.loop-step.invariant.run c.loop-step.invariant.answers _ c.in_err-take_step.ensures.taken
-
-pub returns-clause-printed : goal.returns-clause-printed
-returns-clause-printed g c =
+pub returns : goal.returns
+returns g c =
     let head = c.in_ok-print_header.ensures in
-    printed_then _ _ _ _ _ _ head.whole head.later
-    (run_all g.E.Ranked.share g.met.E.Ranked.share_rises c.args.listing.now c.args.set.now.answers c.args.script.now c.loop-step.step-index _ _ _ _ c.loop-step.invariant.run (omega arith))
-
-pub returns-clause-within : goal.returns-clause-within
-returns-clause-within g c =
-    run_cost g.E.Ranked.share g.met.E.Ranked.share_rises c.args.listing.now c.args.set.now.answers c.args.script.now c.loop-step.step-index _ _ _ _ c.loop-step.invariant.run
+    record {
+      printed =
+          printed_then _ _ _ _ _ _ head.whole head.later
+          (run_all g.E.Ranked.share g.met.E.Ranked.share_rises c.args.listing.now c.args.set.now.answers c.args.script.now c.loop-step.step-index _ _ _ _ c.loop-step.invariant.run (omega arith));
+      within = run_cost g.E.Ranked.share g.met.E.Ranked.share_rises c.args.listing.now c.args.set.now.answers c.args.script.now c.loop-step.step-index _ _ _ _ c.loop-step.invariant.run;
+    }

@@ -5,27 +5,39 @@ use Rattle.command_output.proofs.Moves.{same_place, unknown_closed}
 use Rattle.command_output.proofs.SessionRun.{is_quiet, next_taken, quiet_taken}
 use Rattle.command_output.proofs.session.take_step.Goals as goal
 
-pub returns-in_default-cursor_of-clause-taken : goal.returns-in_default-cursor_of-clause-taken
-returns-in_default-cursor_of-clause-taken g c = λ places held can.
-    unknown_closed c.args.set.now c.args.cursors.now places c.bytes-name.result.now c.in_default-cursor_of.ensures.unknown held
-    (rw (c.in-Next.is, ← c.bytes-name.ensures.value) at can)
+pub returns-in_default-cursor_of : goal.returns-in_default-cursor_of
+returns-in_default-cursor_of g c =
+    record {
+      taken =
+          λ places held can.
+          unknown_closed c.args.set.now c.args.cursors.now places c.bytes-name.result.now c.in_default-cursor_of.ensures.unknown held
+          (rw (c.in-Next.is, ← c.bytes-name.ensures.value) at can);
+      kept = refl;
+    }
 
-pub returns-in-Some-clause-taken : goal.returns-in-Some-clause-taken
-returns-in-Some-clause-taken g c = λ places held can.
-    let told = c.print_next-printed.ensures in
-    rw (c.in-Next.is, ← c.bytes-name.ensures.value)
-    (next_taken g.E.Ranked.share _ _ _ places c.in-Some.id.number c.bytes-name.result.now c.in-Some.place c.in-Next.count
-    _ c.print_next-printed.new.set (record { name = c.bytes-name.result; place = c.print_next-printed.new.place }) _ c.print_next-printed.new.steps c.print_next-printed.result
-    held c.in-Some.ensures.found refl told.printed told.moved told.places told.paid)
+pub returns-in-Some : goal.returns-in-Some
+returns-in-Some g c =
+    record {
+      taken =
+          λ places held can.
+          let told = c.print_next-printed.ensures in
+          rw (c.in-Next.is, ← c.bytes-name.ensures.value)
+          (next_taken g.E.Ranked.share _ _ _ places c.in-Some.id.number c.bytes-name.result.now c.in-Some.place c.in-Next.count
+          _ c.print_next-printed.new.set (record { name = c.bytes-name.result; place = c.print_next-printed.new.place }) _ c.print_next-printed.new.steps c.print_next-printed.result
+          held c.in-Some.ensures.found refl told.printed told.moved told.places told.paid);
+      kept = c.print_next-printed.ensures.kept;
+    }
 
-pub returns-in_ok-move_cursor-in_default-clause-taken : goal.returns-in_ok-move_cursor-in_default-clause-taken
-returns-in_ok-move_cursor-in_default-clause-taken g c = λ places held can.
-    let quiet = is_quiet c.args.step.now c.in_default.not-Next in
-    quiet_taken g.E.Ranked.share g.met.E.Ranked.share_rises _ _ _ places c.args.step.now c.args.set.now c.move_cursor.new.set c.args.cursors.now c.move_cursor.new.cursors _
-    c.args.steps.now (Ok tt) quiet c.move_cursor.ensures.only tt (c.in_ok-move_cursor-in_default.ensures.held _ places held can quiet)
-
-pub returns-in_ok-move_cursor-in_default-clause-kept : goal.returns-in_ok-move_cursor-in_default-clause-kept
-returns-in_ok-move_cursor-in_default-clause-kept g c = ap (λ (s : CursorSet). s.answers) c.move_cursor.ensures.only
+pub returns-in_ok-move_cursor-in_default : goal.returns-in_ok-move_cursor-in_default
+returns-in_ok-move_cursor-in_default g c =
+    record {
+      taken =
+          λ places held can.
+          let quiet = is_quiet c.args.step.now c.in_default.not-Next in
+          quiet_taken g.E.Ranked.share g.met.E.Ranked.share_rises _ _ _ places c.args.step.now c.args.set.now c.move_cursor.new.set c.args.cursors.now c.move_cursor.new.cursors _
+          c.args.steps.now (Ok tt) quiet c.move_cursor.ensures.only tt (c.in_ok-move_cursor-in_default.ensures.held _ places held can quiet);
+      kept = ap (λ (s : CursorSet). s.answers) c.move_cursor.ensures.only;
+    }
 
 pub returns-in_err-move_cursor-in_default : goal.returns-in_err-move_cursor-in_default
 returns-in_err-move_cursor-in_default g c =
@@ -45,6 +57,3 @@ print_next-printed-requires-clause-rows g c = c.requires.rows
 pub print_next-printed-requires-clause-here : goal.print_next-printed-requires-clause-here
 print_next-printed-requires-clause-here g c =
     same_place c.args.set.now.places c.args.cursors.now c.in-Some.id.number c.bytes-name.result.now c.in-Some.place c.requires.same c.in-Some.ensures.found
-
-pub returns-in-Some-clause-kept : goal.returns-in-Some-clause-kept
-returns-in-Some-clause-kept g c = c.print_next-printed.ensures.kept

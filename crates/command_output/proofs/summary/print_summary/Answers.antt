@@ -12,9 +12,14 @@ out_of_memory : (r : Result (Unit {0}) PrintFault) → IsErrAnd r (λ e. e ≡ f
 out_of_memory (Ok done) h = absurd h
 out_of_memory (Err e) h = ap (λ (e : PrintFault). Err e) h
 
-pub returns-in_err-ends-clause-printed : goal.returns-in_err-ends-clause-printed
-returns-in_err-ends-clause-printed g c =
-    rw (out_of_memory c.from_residual.result c.from_residual.ensures.1) (unprinted _ _)
+pub returns-in_err-ends : goal.returns-in_err-ends
+returns-in_err-ends g c =
+    let query = c.args.query.now.query in
+    let calls = calls_map (λ (a : AnswerView). take (length query.items) a.rows) query.limit (g.E.Ranked.rest c.args.engine.now) in
+    record {
+      printed = rw (out_of_memory c.from_residual.result c.from_residual.ensures.1) (unprinted _ _);
+      bounded = rw (c.limit.ensures, sym calls) at c.take_ends.ensures.bounded;
+    }
 
 pub summary-requires-clause-first : goal.summary-requires-clause-first
 summary-requires-clause-first g c =
@@ -26,30 +31,23 @@ summary-requires-clause-last g c =
     last_rows c.args.query.now.query c.args.tables.now c.in_ok-ends.ends (g.E.Ranked.rest c.args.engine.now) c.requires.rows
     (rw c.limit.ensures at c.in_ok-ends.ensures.ends)
 
-pub returns-clause-printed : goal.returns-clause-printed
-returns-clause-printed g c =
-    let same = ends_text_lem c.args.query.now.query c.args.tables.now c.in_ok-ends.ends (g.E.Ranked.rest c.args.engine.now) c.requires.rows
-    (rw c.limit.ensures at c.in_ok-ends.ensures.ends) in
-    rw (c.deref.ensures.value, c.in_ok-text.ensures, same) at c.print.ensures
-
-pub returns-clause-bounded : goal.returns-clause-bounded
-returns-clause-bounded g c =
+pub returns : goal.returns
+returns g c =
     let query = c.args.query.now.query in
     let calls = calls_map (λ (a : AnswerView). take (length query.items) a.rows) query.limit (g.E.Ranked.rest c.args.engine.now) in
-    rw (c.limit.ensures, sym calls) at c.take_ends.ensures.bounded
+    record {
+      printed =
+          let same = ends_text_lem c.args.query.now.query c.args.tables.now c.in_ok-ends.ends (g.E.Ranked.rest c.args.engine.now) c.requires.rows
+          (rw c.limit.ensures at c.in_ok-ends.ensures.ends) in
+          rw (c.deref.ensures.value, c.in_ok-text.ensures, same) at c.print.ensures;
+      bounded = rw (c.limit.ensures, sym calls) at c.take_ends.ensures.bounded;
+    }
 
-pub returns-in_err-ends-clause-bounded : goal.returns-in_err-ends-clause-bounded
-returns-in_err-ends-clause-bounded g c =
+pub returns-in_err-text : goal.returns-in_err-text
+returns-in_err-text g c =
     let query = c.args.query.now.query in
     let calls = calls_map (λ (a : AnswerView). take (length query.items) a.rows) query.limit (g.E.Ranked.rest c.args.engine.now) in
-    rw (c.limit.ensures, sym calls) at c.take_ends.ensures.bounded
-
-pub returns-in_err-text-clause-printed : goal.returns-in_err-text-clause-printed
-returns-in_err-text-clause-printed g c =
-    rw (out_of_memory c.from_residual-in_err-text.result c.from_residual-in_err-text.ensures.1) (unprinted _ _)
-
-pub returns-in_err-text-clause-bounded : goal.returns-in_err-text-clause-bounded
-returns-in_err-text-clause-bounded g c =
-    let query = c.args.query.now.query in
-    let calls = calls_map (λ (a : AnswerView). take (length query.items) a.rows) query.limit (g.E.Ranked.rest c.args.engine.now) in
-    rw (c.limit.ensures, sym calls) at c.take_ends.ensures.bounded
+    record {
+      printed = rw (out_of_memory c.from_residual-in_err-text.result c.from_residual-in_err-text.ensures.1) (unprinted _ _);
+      bounded = rw (c.limit.ensures, sym calls) at c.take_ends.ensures.bounded;
+    }

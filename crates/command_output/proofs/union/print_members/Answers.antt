@@ -19,25 +19,44 @@ loop-given-init g c =
     none_printed g.E.Ranked.share g.met.E.Ranked.share_rises all tables f c.args.merge.now _ _
     c.requires.members
 
-pub returns-in_err-tagged-clause-printed : goal.returns-in_err-tagged-clause-printed
-returns-in_err-tagged-clause-printed g c =
+pub returns-in_err-tagged : goal.returns-in_err-tagged
+returns-in_err-tagged g c =
     let all = map (λ (q : BoundQuery). q.query) c.args.queries.now in
     let tables = c.args.tables.now in
     let f = union_line_text all tables (style_view c.args.style.now) in
     let e : c.from_residual.result ≡ Err fault.NoMemory = search rules in
     let low = limit_within c.args.limit c.loop-given._given _ _ c.unwrap_or-most.ensures c.loop-given-test.true in
-    rw e (stopped_short (IsMember all tables) f itself c.args.merge.now.rest
-    c.loop-given._given c.args.limit _ _ _ low c.loop-given.invariant.given)
+    let i = c.loop-given._given in
+    let refused = c.in_err-tagged.ensures.refused in
+    let below = limit_below c.args.limit i _ _ c.unwrap_or-most.ensures c.loop-given-test.true in
+    record {
+      printed =
+          rw e (stopped_short (IsMember all tables) f itself c.args.merge.now.rest
+          c.loop-given._given c.args.limit _ _ _ low c.loop-given.invariant.given);
+      paced =
+          let low = limit_within c.args.limit i _ _ c.unwrap_or-most.ensures c.loop-given-test.true in
+          paced_next g.E.Ranked.share g.met.E.Ranked.share_rises all tables f c.args.merge.now c.args.limit i
+          _ _ _ _ _ c.loop-given.invariant refused.0 refused.1 _ _ refused.2 refused.4 below low _ [] (appends_nothing _);
+    }
 
-pub returns-in_default-clause-printed : goal.returns-in_default-clause-printed
-returns-in_default-clause-printed g c =
+pub returns-in_default : goal.returns-in_default
+returns-in_default g c =
     let all = map (λ (q : BoundQuery). q.query) c.args.queries.now in
     let tables = c.args.tables.now in
     let f = union_line_text all tables (style_view c.args.style.now) in
     let low = limit_within c.args.limit c.loop-given._given _ _ c.unwrap_or-most.ensures c.loop-given-test.true in
     let ended = rw c.in_default.is at c.in_ok-tagged.ensures.end in
-    printed_all (IsMember all tables) f itself c.args.merge.now.rest
-    c.loop-given._given c.args.limit _ _ _ low ended.0 c.loop-given.invariant.given
+    let i = c.loop-given._given in
+    record {
+      printed =
+          printed_all (IsMember all tables) f itself c.args.merge.now.rest
+          c.loop-given._given c.args.limit _ _ _ low ended.0 c.loop-given.invariant.given;
+      paced =
+          let low = limit_within c.args.limit i _ _ c.unwrap_or-most.ensures c.loop-given-test.true in
+          let same = paced_same g.E.Ranked.share g.met.E.Ranked.share_rises all tables f c.args.merge.now c.args.limit i
+          _ _ _ _ _ c.loop-given.invariant low in
+          rw ended.2 same;
+    }
 
 -- the next member, as the queries of the call see it
 pub print_member-requires-clause-member : goal.print_member-requires-clause-member
@@ -51,20 +70,29 @@ print_member-requires-clause-member g c =
     first_left (IsMember all tables) f itself c.args.merge.now.rest
     c.loop-given._given _ _ _ c.loop-given.invariant.given.all head
 
-pub returns-in_err-print_member-clause-printed : goal.returns-in_err-print_member-clause-printed
-returns-in_err-print_member-clause-printed g c =
+pub returns-in_err-print_member : goal.returns-in_err-print_member
+returns-in_err-print_member g c =
     let all = map (λ (q : BoundQuery). q.query) c.args.queries.now in
     let tables = c.args.tables.now in
     let f = union_line_text all tables (style_view c.args.style.now) in
     let i = c.loop-given._given in
     let found = rw c.in-Some.is at c.in_ok-tagged.ensures.found in
-    let head = seen_by c.loop-given.merge c.in-Some.tagged _ all _ c.loop-given.invariant.queries
-    c.requires.queries found.0 in
-    let low = limit_below c.args.limit i _ _ c.unwrap_or-most.ensures c.loop-given-test.true in
-    let e : c.from_residual-in_err-print_member.result ≡ Err c.in_err-print_member.field-0.0 = search rules in
-    rw e (cut_short (IsMember all tables) f itself c.args.merge.now.rest
-    i (tagged 0 []) _ _ _ c.loop-given.invariant.given.rest head c.args.limit _ _ _ c.in_err-print_member.field-0.0 low
-    c.loop-given.invariant.given c.in_err-print_member.ensures)
+    let below = limit_below c.args.limit i _ _ c.unwrap_or-most.ensures c.loop-given-test.true in
+    let low = limit_within c.args.limit i _ _ c.unwrap_or-most.ensures c.loop-given-test.true in
+    let part = c.print_member.ensures.prefix in
+    record {
+      printed =
+          let head = seen_by c.loop-given.merge c.in-Some.tagged _ all _ c.loop-given.invariant.queries
+          c.requires.queries found.0 in
+          let low = limit_below c.args.limit i _ _ c.unwrap_or-most.ensures c.loop-given-test.true in
+          let e : c.from_residual-in_err-print_member.result ≡ Err c.in_err-print_member.field-0.0 = search rules in
+          rw e (cut_short (IsMember all tables) f itself c.args.merge.now.rest
+          i (tagged 0 []) _ _ _ c.loop-given.invariant.given.rest head c.args.limit _ _ _ c.in_err-print_member.field-0.0 low
+          c.loop-given.invariant.given c.in_err-print_member.ensures);
+      paced =
+          paced_next g.E.Ranked.share g.met.E.Ranked.share_rises all tables f c.args.merge.now c.args.limit i
+          _ _ _ _ _ c.loop-given.invariant _ _ _ _ found.0 found.1 below low _ part.0 part.1;
+    }
 
 pub loop-given-preserved : goal.loop-given-preserved
 loop-given-preserved g c =
@@ -79,82 +107,40 @@ loop-given-preserved g c =
     c.loop-given._given
     _ _ _ _ _ c.loop-given.invariant _ _ _ _ head found.1 _ refl printed.whole printed.later
 
-pub returns-then-is_none-clause-printed : goal.returns-then-is_none-clause-printed
-returns-then-is_none-clause-printed g c =
+pub returns-then-is_none : goal.returns-then-is_none
+returns-then-is_none g c =
     let all = map (λ (q : BoundQuery). q.query) c.args.queries.now in
     let tables = c.args.tables.now in
     let f = union_line_text all tables (style_view c.args.style.now) in
     let none : c.args.limit ≡ None = search rules in
     let low = subst (λ (o : Option ℕ). IfSome o (λ n. c.loop-given._given ≤ n)) (sym none) tt in
-    stopped_short (IsMember all tables) f itself c.args.merge.now.rest
-    c.loop-given._given c.args.limit _ _ _ low c.loop-given.invariant.given
+    let i = c.loop-given._given in
+    record {
+      printed =
+          stopped_short (IsMember all tables) f itself c.args.merge.now.rest
+          c.loop-given._given c.args.limit _ _ _ low c.loop-given.invariant.given;
+      paced =
+          let low = subst (λ (o : Option ℕ). IfSome o (λ n. i ≤ n)) (sym none) tt in
+          paced_same g.E.Ranked.share g.met.E.Ranked.share_rises all tables f c.args.merge.now c.args.limit i
+          _ _ _ _ _ c.loop-given.invariant low;
+    }
 
-pub returns-clause-printed : goal.returns-clause-printed
-returns-clause-printed g c =
-    let all = map (λ (q : BoundQuery). q.query) c.args.queries.now in
-    let tables = c.args.tables.now in
-    let f = union_line_text all tables (style_view c.args.style.now) in
-    let reached = limit_reached c.args.limit c.loop-given._given _ _ c.unwrap_or-most.ensures c.if-is_none.ensures
-    c.loop-given-test.false c.loop-given.auto._given-end in
-    printed_limit (IsMember all tables) f itself c.args.merge.now.rest
-    c.loop-given._given c.args.limit _ _ _ reached c.loop-given.invariant.given
-
-pub returns-in_err-tagged-clause-paced : goal.returns-in_err-tagged-clause-paced
-returns-in_err-tagged-clause-paced g c =
+pub returns : goal.returns
+returns g c =
     let all = map (λ (q : BoundQuery). q.query) c.args.queries.now in
     let tables = c.args.tables.now in
     let f = union_line_text all tables (style_view c.args.style.now) in
     let i = c.loop-given._given in
-    let refused = c.in_err-tagged.ensures.refused in
-    let below = limit_below c.args.limit i _ _ c.unwrap_or-most.ensures c.loop-given-test.true in
-    let low = limit_within c.args.limit i _ _ c.unwrap_or-most.ensures c.loop-given-test.true in
-    paced_next g.E.Ranked.share g.met.E.Ranked.share_rises all tables f c.args.merge.now c.args.limit i
-    _ _ _ _ _ c.loop-given.invariant refused.0 refused.1 _ _ refused.2 refused.4 below low _ [] (appends_nothing _)
-
-pub returns-in_default-clause-paced : goal.returns-in_default-clause-paced
-returns-in_default-clause-paced g c =
-    let all = map (λ (q : BoundQuery). q.query) c.args.queries.now in
-    let tables = c.args.tables.now in
-    let f = union_line_text all tables (style_view c.args.style.now) in
-    let i = c.loop-given._given in
-    let low = limit_within c.args.limit i _ _ c.unwrap_or-most.ensures c.loop-given-test.true in
-    let ended = rw c.in_default.is at c.in_ok-tagged.ensures.end in
-    let same = paced_same g.E.Ranked.share g.met.E.Ranked.share_rises all tables f c.args.merge.now c.args.limit i
-    _ _ _ _ _ c.loop-given.invariant low in
-    rw ended.2 same
-
-pub returns-in_err-print_member-clause-paced : goal.returns-in_err-print_member-clause-paced
-returns-in_err-print_member-clause-paced g c =
-    let all = map (λ (q : BoundQuery). q.query) c.args.queries.now in
-    let tables = c.args.tables.now in
-    let f = union_line_text all tables (style_view c.args.style.now) in
-    let i = c.loop-given._given in
-    let found = rw c.in-Some.is at c.in_ok-tagged.ensures.found in
-    let below = limit_below c.args.limit i _ _ c.unwrap_or-most.ensures c.loop-given-test.true in
-    let low = limit_within c.args.limit i _ _ c.unwrap_or-most.ensures c.loop-given-test.true in
-    let part = c.print_member.ensures.prefix in
-    paced_next g.E.Ranked.share g.met.E.Ranked.share_rises all tables f c.args.merge.now c.args.limit i
-    _ _ _ _ _ c.loop-given.invariant _ _ _ _ found.0 found.1 below low _ part.0 part.1
-
-pub returns-then-is_none-clause-paced : goal.returns-then-is_none-clause-paced
-returns-then-is_none-clause-paced g c =
-    let all = map (λ (q : BoundQuery). q.query) c.args.queries.now in
-    let tables = c.args.tables.now in
-    let f = union_line_text all tables (style_view c.args.style.now) in
-    let i = c.loop-given._given in
-    let none : c.args.limit ≡ None = search rules in
-    let low = subst (λ (o : Option ℕ). IfSome o (λ n. i ≤ n)) (sym none) tt in
-    paced_same g.E.Ranked.share g.met.E.Ranked.share_rises all tables f c.args.merge.now c.args.limit i
-    _ _ _ _ _ c.loop-given.invariant low
-
-pub returns-clause-paced : goal.returns-clause-paced
-returns-clause-paced g c =
-    let all = map (λ (q : BoundQuery). q.query) c.args.queries.now in
-    let tables = c.args.tables.now in
-    let f = union_line_text all tables (style_view c.args.style.now) in
-    let i = c.loop-given._given in
-    let reached = limit_reached c.args.limit i _ _ c.unwrap_or-most.ensures c.if-is_none.ensures
-    c.loop-given-test.false c.loop-given.auto._given-end in
-    let low = subst (λ (o : Option ℕ). IfSome o (λ n. i ≤ n)) (sym reached) (omega arith) in
-    paced_same g.E.Ranked.share g.met.E.Ranked.share_rises all tables f c.args.merge.now c.args.limit i
-    _ _ _ _ _ c.loop-given.invariant low
+    record {
+      printed =
+          let reached = limit_reached c.args.limit c.loop-given._given _ _ c.unwrap_or-most.ensures c.if-is_none.ensures
+          c.loop-given-test.false c.loop-given.auto._given-end in
+          printed_limit (IsMember all tables) f itself c.args.merge.now.rest
+          c.loop-given._given c.args.limit _ _ _ reached c.loop-given.invariant.given;
+      paced =
+          let reached = limit_reached c.args.limit i _ _ c.unwrap_or-most.ensures c.if-is_none.ensures
+          c.loop-given-test.false c.loop-given.auto._given-end in
+          let low = subst (λ (o : Option ℕ). IfSome o (λ n. i ≤ n)) (sym reached) (omega arith) in
+          paced_same g.E.Ranked.share g.met.E.Ranked.share_rises all tables f c.args.merge.now c.args.limit i
+          _ _ _ _ _ c.loop-given.invariant low;
+    }
