@@ -49,11 +49,12 @@ returns g c =
     c.requires.each at.invariant.2 none at.invariant.3 in
     record { begun = all.0; cost = all.1 }
 
-pub returns-in_err-push_begun-clause-cost : goal.returns-in_err-push_begun-clause-cost
-returns-in_err-push_begun-clause-cost g c =
+pub returns-in_err-push_begun : goal.returns-in_err-push_begun
+returns-in_err-push_begun g c =
     let at = c.loop-engine in
-    cost_within _ _ _ c.args.queries.now c.args.engines.items at.yielded (into_iter_items at.engine-iterator) (into_iter_items c.next.new.self) c.in-Some.engine at.branches.items c.args.steps.now at.steps c.push_begun.new.steps
-    at.invariant.2 c.in-Some.ensures.steps.0 at.invariant.3 c.push_begun.ensures.cost
-
-pub returns-in_err-push_begun-clause-begun : goal.returns-in_err-push_begun-clause-begun
-returns-in_err-push_begun-clause-begun g c = IfOk-from_err c.from_residual.result _ c.from_residual.ensures.0
+    record {
+      begun = IfOk-from_err c.from_residual.result _ c.from_residual.ensures.0;
+      cost =
+          cost_within _ _ _ c.args.queries.now c.args.engines.items at.yielded (into_iter_items at.engine-iterator) (into_iter_items c.next.new.self) c.in-Some.engine at.branches.items c.args.steps.now at.steps c.push_begun.new.steps
+          at.invariant.2 c.in-Some.ensures.steps.0 at.invariant.3 c.push_begun.ensures.cost;
+    }

@@ -10,15 +10,15 @@ invariant_of-result g c =
     let begun = c.in_ok-begin.ensures.begun in
     all_branches c.args.tables.now c.args.queries.now c.begin.new.branches.items _ begun.bounds begun.lists c.requires.few c.requires.fits c.requires.left
 
-pub returns-clause-queries : goal.returns-clause-queries
-returns-clause-queries g c = same_queries c.args.queries.now c.begin.new.branches.items c.in_ok-begin.ensures.begun.bounds
-
-pub returns-clause-rest : goal.returns-clause-rest
-returns-clause-rest g c =
+pub returns : goal.returns
+returns g c =
     let branches = c.begin.new.branches.items in
     let begun = c.in_ok-begin.ensures.begun in
-    ap (left_of (map (λ (b : BranchView). b.bound.query) branches) c.args.tables.now)
-    (begun.lists ∙ ap (λ (q : List Query). rests_of g.E.Ranked.rest q c.args.engines.items) (sym (same_queries c.args.queries.now branches begun.bounds)))
-
-pub returns-clause-engines : goal.returns-clause-engines
-returns-clause-engines g c = c.in_ok-begin.ensures.begun.called
+    record {
+      queries = same_queries c.args.queries.now c.begin.new.branches.items c.in_ok-begin.ensures.begun.bounds;
+      rest =
+          ap (left_of (map (λ (b : BranchView). b.bound.query) branches) c.args.tables.now)
+          (begun.lists ∙ ap (λ (q : List Query). rests_of g.E.Ranked.rest q c.args.engines.items) (sym (same_queries c.args.queries.now branches begun.bounds)));
+      engines = c.in_ok-begin.ensures.begun.called;
+      cost = c.begin.ensures.cost;
+    }
