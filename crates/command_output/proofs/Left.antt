@@ -4,7 +4,6 @@ use Rattle.std.specs.Io.KnownBytes.{Appends}
 use Rattle.std.proofs.KnownBytes.{Appends-trans}
 use Rattle.refusal_lines.specs.declared.fault.PrintFault.{PrintFault}
 use Rattle.refusal_lines.specs.declared.fault.PrintFault.TheVariants as fault
-use Rattle.refusal_lines.specs.Reason.{Reason}
 use Rattle.refusal_lines.specs.Printing.{IsPrintCause, Printed}
 use Rattle.refusal_lines.specs.SinkState.{SinkState}
 use Rattle.refusal_lines.proofs.Prints.{appends_nothing, printed_stopped, printed_then}

@@ -14,3 +14,4 @@ pub mod SessionCosts
 pub mod Reach
 pub mod SessionRun
 pub mod Spending
+pub mod HandedOn

@@ -4,6 +4,7 @@ use Rattle.std.proofs.lemmas.Result.{IfOk-from_err}
 use Rattle.step_bounds.proofs.Pacing.{calls_more, calls_same}
 use Rattle.step_bounds.proofs.Calls.{called_more, counted_few, limit_below, limit_reached, limit_within}
 use Rattle.command_output.proofs.GivenEnds.{calls_within, taken_all, taken_limit, taken_more}
+use Rattle.command_output.proofs.Spending.{same_most}
 use Rattle.command_output.proofs.ends.take_ends.Goals as goal
 
 pub returns-in_err-answer : goal.returns-in_err-answer
@@ -67,7 +68,7 @@ returns g c =
     let i = c.loop-given._given in
     let reached = limit_reached c.args.limit i _ _ c.unwrap_or-most.ensures c.if-is_none.ensures c.loop-given-test.false c.loop-given.auto._given-end in
     let answers = g.E.Ranked.rest c.args.engine.now in
-    let low = subst (λ (o : Option ℕ). IfSome o (λ n. i ≤ n)) (sym reached) (omega arith) in
+    let low = subst (λ (o : Option ℕ). IfSome o (λ n. i ≤ n)) (sym reached) (same_most i) in
     record {
       ends = taken_limit (g.E.Ranked.rest c.args.engine.now) i _ c.loop-given.ends _ _ _ _ _ _ _ c.loop-given.invariant c.args.limit reached;
       bounded = calls_within g.E.Ranked.share g.met.E.Ranked.share_rises _ _ i _ _ _ _ _ c.loop-given.invariant.called (calls_same c.args.limit answers i c.loop-given.invariant.within low);

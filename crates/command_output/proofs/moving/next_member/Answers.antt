@@ -1,8 +1,9 @@
-use Rattle.std.proofs.Common.{ℕ, ◌≡◌, ◌+◌, ◌≤◌, inl, inr, Some, None, Ok, ap, length, refl, sym, subst, ◌∙◌, arith}
+use Rattle.std.proofs.Common.{ℕ, ◌≡◌, ◌+◌, ◌≤◌, inl, inr, Some, None, Ok, ap, length, refl, sym, subst, ◌∙◌}
 use Rattle.std.specs.Prelude.{slice_set}
 use Rattle.anyk_model.specs.Output.{cut}
 use Rattle.command_output.specs.SessionCosts.{IsWithin, Spent}
 use Rattle.command_output.proofs.SessionCosts.{paid_spent, spent_call, spent_places, within_call, within_spent}
+use Rattle.command_output.proofs.Spending.{at_most_one}
 use Rattle.command_output.proofs.Follows.{at_none, at_some, cut_ended, cut_short, place_kept, same_place_in}
 use Rattle.command_output.proofs.Reach.{at_below, at_limit}
 use Rattle.command_output.proofs.moving.next_member.Goals as goal
@@ -12,7 +13,7 @@ returns-in-Ok-Some g c =
     let given = rw c.requires at (at_some _ _ _ c.in-Ok-Some.field-0-is c.in-Ok-Some.ensures.some) in
     let place = c.args.place.now in
     record {
-      some = (c.is_reached.ensures.within c.if-is_reached.false, omega arith, given.0);
+      some = (c.is_reached.ensures.within c.if-is_reached.false, c.in-Some.ensures.1, given.0);
       end = tt;
       places = given.1 ∙ ap (λ (n : ℕ). slice_set c.args.set.now.places c.args.id.number (Some n)) (sym c.in-Some.ensures.1);
       kept = c.next.ensures.kept.answers;
@@ -73,7 +74,7 @@ returns-then-is_reached g c =
           paid_spent g.E.Ranked.share g.met.E.Ranked.share_rises c.args.set.now c.args.set.now _ _ c.args.steps.now c.args.steps.now (Ok None)
           (at_limit (λ calls. Spent g.E.Ranked.share c.args.set.now c.args.set.now (place + calls) calls c.args.steps.now c.args.steps.now)
           c.args.limit place (c.is_reached.ensures.reached c.if-is_reached.true)
-          (spent_places g.E.Ranked.share g.met.E.Ranked.share_rises c.args.set.now c.args.set.now (place + 0) 0 c.args.steps.now c.args.steps.now refl (omega arith)));
+          (spent_places g.E.Ranked.share g.met.E.Ranked.share_rises c.args.set.now c.args.set.now (place + 0) 0 c.args.steps.now c.args.steps.now refl (at_most_one _ _)));
     }
 
 pub returns-in_default : goal.returns-in_default
@@ -91,6 +92,6 @@ returns-in_default g c =
             within = at_below (λ calls. IsWithin g.E.Ranked.share set (place + calls) calls c.args.steps.now c.args.steps.now) c.args.limit place
                 (c.is_reached.ensures.within c.if-is_reached.false)
                 (within_spent g.E.Ranked.share g.met.E.Ranked.share_rises set set (place + 1) 1 c.args.steps.now c.args.steps.now
-                (spent_places g.E.Ranked.share g.met.E.Ranked.share_rises set set (place + 1) 1 c.args.steps.now c.args.steps.now refl (omega arith)));
+                (spent_places g.E.Ranked.share g.met.E.Ranked.share_rises set set (place + 1) 1 c.args.steps.now c.args.steps.now refl (at_most_one _ _)));
           };
     }

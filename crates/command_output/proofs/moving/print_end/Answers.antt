@@ -1,14 +1,14 @@
-use Rattle.std.proofs.Common.{◌≡◌, Err, rules}
 use Rattle.refusal_lines.specs.declared.fault.PrintFault.TheVariants as fault
 use Rattle.refusal_lines.proofs.Prints.{unprinted}
+use Rattle.command_output.proofs.HandedOn.{handed_on}
 use Rattle.command_output.proofs.moving.print_end.Goals as goal
 
 pub returns-in_err-text : goal.returns-in_err-text
 returns-in_err-text g c =
-    let e : c.from_residual.result ≡ Err fault.NoMemory = search rules in
+    let e = handed_on c.from_residual.result fault.NoMemory c.from_residual.ensures.1 in
     rw e (unprinted _ _)
 
 pub returns-in_err-push : goal.returns-in_err-push
 returns-in_err-push g c =
-    let e : c.from_residual-in_err-push.result ≡ Err fault.NoMemory = search rules in
+    let e = handed_on c.from_residual-in_err-push.result fault.NoMemory c.from_residual-in_err-push.ensures.1 in
     rw e (unprinted _ _)

@@ -1,4 +1,4 @@
-use Rattle.std.proofs.Common.{◌≡◌, ◌+◌, ◌-◌, ◌++◌, ℕ, List, None, Err, Ok, length, drop, take, ap, sym, refl, subst, ◌∙◌, arith, rules}
+use Rattle.std.proofs.Common.{◌+◌, ◌-◌, ◌++◌, ℕ, List, None, Err, Ok, length, drop, take, ap, sym, refl, subst, ◌∙◌}
 use Rattle.std.specs.Prelude.{codes, slice_set}
 use Rattle.std.proofs.lemmas.List.{set-get_or}
 use Rattle.anyk_model.specs.Query.{IsCombination, row_counts}
@@ -11,9 +11,11 @@ use Rattle.command_output.specs.SessionListing.{line_in, members_in, ranking_in}
 use Rattle.command_output.proofs.Follows.{always, answer_given, answer_inside, answers_ended, at_none, at_some, ending_left, given_all, given_less, next_done, next_start, place_set, places_set, told_all}
 use Rattle.command_output.proofs.SessionCosts.{paid_spent, spent_places}
 use Rattle.command_output.proofs.Reach.{HasGiven, given_done, given_more, given_spent, given_within}
+use Rattle.command_output.proofs.Spending.{all_were, at_most_one, moved_to, next_place, none_given, none_most, none_over, stands_at}
 use Rattle.command_output.proofs.Left.{HasLeft, left_last, left_more, left_none, left_stopped, left_unprinted, left_whole}
 use Rattle.command_output.proofs.moving.print_next.Given.{Over}
 use Rattle.command_output.proofs.moving.print_next.Goals.{At-loop-given}
+use Rattle.command_output.proofs.HandedOn.{handed_on}
 use Rattle.command_output.proofs.moving.print_next.Goals as goal
 
 -- # What the proofs share
@@ -62,18 +64,15 @@ loop-given-init g c =
     let start = c.args.place.now in
     let whole = next_text line ending (drop start members) c.args.count in
     record {
-      place = omega arith;
-      within = omega arith;
+      place = none_given _;
+      within = none_most _;
       answers = refl;
       places = sym (set-get_or c.args.set.now.places c.args.id.number None) ∙ ap (λ p. slice_set c.args.set.now.places c.args.id.number p) c.requires.here;
       here = c.requires.here;
       left = next_start (λ left. HasLeft whole left (state_of g.S.Sink c.args.out.now) (state_of g.S.Sink c.args.out.now))
           line ending members start c.args.count (left_whole whole (state_of g.S.Sink c.args.out.now));
-      spent = spent_places g.E.Ranked.share g.met.E.Ranked.share_rises c.args.set.now c.args.set.now (start + 0) 0 c.args.steps.now c.args.steps.now refl (omega arith);
+      spent = spent_places g.E.Ranked.share g.met.E.Ranked.share_rises c.args.set.now c.args.set.now (start + 0) 0 c.args.steps.now c.args.steps.now refl (at_most_one _ _);
     }
-
-pub next_member-requires : goal.next_member-requires
-next_member-requires g c = c.loop-given.invariant.here
 
 pub returns-in_default : goal.returns-in_default
 returns-in_default g c =
@@ -90,7 +89,7 @@ returns-in_default g c =
           left_last (whole g loop) (left g loop) _ _ _ c.loop-given.invariant.left c.print_end.result (subst P (sym last) c.print_end.ensures);
       moved =
           let all = given_less (members g loop) start done c.args.count c.loop-given.invariant.within c.loop-given-test.true short in
-          always c.print_end.result (omega (arith, ended.0, c.loop-given.invariant.place, all));
+          always c.print_end.result (moved_to _ _ _ _ _ c.loop-given.invariant.place ended.0 all);
       places =
           always c.print_end.result
           (places_set c.args.set.now.places c.loop-given.set.places c.next_member.new.set.places c.args.id.number c.loop-given.place c.next_member.new.place
@@ -124,7 +123,7 @@ loop-given-preserved g c =
     c.loop-given-test.true below here in
     let printed = c.in_ok-print_answer.ensures in
     record {
-      place = omega (arith, found.1, at);
+      place = next_place _ _ _ _ at found.1;
       within = answer_inside (rows_of g loop) limit c.args.set.now.answers start done place at _ below here;
       answers = c.in_ok-answer.ensures.kept ∙ c.loop-given.invariant.answers;
       places = places_set c.args.set.now.places c.loop-given.set.places c.next_member.new.set.places c.args.id.number place c.next_member.new.place
@@ -140,18 +139,18 @@ returns g c =
     let loop = (goal.at.returns g c).At-loop-given in
     let start = c.args.place.now in
     let done = c.loop-given._given in
-    let all = given_all (members g loop) c.args.place.now c.loop-given._given c.args.count c.loop-given.invariant.within (omega arith) in
+    let all = given_all (members g loop) c.args.place.now c.loop-given._given c.args.count c.loop-given.invariant.within (all_were _ _ c.loop-given.auto._given-end c.loop-given-test.false) in
     record {
       printed =
           left_none (whole g loop) (left g loop) _ _ c.loop-given.invariant.left
-          (next_done (line g loop) (ending g loop) (members g loop) (start + done) (c.args.count - done) (omega (arith, c.loop-given-test.false)));
+          (next_done (line g loop) (ending g loop) (members g loop) (start + done) (c.args.count - done) (none_over _ _ c.loop-given-test.false));
       moved =
-          omega (arith, c.loop-given.invariant.place, all);
+          stands_at _ _ _ _ c.loop-given.invariant.place all;
       places = c.loop-given.invariant.places;
       kept = c.loop-given.invariant.answers;
       paid =
           paid_spent g.E.Ranked.share g.met.E.Ranked.share_rises c.args.set.now c.loop-given.set _ _ c.args.steps.now c.loop-given.steps (Ok tt)
-          (given_done (given g loop) (omega arith));
+          (given_done (given g loop) c.loop-given.auto._given-end);
     }
 
 pub print_answer-requires-clause-fits : goal.print_answer-requires-clause-fits
@@ -160,7 +159,7 @@ print_answer-requires-clause-fits g c = c.requires.fits
 pub returns-in_err-answer : goal.returns-in_err-answer
 returns-in_err-answer g c =
     let loop = (goal.at.returns-in_err-answer g c).At-loop-given in
-    let e : c.from_residual.result ≡ Err fault.NoMemory = search rules in
+    let e = handed_on c.from_residual.result fault.NoMemory c.from_residual.ensures.1 in
     rw e (record {
       printed = left_unprinted (whole g loop) (left g loop) _ _ c.loop-given.invariant.left;
       moved = tt;
@@ -178,7 +177,7 @@ returns-in_err-print_answer g c =
     let found = at_some _ _ _ c.in-Some.is c.in_ok-answer.ensures.some in
     let split = answer_given (rows_of g loop) c.args.listing.now.query.now.query.limit c.args.set.now.answers c.args.place.now c.loop-given._given c.loop-given.place
     c.loop-given.invariant.place (line g loop) (ending g loop) c.args.count _ c.loop-given-test.true (rw c.limit.ensures at found.0) (rw c.loop-given.invariant.answers at found.2) in
-    let e : c.from_residual-in_err-print_answer.result ≡ Err c.in_err-print_answer.field-0.0 = search rules in
+    let e = handed_on c.from_residual-in_err-print_answer.result c.in_err-print_answer.field-0.0 c.from_residual-in_err-print_answer.ensures.1 in
     rw e (record {
       printed = left_stopped (whole g loop) (left g loop) _ _ _ c.loop-given.invariant.left _ _ c.in_err-print_answer.field-0.0 split c.in_err-print_answer.ensures;
       moved = tt;

@@ -1,4 +1,4 @@
-use Rattle.std.proofs.Common.{◌≡◌, ◌≤◌, ◌+◌, [], ℕ, Option, None, Err, IfSome, length, take, subst, sym, arith, rules}
+use Rattle.std.proofs.Common.{◌≡◌, ◌≤◌, ◌+◌, [], ℕ, Option, None, IfSome, length, take, subst, sym, rules}
 use Rattle.anyk_model.specs.Output.{line_text}
 use Rattle.anyk_model.specs.Query.{IsCombination, row_counts}
 use Rattle.answer_print.specs.StyleView.{style_view}
@@ -9,13 +9,15 @@ use Rattle.step_bounds.proofs.Pacing.{calls_more, calls_same, paced}
 use Rattle.refusal_lines.proofs.Prints.{appends_nothing}
 use Rattle.step_bounds.proofs.Calls.{called_more, counted_few, limit_below, limit_reached, limit_within, rises_from}
 use Rattle.command_output.proofs.Given.{cut_short, first_left, given_more, printed_all, printed_limit, stopped_short}
+use Rattle.command_output.proofs.Spending.{at_most_one, same_most}
+use Rattle.command_output.proofs.HandedOn.{handed_on}
 use Rattle.command_output.proofs.ranking.print_answers.Goals as goal
 
 pub returns-in_err-answer : goal.returns-in_err-answer
 returns-in_err-answer g c =
     let query = c.args.query.now.query in
     let tables = c.args.tables.now in
-    let e : c.from_residual.result ≡ Err fault.NoMemory = search rules in
+    let e = handed_on c.from_residual.result fault.NoMemory c.from_residual.ensures.1 in
     let low = limit_within query.limit c.loop-given._given _ _ (rw c.limit.ensures at c.unwrap_or-most.ensures) c.loop-given-test.true in
     let list = combinations_in query (g.E.Ranked.rest c.args.engine.now) in
     let f = line_text query c.args.tables.now (style_view c.args.style.now) in
@@ -31,7 +33,7 @@ returns-in_err-answer g c =
           let called = called_more g.E.Ranked.share g.met.E.Ranked.share_rises _ _ i _ _ _ _ _ _ _ _ c.loop-given.invariant.called (g.met.E.Ranked.due_within c.loop-given.engine)
           c.next.ensures.cost (counted_few _ _ c.next.ensures.counted) c.next.ensures.size in
           paced f list query.limit i given.within low _ (rises_from g.E.Ranked.share g.met.E.Ranked.share_rises (g.E.Ranked.size c.args.engine.now) (g.E.Ranked.calls c.args.engine.now))
-          (i + 1) _ _ (omega arith) (calls_more query.limit list i given.within below) called.spent _ _ _ [] given.sent (appends_nothing _);
+          (i + 1) _ _ (same_most (i + 1)) (calls_more query.limit list i given.within below) called.spent _ _ _ [] given.sent (appends_nothing _);
     }
 
 pub returns-in_default : goal.returns-in_default
@@ -54,7 +56,7 @@ returns-in_default g c =
           let called = called_more g.E.Ranked.share g.met.E.Ranked.share_rises _ _ i _ _ _ _ _ _ _ _ c.loop-given.invariant.called (g.met.E.Ranked.due_within c.loop-given.engine)
           c.next.ensures.cost (counted_few _ _ c.next.ensures.counted) c.next.ensures.size in
           paced f list query.limit i given.within low _ (rises_from g.E.Ranked.share g.met.E.Ranked.share_rises (g.E.Ranked.size c.args.engine.now) (g.E.Ranked.calls c.args.engine.now))
-          (i + 1) _ _ (omega arith) (calls_more query.limit list i given.within below) called.spent _ _ _ [] given.sent (appends_nothing _);
+          (i + 1) _ _ (same_most (i + 1)) (calls_more query.limit list i given.within below) called.spent _ _ _ [] given.sent (appends_nothing _);
     }
 
 pub print_answer-requires-clause-rows : goal.print_answer-requires-clause-rows
@@ -72,7 +74,7 @@ returns-in_err-print_answer g c =
     let i = c.loop-given._given in
     let found = rw c.in-Some.is at c.in_ok-answer.ensures.found in
     let low = limit_below query.limit i _ _ (rw c.limit.ensures at c.unwrap_or-most.ensures) c.loop-given-test.true in
-    let e : c.from_residual-in_err-print_answer.result ≡ Err c.in_err-print_answer.field-0.0 = search rules in
+    let e = handed_on c.from_residual-in_err-print_answer.result c.in_err-print_answer.field-0.0 c.from_residual-in_err-print_answer.ensures.1 in
     let list = combinations_in query (g.E.Ranked.rest c.args.engine.now) in
     let f = line_text query c.args.tables.now (style_view c.args.style.now) in
     let given = c.loop-given.invariant.given in
@@ -88,7 +90,7 @@ returns-in_err-print_answer g c =
           c.next.ensures.cost (counted_few _ _ c.next.ensures.counted) c.next.ensures.size in
           let part = c.print_answer.ensures.prefix in
           paced f list query.limit i given.within low _ (rises_from g.E.Ranked.share g.met.E.Ranked.share_rises (g.E.Ranked.size c.args.engine.now) (g.E.Ranked.calls c.args.engine.now))
-          (i + 1) _ _ (omega arith) (calls_more query.limit list i given.within below) called.spent _ _ _ part.0 given.sent part.1;
+          (i + 1) _ _ (same_most (i + 1)) (calls_more query.limit list i given.within below) called.spent _ _ _ part.0 given.sent part.1;
     }
 
 pub loop-given-preserved : goal.loop-given-preserved
@@ -122,7 +124,7 @@ returns-then-is_none g c =
       paced =
           let low = subst (λ (o : Option ℕ). IfSome o (λ n. i ≤ n)) (sym none) tt in
           paced f list query.limit i given.within low _ (rises_from g.E.Ranked.share g.met.E.Ranked.share_rises (g.E.Ranked.size c.args.engine.now) (g.E.Ranked.calls c.args.engine.now))
-          i _ _ (omega arith) (calls_same query.limit list i given.within low) c.loop-given.invariant.called.spent _ _ _ [] given.sent (appends_nothing _);
+          i _ _ (at_most_one i 1) (calls_same query.limit list i given.within low) c.loop-given.invariant.called.spent _ _ _ [] given.sent (appends_nothing _);
     }
 
 pub returns : goal.returns
@@ -142,7 +144,7 @@ returns g c =
       paced =
           let reached = limit_reached query.limit i _ _ (rw c.limit.ensures at c.unwrap_or-most.ensures) (rw c.limit-2.ensures at c.if-is_none.ensures)
           c.loop-given-test.false c.loop-given.auto._given-end in
-          let low = subst (λ (o : Option ℕ). IfSome o (λ n. i ≤ n)) (sym reached) (omega arith) in
+          let low = subst (λ (o : Option ℕ). IfSome o (λ n. i ≤ n)) (sym reached) (same_most i) in
           paced f list query.limit i given.within low _ (rises_from g.E.Ranked.share g.met.E.Ranked.share_rises (g.E.Ranked.size c.args.engine.now) (g.E.Ranked.calls c.args.engine.now))
-          i _ _ (omega arith) (calls_same query.limit list i given.within low) c.loop-given.invariant.called.spent _ _ _ [] given.sent (appends_nothing _);
+          i _ _ (at_most_one i 1) (calls_same query.limit list i given.within low) c.loop-given.invariant.called.spent _ _ _ [] given.sent (appends_nothing _);
     }

@@ -1,13 +1,14 @@
-use Rattle.std.proofs.Common.{◌≡◌, ◌<◌, Err, get_or, length, refl, subst, sym, ◌∙◌, arith, rules}
+use Rattle.std.proofs.Common.{◌≡◌, ◌<◌, get_or, length, refl, subst, sym, ◌∙◌}
 use Rattle.refusal_lines.proofs.Prints.{printed_stopped, printed_then}
 use Rattle.witness_key.specs.WitnessKey.{AreCombinations}
 use Rattle.command_output.proofs.Spending.{at_most_more}
 use Rattle.command_output.proofs.SessionRun.{run_all, run_cost, run_more, run_start, run_stopped, run_within}
+use Rattle.command_output.proofs.HandedOn.{handed_on}
 use Rattle.command_output.proofs.session.print_steps.Goals as goal
 
 pub returns-in_err-print_header : goal.returns-in_err-print_header
 returns-in_err-print_header g c =
-    let e : c.from_residual.result ≡ Err c.in_err-print_header.field-0.0 = search rules in
+    let e = handed_on c.from_residual.result c.in_err-print_header.field-0.0 c.from_residual.ensures.1 in
     record {
       printed = rw e (printed_stopped _ _ _ _ c.in_err-print_header.field-0.0 c.in_err-print_header.ensures);
       within = at_most_more _ _ _;
@@ -31,7 +32,7 @@ take_step-requires-clause-same g c = c.loop-step.invariant.run.taken.held.same
 
 pub loop-step-preserved : goal.loop-step-preserved
 loop-step-preserved g c =
-    let inside : c.loop-step.step-index < length c.args.script.now = omega arith in
+    let inside : c.loop-step.step-index < length c.args.script.now = c.loop-step-test.true in
     let here : get_or c.args.script.now c.loop-step.step-index c.step-item.result ≡ c.step-item.result = sym c.step-item.is in
     record {
       answers = c.in_ok-take_step.ensures.kept ∙ c.loop-step.invariant.answers;
@@ -41,10 +42,10 @@ loop-step-preserved g c =
 
 pub returns-in_err-take_step : goal.returns-in_err-take_step
 returns-in_err-take_step g c =
-    let inside : c.loop-step.step-index < length c.args.script.now = omega arith in
+    let inside : c.loop-step.step-index < length c.args.script.now = c.loop-step-test.true in
     let here : get_or c.args.script.now c.loop-step.step-index c.step-item.result ≡ c.step-item.result = sym c.step-item.is in
     let head = c.in_ok-print_header.ensures in
-    let e : c.from_residual-in_err-take_step.result ≡ Err c.in_err-take_step.field-0.0 = search rules in
+    let e = handed_on c.from_residual-in_err-take_step.result c.in_err-take_step.field-0.0 c.from_residual-in_err-take_step.ensures.1 in
     record {
       printed =
           rw e (printed_then _ _ _ _ _ _ head.whole head.later
@@ -61,6 +62,6 @@ returns g c =
     record {
       printed =
           printed_then _ _ _ _ _ _ head.whole head.later
-          (run_all g.E.Ranked.share g.met.E.Ranked.share_rises c.args.listing.now c.args.set.now.answers c.args.script.now c.loop-step.step-index _ _ _ _ c.loop-step.invariant.run (omega arith));
+          (run_all g.E.Ranked.share g.met.E.Ranked.share_rises c.args.listing.now c.args.set.now.answers c.args.script.now c.loop-step.step-index _ _ _ _ c.loop-step.invariant.run c.loop-step-test.false);
       within = run_cost g.E.Ranked.share g.met.E.Ranked.share_rises c.args.listing.now c.args.set.now.answers c.args.script.now c.loop-step.step-index _ _ _ _ c.loop-step.invariant.run;
     }

@@ -1,8 +1,9 @@
-use Rattle.std.proofs.Common.{◌≡◌, Err, Ok, ap, refl, rules}
+use Rattle.std.proofs.Common.{Err, Ok, ap, refl}
 use Rattle.cursor_set.specs.CursorSet.{CursorSet}
 use Rattle.refusal_lines.specs.declared.fault.PrintFault.TheVariants as fault
 use Rattle.command_output.proofs.Moves.{same_place, unknown_closed}
 use Rattle.command_output.proofs.SessionRun.{is_quiet, next_taken, quiet_taken}
+use Rattle.command_output.proofs.HandedOn.{handed_on}
 use Rattle.command_output.proofs.session.take_step.Goals as goal
 
 pub returns-in_default-cursor_of : goal.returns-in_default-cursor_of
@@ -41,7 +42,7 @@ returns-in_ok-move_cursor-in_default g c =
 
 pub returns-in_err-move_cursor-in_default : goal.returns-in_err-move_cursor-in_default
 returns-in_err-move_cursor-in_default g c =
-    let e : c.from_residual.result ≡ Err fault.NoMemory = search rules in
+    let e = handed_on c.from_residual.result fault.NoMemory c.from_residual.ensures.1 in
     rw e (record {
       taken = λ places held can. quiet_taken g.E.Ranked.share g.met.E.Ranked.share_rises _ _ _ places c.args.step.now c.args.set.now c.move_cursor.new.set c.args.cursors.now
           c.move_cursor.new.cursors _ c.args.steps.now (Err fault.NoMemory) (is_quiet c.args.step.now c.in_default.not-Next) c.move_cursor.ensures.only refl tt;

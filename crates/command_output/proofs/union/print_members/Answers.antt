@@ -1,4 +1,4 @@
-use Rattle.std.proofs.Common.{◌≡◌, ◌≤◌, [], ℕ, Option, None, Err, IfSome, map, refl, subst, sym, arith, rules}
+use Rattle.std.proofs.Common.{◌≡◌, ◌≤◌, [], ℕ, Option, None, IfSome, map, refl, subst, sym, rules}
 use Rattle.answer_print.specs.StyleView.{style_view}
 use Rattle.bound_query.specs.WeighedQuery.{BoundQuery}
 use Rattle.refusal_lines.specs.declared.fault.PrintFault.TheVariants as fault
@@ -9,6 +9,8 @@ use Rattle.anyk_model.specs.UnionOutput.{union_line_text}
 use Rattle.command_output.proofs.Given.{cut_short, first_left, printed_all, printed_limit, stopped_short}
 use Rattle.command_output.specs.UnionSteps.{IsMember}
 use Rattle.command_output.proofs.UnionMembers.{itself, none_printed, paced_next, paced_same, printed_more, seen_by}
+use Rattle.command_output.proofs.Spending.{same_most}
+use Rattle.command_output.proofs.HandedOn.{handed_on}
 use Rattle.command_output.proofs.union.print_members.Goals as goal
 
 pub loop-given-init : goal.loop-given-init
@@ -24,7 +26,7 @@ returns-in_err-tagged g c =
     let all = map (λ (q : BoundQuery). q.query) c.args.queries.now in
     let tables = c.args.tables.now in
     let f = union_line_text all tables (style_view c.args.style.now) in
-    let e : c.from_residual.result ≡ Err fault.NoMemory = search rules in
+    let e = handed_on c.from_residual.result fault.NoMemory c.from_residual.ensures.1 in
     let low = limit_within c.args.limit c.loop-given._given _ _ c.unwrap_or-most.ensures c.loop-given-test.true in
     let i = c.loop-given._given in
     let refused = c.in_err-tagged.ensures.refused in
@@ -85,7 +87,7 @@ returns-in_err-print_member g c =
           let head = seen_by c.loop-given.merge c.in-Some.tagged _ all _ c.loop-given.invariant.queries
           c.requires.queries found.0 in
           let low = limit_below c.args.limit i _ _ c.unwrap_or-most.ensures c.loop-given-test.true in
-          let e : c.from_residual-in_err-print_member.result ≡ Err c.in_err-print_member.field-0.0 = search rules in
+          let e = handed_on c.from_residual-in_err-print_member.result c.in_err-print_member.field-0.0 c.from_residual-in_err-print_member.ensures.1 in
           rw e (cut_short (IsMember all tables) f itself c.args.merge.now.rest
           i (tagged 0 []) _ _ _ c.loop-given.invariant.given.rest head c.args.limit _ _ _ c.in_err-print_member.field-0.0 low
           c.loop-given.invariant.given c.in_err-print_member.ensures);
@@ -140,7 +142,7 @@ returns g c =
       paced =
           let reached = limit_reached c.args.limit i _ _ c.unwrap_or-most.ensures c.if-is_none.ensures
           c.loop-given-test.false c.loop-given.auto._given-end in
-          let low = subst (λ (o : Option ℕ). IfSome o (λ n. i ≤ n)) (sym reached) (omega arith) in
+          let low = subst (λ (o : Option ℕ). IfSome o (λ n. i ≤ n)) (sym reached) (same_most i) in
           paced_same g.E.Ranked.share g.met.E.Ranked.share_rises all tables f c.args.merge.now c.args.limit i
           _ _ _ _ _ c.loop-given.invariant low;
     }

@@ -1,12 +1,12 @@
-use Rattle.std.proofs.Common.{◌≡◌, Err, rules}
 use Rattle.refusal_lines.proofs.Prints.{printed_stopped, printed_then}
 use Rattle.command_output.proofs.Spending.{at_most_one}
 use Rattle.command_output.proofs.UnionPacing.{paced_after}
+use Rattle.command_output.proofs.HandedOn.{handed_on}
 use Rattle.command_output.proofs.union.print_union.Goals as goal
 
 pub returns-in_err-print_union_header : goal.returns-in_err-print_union_header
 returns-in_err-print_union_header g c =
-    let e : c.from_residual.result ≡ Err c.in_err-print_union_header.field-0.0 = search rules in
+    let e = handed_on c.from_residual.result c.in_err-print_union_header.field-0.0 c.from_residual.ensures.1 in
     record {
       printed = rw e (printed_stopped _ _ _ _ c.in_err-print_union_header.field-0.0 c.in_err-print_union_header.ensures);
       bounded = at_most_one _ _;

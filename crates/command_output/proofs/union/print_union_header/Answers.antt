@@ -1,11 +1,11 @@
-use Rattle.std.proofs.Common.{◌≡◌, Err, rules}
 use Rattle.refusal_lines.specs.declared.fault.PrintFault.TheVariants as fault
 use Rattle.refusal_lines.proofs.Prints.{unprinted}
+use Rattle.command_output.proofs.HandedOn.{handed_on}
 use Rattle.command_output.proofs.union.print_union_header.Goals as goal
 
 pub returns-in_err-write_header_of : goal.returns-in_err-write_header_of
 returns-in_err-write_header_of g c =
-    let e : c.from_residual.result ≡ Err fault.NoMemory = search rules in
+    let e = handed_on c.from_residual.result fault.NoMemory c.from_residual.ensures.1 in
     rw e (unprinted _ _)
 
 pub returns : goal.returns
