@@ -3,8 +3,24 @@ use Rattle.std.specs.Fmt.{decimal, signed_decimal}
 use Rattle.anyk_model.specs.Output.{optional_field, record_text}
 use Rattle.anyk_model.specs.Query.{OrderKey, sum_of, value_of}
 use Rattle.answer_print.specs.StyleView.{style_view}
-use Rattle.union_all.proofs.Texts.{four_parts, line_is, rows_of}
+use Rattle.union_all.proofs.Texts.{fits_of, four_parts, line_is, rows_of}
 use Rattle.union_all.proofs.line.write_line_of.Goals as goal
+
+pub push_values-requires-clause-fits : goal.push_values-requires-clause-fits
+push_values-requires-clause-fits c =
+    fits_of c.args.queries.now c.args.tagged.now.branch c.requires.branch c.index-queries-tagged.result c.index-queries-tagged.is c.args.tables.now c.requires.fits
+
+pub push_values-requires-clause-rows : goal.push_values-requires-clause-rows
+push_values-requires-clause-rows c =
+    rows_of c.args.queries.now c.args.tagged.now.branch c.requires.branch c.index-queries-tagged.result c.index-queries-tagged.is c.args.tables.now c.args.tagged.now.rows c.requires.rows
+
+pub push_shown-requires-clause-fits : goal.push_shown-requires-clause-fits
+push_shown-requires-clause-fits c =
+    fits_of c.args.queries.now c.args.tagged.now.branch c.requires.branch c.index-queries-tagged.result c.index-queries-tagged.is c.args.tables.now c.requires.fits
+
+pub push_shown-requires-clause-rows : goal.push_shown-requires-clause-rows
+push_shown-requires-clause-rows c =
+    rows_of c.args.queries.now c.args.tagged.now.branch c.requires.branch c.index-queries-tagged.result c.index-queries-tagged.is c.args.tables.now c.args.tagged.now.rows c.requires.rows
 
 pub returns : goal.returns
 returns c =
