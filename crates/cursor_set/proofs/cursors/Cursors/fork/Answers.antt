@@ -1,4 +1,4 @@
-use Rattle.std.proofs.Common.{None, is_none, refl, sym, ap, ◌∙◌}
+use Rattle.std.proofs.Common.{None, is_none, refl, sym, ap, ◌∙◌, arith}
 use Rattle.std.proofs.lemmas.List.{get_or-set_same}
 use Rattle.std.proofs.lemmas.List.Quantifiers.{position-Some}
 use Rattle.std.proofs.lemmas.Result.{IfOk-from_err}
@@ -52,3 +52,21 @@ returns g c =
       place = get_or-set_same c.self.inside.places c.in_ok-number.number _ None first.0 ∙ sym (place_here _ _ c.self.view_is c.args.id.number _ at);
       refused = tt;
     }
+
+pub offset_bounds-self-inside-number : goal.offset_bounds-self-inside-number
+offset_bounds-self-inside-number g c =
+    let free = some_from_ok _ _ _ _ c.ok_or-2.ensures.value c.in_ok-number.was in
+    let first = position-Some is_none c.self.inside.places c.in_ok-number.number None (sym c.free_number.ensures ∙ free) in
+    omega (arith, first.0)
+
+pub bounds-self-inside-number : goal.bounds-self-inside-number
+bounds-self-inside-number g c =
+    let free = some_from_ok _ _ _ _ c.ok_or-2.ensures.value c.in_ok-number.was in
+    let first = position-Some is_none c.self.inside.places c.in_ok-number.number None (sym c.free_number.ensures ∙ free) in
+    omega (arith, first.0)
+
+pub invariant_of-result : goal.invariant_of-result
+invariant_of-result g c =
+    let free = some_from_ok _ _ _ _ c.ok_or-2.ensures.value c.in_ok-number.was in
+    let first = position-Some is_none c.self.inside.places c.in_ok-number.number None (sym c.free_number.ensures ∙ free) in
+    omega (arith, first.0)

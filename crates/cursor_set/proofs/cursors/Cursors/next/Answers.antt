@@ -1,4 +1,4 @@
-use Rattle.std.proofs.Common.{◌≡◌, ◌+◌, ◌≤◌, true, refl, sym, ap, ◌∙◌, subst, rules}
+use Rattle.std.proofs.Common.{◌≡◌, ◌+◌, ◌≤◌, true, refl, sym, ap, ◌∙◌, subst, arith, rules}
 use Rattle.std.proofs.lemmas.Bool.{false≢true}
 use Rattle.tdp_core.specs.declared.ranked.Answer.{Answer}
 use Rattle.tdp_core.specs.AnswerView.{AnswerView}
@@ -84,6 +84,14 @@ invariant_of-self-in-Ok-Some g c =
     let long : c.fetch.new.found.len ≡ c.self.inside.found.len + 1 = one_longer c.self.inside.found.items c.fetch.new.found.items c.in-Ok-Some.answer c.self.inside.found.len c.fetch.new.found.len c.self.inside.found.ok.0 c.fetch.new.found.ok.0 f.0 in
     let at : c.in-Some.place ≡ c.self.inside.found.len = at_end_of _ _ _ c.if-place-len.false c.len.ensures (place_within c.self.inside.places c.args.id.number c.self.inside.found.len c.in-Some.place c.self.invariant.1 c.in-Some.is) in
     (λ t. absurd (false≢true (sym c.if-self.false ∙ t)), places_set c.self.inside.places c.args.id.number c.self.inside.found.len c.fetch.new.found.len (c.in-Some.place + 1) (grown _ _ long) (next_found _ _ _ at long) c.self.invariant.1)
+
+pub overflow_add-self-in-Ok-Some : goal.overflow_add-self-in-Ok-Some
+overflow_add-self-in-Ok-Some g c =
+    let f = rw c.in-Ok-Some.field-0-is at c.in-Ok-Some.ensures.found in
+    let long : c.fetch.new.found.len ≡ c.self.inside.found.len + 1 = one_longer c.self.inside.found.items c.fetch.new.found.items c.in-Ok-Some.answer c.self.inside.found.len c.fetch.new.found.len c.self.inside.found.ok.0 c.fetch.new.found.ok.0 f.0 in
+    let at : c.in-Some.place ≡ c.self.inside.found.len = at_end_of _ _ _ c.if-place-len.false c.len.ensures (place_within c.self.inside.places c.args.id.number c.self.inside.found.len c.in-Some.place c.self.invariant.1 c.in-Some.is) in
+    let most = next_found _ _ _ at long in
+    omega (arith, most)
 
 pub returns-in-Ok-Some : goal.returns-in-Ok-Some
 returns-in-Ok-Some g c =

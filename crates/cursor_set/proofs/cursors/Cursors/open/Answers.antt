@@ -33,3 +33,21 @@ returns g c =
       place = get_or-set_same c.self.inside.places c.in_ok-number.number (Some 0) None first.0;
       refused = tt;
     }
+
+pub offset_bounds-self-inside-number : goal.offset_bounds-self-inside-number
+offset_bounds-self-inside-number g c =
+    let free = some_from_ok _ _ _ _ c.ok_or.ensures.value c.in_ok-number.was in
+    let first = position-Some is_none c.self.inside.places c.in_ok-number.number None (sym c.free_number.ensures ∙ free) in
+    omega (arith, first.0)
+
+pub bounds-self-inside-number : goal.bounds-self-inside-number
+bounds-self-inside-number g c =
+    let free = some_from_ok _ _ _ _ c.ok_or.ensures.value c.in_ok-number.was in
+    let first = position-Some is_none c.self.inside.places c.in_ok-number.number None (sym c.free_number.ensures ∙ free) in
+    omega (arith, first.0)
+
+pub invariant_of-result : goal.invariant_of-result
+invariant_of-result g c =
+    let free = some_from_ok _ _ _ _ c.ok_or.ensures.value c.in_ok-number.was in
+    let first = position-Some is_none c.self.inside.places c.in_ok-number.number None (sym c.free_number.ensures ∙ free) in
+    omega (arith, first.0)
