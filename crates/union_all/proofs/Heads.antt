@@ -22,3 +22,15 @@ next_told query rows key (Some a) old new some none = ap (combinations_in query)
 pub none_told : {A : Type 0} (rows : A → List ℕ) (next : Option A) (old new : List AnswerView) → IfNone next ((old ≡ []) × (new ≡ [])) → option_map rows next ≡ None → new ≡ []
 none_told rows None old new none is = none.1
 none_told rows (Some a) old new none is = absurd (cc is)
+
+-- none is left if none is at hand
+pub none_at_hand : (query : Query) (head : Option (List ℕ)) (rest : List AnswerView) → head ≡ None → (head ≡ None → rest ≡ [])
+    → first_of (length query.items) head ++ combinations_in query rest ≡ []
+none_at_hand query None rest is none = ap (combinations_in query) (none refl)
+none_at_hand query (Some rows) rest is none = absurd (cc is)
+
+-- the first that is left is taken out
+pub head_taken : (query : Query) (head : Option (List ℕ)) (rows : List ℕ) (rest : List AnswerView) (later : List (List ℕ)) → head ≡ Some rows
+    → combinations_in query rest ≡ later → first_of (length query.items) head ++ combinations_in query rest ≡ take (length query.items) rows ∷ later
+head_taken query head rows rest later is told =
+    ap (λ (h : Option (List ℕ)). first_of (length query.items) h ++ combinations_in query rest) is ∙ ap (λ (l : List (List ℕ)). take (length query.items) rows ∷ l) told

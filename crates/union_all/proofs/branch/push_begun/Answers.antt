@@ -1,4 +1,5 @@
 use Rattle.std.proofs.Common.{◌∙◌, ◌++◌, ℕ, List, Option, ap, sym, length, refl}
+use Rattle.std.proofs.lemmas.Result.{IfOk-from_err}
 use Rattle.witness_key.specs.WitnessKey.{combinations_in}
 use Rattle.union_all.specs.Merge.{first_of}
 use Rattle.union_all.proofs.Heads.{next_told, none_told}
@@ -23,3 +24,9 @@ returns g c =
           };
       cost = c.next.ensures.cost;
     }
+
+pub returns-in_err-first : goal.returns-in_err-first
+returns-in_err-first g c = record { grown = IfOk-from_err c.from_residual.result _ c.from_residual.ensures.0; cost = c.next.ensures.cost }
+
+pub returns-in_err-push : goal.returns-in_err-push
+returns-in_err-push g c = record { grown = IfOk-from_err c.from_residual-in_err-push.result _ c.from_residual-in_err-push.ensures.0; cost = c.next.ensures.cost }
