@@ -23,12 +23,6 @@ returns-in_default g c =
       refused = tt;
     }
 
-pub index_mut-requires : goal.index_mut-requires
-index_mut-requires g c =
-    let tables = c.self.inside.tables.now in
-    let h = subst (λ (l : List BranchView). HasFirst (queries_of l) tables (lists_of l) (length l) c.in-Some.first) c.as_slice.ensures.value (rw c.in-Some.is at c.first_branch.ensures) in
-    omega (arith, h.inside, c.self.inside.branches.ok.0)
-
 pub invariant_of-self : goal.invariant_of-self
 invariant_of-self g c =
     let branches = c.self.inside.branches.items in
