@@ -1,7 +1,16 @@
+use Rattle.std.proofs.Common.{◌<◌, ℕ, List, length, map, arith}
+use Rattle.std.proofs.lemmas.List.{length-map}
+use Rattle.bound_query.specs.WeighedQuery.{BoundQuery}
 use Rattle.refusal_lines.specs.declared.fault.PrintFault.TheVariants as fault
 use Rattle.refusal_lines.proofs.Prints.{unprinted}
 use Rattle.command_output.proofs.HandedOn.{handed_on}
 use Rattle.command_output.proofs.union.print_member.Goals as goal
+
+inside_all : (queries : List BoundQuery) (b : ℕ) → b < length (map (λ (q : BoundQuery). q.query) queries) → b < length queries
+inside_all queries b h = omega (arith, h, length-map queries (λ (q : BoundQuery). q.query))
+
+pub write_line_of-requires-clause-branch : goal.write_line_of-requires-clause-branch
+write_line_of-requires-clause-branch g c = inside_all c.args.queries.now c.args.tagged.now.branch c.requires.member.branch
 
 pub returns-in_err-write_line_of : goal.returns-in_err-write_line_of
 returns-in_err-write_line_of g c =
