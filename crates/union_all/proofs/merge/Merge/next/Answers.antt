@@ -5,11 +5,14 @@ use Rattle.anyk_model.specs.Query.{Query}
 use Rattle.anyk_model.specs.TaggedRows as union
 use Rattle.anyk_model.specs.Union.{left_of}
 use Rattle.union_all.specs.Firsts.{HasFirst, IsFirst, tagged_view}
-use Rattle.union_all.specs.Merge.{BranchView, IsCalled, MergeView, lists_of, queries_of}
+use Rattle.union_all.specs.Merge.{AreBranches, BranchView, IsCalled, MergeView, lists_of, queries_of}
 use Rattle.union_all.proofs.Branches.{list_at, query_at}
 use Rattle.union_all.proofs.Sooner.{not_empty}
 use Rattle.union_all.proofs.Stepping.{branches_kept, branches_taken, first_left, is_called, merged, none_left, on_error, rest_kept, rest_taken}
 use Rattle.union_all.proofs.merge.Merge.next.Goals as goal
+
+pub first_branch-requires : goal.first_branch-requires
+first_branch-requires g c = subst (λ (l : List BranchView). AreBranches c.self.inside.tables.now l) (sym c.as_slice.ensures.value) c.self.invariant
 
 pub returns-in_default : goal.returns-in_default
 returns-in_default g c =
