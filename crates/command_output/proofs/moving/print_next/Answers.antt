@@ -1,6 +1,7 @@
-use Rattle.std.proofs.Common.{◌+◌, ◌-◌, ◌++◌, ℕ, List, None, Err, Ok, length, drop, take, ap, sym, refl, subst, ◌∙◌}
+use Rattle.std.proofs.Common.{◌+◌, ◌-◌, ◌++◌, ℕ, List, None, Ok, length, drop, take, ap, sym, refl, subst, ◌∙◌}
 use Rattle.std.specs.Prelude.{codes, slice_set}
 use Rattle.std.proofs.lemmas.List.{set-get_or}
+use Rattle.std.proofs.lemmas.Result.{IfOk-from_err}
 use Rattle.anyk_model.specs.Query.{IsCombination, row_counts}
 use Rattle.refusal_lines.specs.declared.fault.PrintFault.TheVariants as fault
 use Rattle.refusal_lines.specs.Printing.{Printed}
@@ -160,16 +161,16 @@ pub returns-in_err-answer : goal.returns-in_err-answer
 returns-in_err-answer g c =
     let loop = (goal.at.returns-in_err-answer g c).At-loop-given in
     let e = handed_on c.from_residual.result fault.NoMemory c.from_residual.ensures.1 in
-    rw e (record {
-      printed = left_unprinted (whole g loop) (left g loop) _ _ c.loop-given.invariant.left;
-      moved = tt;
-      places = tt;
-      kept = tt;
+    record {
+      printed = rw e (left_unprinted (whole g loop) (left g loop) _ _ c.loop-given.invariant.left);
+      moved = IfOk-from_err c.from_residual.result _ c.from_residual.ensures.0;
+      places = IfOk-from_err c.from_residual.result _ c.from_residual.ensures.0;
+      kept = IfOk-from_err c.from_residual.result _ c.from_residual.ensures.0;
       paid = record {
-        spent = tt;
+        spent = IfOk-from_err c.from_residual.result _ c.from_residual.ensures.0;
         within = given_within (given g loop) c.next_member.new.steps c.loop-given-test.true (rw c.limit.ensures at c.in_err-answer.ensures.paid.within);
       };
-    })
+    }
 
 pub returns-in_err-print_answer : goal.returns-in_err-print_answer
 returns-in_err-print_answer g c =
@@ -178,12 +179,12 @@ returns-in_err-print_answer g c =
     let split = answer_given (rows_of g loop) c.args.listing.now.query.now.query.limit c.args.set.now.answers c.args.place.now c.loop-given._given c.loop-given.place
     c.loop-given.invariant.place (line g loop) (ending g loop) c.args.count _ c.loop-given-test.true (rw c.limit.ensures at found.0) (rw c.loop-given.invariant.answers at found.2) in
     let e = handed_on c.from_residual-in_err-print_answer.result c.in_err-print_answer.field-0.0 c.from_residual-in_err-print_answer.ensures.1 in
-    rw e (record {
-      printed = left_stopped (whole g loop) (left g loop) _ _ _ c.loop-given.invariant.left _ _ c.in_err-print_answer.field-0.0 split c.in_err-print_answer.ensures;
-      moved = tt;
-      places = tt;
-      kept = tt;
+    record {
+      printed = rw e (left_stopped (whole g loop) (left g loop) _ _ _ c.loop-given.invariant.left _ _ c.in_err-print_answer.field-0.0 split c.in_err-print_answer.ensures);
+      moved = IfOk-from_err c.from_residual-in_err-print_answer.result _ c.from_residual-in_err-print_answer.ensures.0;
+      places = IfOk-from_err c.from_residual-in_err-print_answer.result _ c.from_residual-in_err-print_answer.ensures.0;
+      kept = IfOk-from_err c.from_residual-in_err-print_answer.result _ c.from_residual-in_err-print_answer.ensures.0;
       paid = paid_spent g.E.Ranked.share g.met.E.Ranked.share_rises c.args.set.now c.next_member.new.set _ _ c.args.steps.now c.next_member.new.steps
-          (Err c.in_err-print_answer.field-0.0)
+          c.from_residual-in_err-print_answer.result
           (given_spent (given g loop) c.next_member.new.set c.next_member.new.steps c.loop-given-test.true (rw c.limit.ensures at c.in_ok-answer.ensures.paid.spent));
-    })
+    }
