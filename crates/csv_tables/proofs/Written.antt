@@ -85,3 +85,11 @@ on_ok_four (Err _) f a b c d = tt
 pub on_ok_of_err : {T E : Type 0} (P : Type 0) (r : Result T E) → is_err r ≡ true → OnOk r P
 on_ok_of_err P (Ok x) e = absurd cc
 on_ok_of_err P (Err e) h = tt
+
+pub ok_has : {T E : Type 0} (P : Type 0) (r : Result T E) → is_err r ≡ false → OnOk r P → P
+ok_has P (Ok x) e h = h
+ok_has P (Err e) h p = absurd cc
+
+-- a place within what was written is within what is written then
+pub start_grows : (start : ℕ) (old new more pending : List ℕ) → start ≤ length old → new ≡ old ++ more → start ≤ length (new ++ pending)
+start_grows start old new more pending within is = omega (arith, ap length is, length-append old more, length-append new pending)

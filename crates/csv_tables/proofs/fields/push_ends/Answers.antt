@@ -1,7 +1,7 @@
-use Rattle.std.proofs.Common.{◌≡◌, ◌<◌, ◌+◌, ◌∷◌, ◌++◌, [], ◌∙◌, ℕ, List, sym, ap, take, length, append_assoc, append-nil, length-append, refl, arith}
+use Rattle.std.proofs.Common.{◌≡◌, ◌<◌, ◌+◌, ◌∷◌, ◌++◌, [], ◌∙◌, ℕ, List, sym, ap, subst, take, length, append_assoc, append-nil, length-append, refl, arith}
 use Rattle.std.proofs.lemmas.List.{take_more}
 use Rattle.std.specs.List.{concat}
-use Rattle.csv.specs.Records.{fields_of}
+use Rattle.csv.specs.Records.{fields_of, text_of}
 use Rattle.csv.proofs.RecordFacts.{cut-length, field-get, field-there}
 use Rattle.csv_tables.specs.Fields.{ends_from}
 use Rattle.csv_tables.proofs.Fronts.{concat_push, ends_push, field_lies, front_more, reaches_more, reaches_none}
@@ -48,3 +48,20 @@ loop-i-preserved c =
       front_more row.ends row.bytes c.loop-i.i (length (concat front)) x inside inv.4 lies some ∙ ap (λ (l : List ℕ). l ++ x) inv.3,
       reaches_more row.ends row.bytes c.loop-i.i (length (concat front)) x inside inv.4 lies some,
     )
+
+pub returns-then-is_empty : goal.returns-then-is_empty
+returns-then-is_empty c =
+    let inv = c.loop-i.invariant in
+    record { within = omega (arith, c.loop-i-test.true, c.len-i-end.ensures); ends = inv.0; end = inv.2; text = inv.3 }
+
+pub returns : goal.returns
+returns c =
+    let inv = c.loop-i.invariant in
+    let fields = fields_of c.args.row.now in
+    let all : c.loop-i.i ≡ c.len.result = omega (arith, c.loop-i-test.false, c.len-i-end.ensures, c.len.ensures) in
+    record {
+      within = omega (arith, c.len.ensures);
+      ends = subst (λ k. c.loop-i.ends.items ≡ c.args.ends.now.items ++ ends_from c.args.start (take k fields)) all inv.0;
+      end = subst (λ k. c.loop-i.end ≡ c.args.start + length (concat (take k fields))) all inv.2;
+      text = subst (λ k. take (length (concat (take k fields))) (text_of c.args.row.now) ≡ concat (take k fields)) all inv.3;
+    }
