@@ -1,5 +1,5 @@
 -- Counts over two calls, one after the other.
-use Rattle.std.proofs.Common.{◌≡◌, ℕ, ◌+◌, ◌<◌, ◌≤◌, ◌⊎◌, arith}
+use Rattle.std.proofs.Common.{◌≡◌, ℕ, ◌+◌, ◌<◌, ◌≤◌, ◌⊎◌, min, arith}
 use Rattle.outer_io.specs.Counts.{last_count, Rose, RoseBy, RoseAbove}
 
 -- a count that rose by n in all has risen by n + k after a read of k bytes
@@ -11,10 +11,10 @@ pub RoseBy-above : (start before now n k limit : ℕ) → (start + n ≤ before)
     → limit < n + k → RoseAbove limit start now
 RoseBy-above start before now n k limit p q fits h = grind arith
 
--- the count rose in a call that a second one follows
-pub Rose-before : (a b c : ℕ) → a ≤ b → Rose a b → b ≤ c → Rose a c
-Rose-before a b c h p q = grind arith
-
 -- the count rose in a call that follows another
 pub Rose-after : (a b c : ℕ) → a ≤ b → Rose b c → Rose a c
 Rose-after a b c p q = grind arith
+
+-- a count is raised as far as its type reaches
+pub Rose-saturating : (before now : ℕ) → now ≡ min (before + 1) last_count → Rose before now
+Rose-saturating before now is = grind arith

@@ -3,6 +3,8 @@ use Rattle.std.proofs.Common.{◌≡◌, Result, Ok, Err}
 use Rattle.std.specs.Result.{IsErrAnd, IsErrOf}
 use Rattle.outer_io.specs.declared.reading.FileFault.{FileFault}
 use Rattle.outer_io.specs.declared.reading.FileFault.TheVariants.{Missing, Failed, TooLarge}
+use Rattle.outer_io.specs.declared.shelf.ShelfFault.{ShelfFault}
+use Rattle.outer_io.specs.declared.shelf.ShelfFault.TheVariants as shelf
 
 -- the error is the one that it was made
 pub only : {T : Type 0} (r : Result T FileFault) (x k : FileFault) → IsErrAnd r (λ e. e ≡ k) → IsErrOf r x → x ≡ k
@@ -31,3 +33,14 @@ large_missing e = cc
 
 pub large_failed : {T P : Type 0} → IsErrOf {T = T} (Err TooLarge) Failed → P
 large_failed e = cc
+
+-- ---- the errors of a shelf
+
+pub opened_not_err : {T P : Type 0} (n : T) (x : ShelfFault) → IsErrOf (Ok n) x → P
+opened_not_err n x e = cc
+
+pub shelf_missing_failed : {T P : Type 0} → IsErrOf {T = T} (Err shelf.Missing) shelf.Failed → P
+shelf_missing_failed e = cc
+
+pub shelf_failed_missing : {T P : Type 0} → IsErrOf {T = T} (Err shelf.Failed) shelf.Missing → P
+shelf_failed_missing e = cc

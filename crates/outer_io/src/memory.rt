@@ -105,11 +105,10 @@ impl Shelf for MemShelf {
             self.held.close();
             return Err(ShelfFault::Failed);
         }
-        if self.held.open(name) {
-            Ok(())
-        } else {
-            Err(ShelfFault::Missing)
+        if !self.held.open(name) {
+            return Err(ShelfFault::Missing);
         }
+        Ok(())
     }
 
     fn read(&mut self, buf: &mut [u8]) -> Result<usize, ReadFailed>
@@ -187,11 +186,10 @@ impl Shelf for PureShelf {
         ensures taken { self.new.taken ≡ self.old.taken }
         ensures after { self.new ≡ opened self.old name.now }
     {
-        if self.held.open(name) {
-            Ok(())
-        } else {
-            Err(ShelfFault::Missing)
+        if !self.held.open(name) {
+            return Err(ShelfFault::Missing);
         }
+        Ok(())
     }
 
     fn read(&mut self, buf: &mut [u8]) -> Result<usize, ReadFailed>
