@@ -18,3 +18,9 @@ Rose-after a b c p q = grind arith
 -- a count is raised as far as its type reaches
 pub Rose-saturating : (before now : ℕ) → now ≡ min (before + 1) last_count → Rose before now
 Rose-saturating before now is = grind arith
+
+pub RoseBy-saturating : (n before now : ℕ) → now ≡ min (before + n) last_count → RoseBy n before now
+RoseBy-saturating n before now is = grind arith
+
+pub at_most_last : (before n now : ℕ) → now ≡ min (before + n) last_count → now ≤ last_count
+at_most_last before n now is = omega arith
