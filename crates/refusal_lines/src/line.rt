@@ -1,6 +1,6 @@
 //! The line that says why a run ended.
 ghost use Rattle.std.specs.Prelude.{◌≡◌, ◌<◌, ◌+◌, ◌++◌, None, codes, decimal};
-ghost use Rattle.refusal_lines.specs.Reason.{BadWeight, branch_text, DuplicateName, RankRange, Ragged, line_of, on_byte, on_file, on_line, on_proof_line, on_table, spaced, text_of};
+ghost use Rattle.refusal_lines.specs.Reason.{BadWeight, branch_text, DuplicateName, Ragged, line_of, on_file, on_table, spaced, text_of};
 ghost use Rattle.hyper_graph.specs.Graph.{is_in};
 ghost use Rattle.hyper_graph.specs.Items.{items_of};
 ghost use Rattle.refusal_lines.specs.Core.{item_text};
@@ -42,19 +42,19 @@ fn write_reason<E: Sink>(err: &mut E, refusal: Refusal<'_>) -> Result<(), Unwrit
     match refusal {
         Refusal::Usage => write_text(err, b"usage"),
         Refusal::Syntax(at) => write_numbered(err, b"syntax error at byte ", at, b""),
-        Refusal::BadLine(line) => write_on_line(err, line, b"bad line"),
-        Refusal::UnknownCursor(line) => write_on_line(err, line, b"unknown cursor"),
-        Refusal::CursorExists(line) => write_on_line(err, line, b"cursor exists"),
-        Refusal::UnknownTable(at) => write_on_byte(err, at, b"unknown table"),
+        Refusal::BadLine(line) => write_at(err, b"script line ", line, b"bad line"),
+        Refusal::UnknownCursor(line) => write_at(err, b"script line ", line, b"unknown cursor"),
+        Refusal::CursorExists(line) => write_at(err, b"script line ", line, b"cursor exists"),
+        Refusal::UnknownTable(at) => write_at(err, b"byte ", at, b"unknown table"),
         Refusal::DuplicateAlias { item, .. } => write_numbered(
             err,
             b"item ",
             item,
             b": alias used twice",
         ),
-        Refusal::UnknownAlias(at) => write_on_byte(err, at, b"unknown alias"),
-        Refusal::UnknownColumn(at) => write_on_byte(err, at, b"unknown column"),
-        Refusal::Ambiguous(at) => write_on_byte(err, at, b"ambiguous column"),
+        Refusal::UnknownAlias(at) => write_at(err, b"byte ", at, b"unknown alias"),
+        Refusal::UnknownColumn(at) => write_at(err, b"byte ", at, b"unknown column"),
+        Refusal::Ambiguous(at) => write_at(err, b"byte ", at, b"ambiguous column"),
         Refusal::UnknownBest => write_text(err, b"unknown alias in --best-of"),
         Refusal::NoHeader(table) => write_on_table(err, table, b"no header"),
         Refusal::DuplicateName { table, column } => write_duplicate_name(err, table, column),
@@ -66,7 +66,12 @@ fn write_reason<E: Sink>(err: &mut E, refusal: Refusal<'_>) -> Result<(), Unwrit
             ..
         } => write_bad_weight(err, item, row, column),
         Refusal::Cyclic { core, .. } => write_cyclic(err, core),
-        Refusal::RankRange { key, .. } => write_rank_range(err, key),
+        Refusal::RankRange { key, .. } => write_numbered(
+            err,
+            b"order key ",
+            key,
+            b": rank may pass 128 bits",
+        ),
         Refusal::TooLong => write_text(err, b"query longer than 65536 bytes"),
         Refusal::TooManyBranches => write_text(err, b"more than 8 branches"),
         Refusal::TooManyItems => write_text(err, b"more than 16 items"),
@@ -77,23 +82,23 @@ fn write_reason<E: Sink>(err: &mut E, refusal: Refusal<'_>) -> Result<(), Unwrit
         Refusal::TooManyTableRows(table) => write_on_table(err, table, b"more than 1048576 rows"),
         Refusal::TooManyNodeRows => write_text(err, b"more than 4194304 node rows"),
         Refusal::TooManyLines => write_text(err, b"script: more than 10000 lines"),
-        Refusal::TooManyOpen(line) => write_on_line(err, line, b"more than 64 cursors"),
+        Refusal::TooManyOpen(line) => write_at(err, b"script line ", line, b"more than 64 cursors"),
         Refusal::NoFile(file) => write_on_file(err, file, b": not found"),
         Refusal::ReadFault(file) => write_on_file(err, file, b": read failed"),
         Refusal::WriteFault => write_text(err, b"write failed"),
         Refusal::NoMemory => write_text(err, b"out of memory"),
         Refusal::BadProofHeader => write_text(err, b"proof: bad header"),
-        Refusal::BadProofLine(line) => write_on_proof_line(err, line, b"bad line"),
-        Refusal::BadBound(line) => write_on_proof_line(err, line, b"no solution"),
-        Refusal::BoundTwice(line) => write_on_proof_line(err, line, b"bound twice"),
+        Refusal::BadProofLine(line) => write_at(err, b"proof line ", line, b"bad line"),
+        Refusal::BadBound(line) => write_at(err, b"proof line ", line, b"no solution"),
+        Refusal::BoundTwice(line) => write_at(err, b"proof line ", line, b"bound twice"),
         Refusal::WeakBound(node) => write_numbered(
             err,
             b"proof node ",
             node,
             b": bound missing or too high",
         ),
-        Refusal::BadAnswer(line) => write_on_proof_line(err, line, b"no answer"),
-        Refusal::AnswerOrder(line) => write_on_proof_line(err, line, b"not in order"),
+        Refusal::BadAnswer(line) => write_at(err, b"proof line ", line, b"no answer"),
+        Refusal::AnswerOrder(line) => write_at(err, b"proof line ", line, b"not in order"),
         Refusal::AnswerCount => write_text(err, b"proof: wrong number of answers"),
         Refusal::MissedAnswer => write_text(err, b"proof: unlisted answer"),
         Refusal::BranchShape(_) => write_text(err, b"shape differs"),
@@ -119,42 +124,19 @@ fn write_numbered<'a, E: Sink>(
     write_pieces(err, &pieces)
 }
 
-/// Writes a reason at a byte of the query.
-fn write_on_byte<'a, E: Sink>(err: &mut E, at: u32, what: &'a [u8]) -> Result<(), Unwritten>
+/// Writes a reason at a byte of the query, or at a line of the script or of the certificate.
+fn write_at<'a, E: Sink>(
+    err: &mut E,
+    place: &'a [u8],
+    at: u32,
+    what: &'a [u8],
+) -> Result<(), Unwritten>
     ensures { Sent (state_of E.Sink err.old) (state_of E.Sink err.new)
-        (on_byte at what.now) result }
+        (place.now ++ (decimal at ++ (codes ": " ++ what.now))) result }
 {
     let pieces = [
-        Piece::Text(b"byte "),
+        Piece::Text(place),
         Piece::Number(at),
-        Piece::Text(b": "),
-        Piece::Text(what),
-    ];
-    write_pieces(err, &pieces)
-}
-
-/// Writes a reason at a line of the script.
-fn write_on_line<'a, E: Sink>(err: &mut E, line: u32, what: &'a [u8]) -> Result<(), Unwritten>
-    ensures { Sent (state_of E.Sink err.old) (state_of E.Sink err.new)
-        (on_line line what.now) result }
-{
-    let pieces = [
-        Piece::Text(b"script line "),
-        Piece::Number(line),
-        Piece::Text(b": "),
-        Piece::Text(what),
-    ];
-    write_pieces(err, &pieces)
-}
-
-/// Writes a reason at a line of the certificate.
-fn write_on_proof_line<'a, E: Sink>(err: &mut E, line: u32, what: &'a [u8]) -> Result<(), Unwritten>
-    ensures { Sent (state_of E.Sink err.old) (state_of E.Sink err.new)
-        (on_proof_line line what.now) result }
-{
-    let pieces = [
-        Piece::Text(b"proof line "),
-        Piece::Number(line),
         Piece::Text(b": "),
         Piece::Text(what),
     ];
@@ -220,14 +202,6 @@ fn write_ragged<E: Sink>(err: &mut E, table: &[u8], row: u32) -> Result<(), Unwr
         Piece::Text(b": wrong number of fields"),
     ];
     write_pieces(err, &pieces)
-}
-
-/// Writes that the sums of an order key may be too great.
-fn write_rank_range<E: Sink>(err: &mut E, key: u32) -> Result<(), Unwritten>
-    ensures { Sent (state_of E.Sink err.old) (state_of E.Sink err.new)
-        (text_of (RankRange None key)) result }
-{
-    write_numbered(err, b"order key ", key, b": rank may pass 128 bits")
 }
 
 /// Writes that a field of an order column is not a weight.
