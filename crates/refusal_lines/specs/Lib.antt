@@ -1,5 +1,6 @@
 pub mod Reason
 pub mod Core
+pub mod Forms
 pub mod Pieces
 pub mod RefusalReasons
 pub mod SinkState

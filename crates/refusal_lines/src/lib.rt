@@ -3,6 +3,7 @@
 #![tactic(auto)]
 
 mod fault;
+mod form;
 mod line;
 mod memory;
 mod piece;

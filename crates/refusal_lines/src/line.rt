@@ -8,6 +8,7 @@ ghost use Rattle.refusal_lines.specs.RefusalReasons.{reason_of};
 ghost use Rattle.refusal_lines.specs.SinkText.{Sent};
 ghost use Rattle.refusal_lines.specs.SinkState.{state_of};
 
+use crate::form::{Form, form_of};
 use crate::piece::{Piece, write_pieces, write_text};
 use crate::refusal::Refusal;
 use outer_io::{Sink, Unwritten};
@@ -39,70 +40,16 @@ fn write_reason<E: Sink>(err: &mut E, refusal: Refusal<'_>) -> Result<(), Unwrit
     ensures { Sent (state_of E.Sink err.old) (state_of E.Sink err.new)
         (text_of (reason_of refusal.entry)) result }
 {
-    match refusal {
-        Refusal::Usage => write_text(err, b"usage"),
-        Refusal::Syntax(at) => write_numbered(err, b"syntax error at byte ", at, b""),
-        Refusal::BadLine(line) => write_at(err, b"script line ", line, b"bad line"),
-        Refusal::UnknownCursor(line) => write_at(err, b"script line ", line, b"unknown cursor"),
-        Refusal::CursorExists(line) => write_at(err, b"script line ", line, b"cursor exists"),
-        Refusal::UnknownTable(at) => write_at(err, b"byte ", at, b"unknown table"),
-        Refusal::DuplicateAlias { item, .. } => write_numbered(
-            err,
-            b"item ",
-            item,
-            b": alias used twice",
-        ),
-        Refusal::UnknownAlias(at) => write_at(err, b"byte ", at, b"unknown alias"),
-        Refusal::UnknownColumn(at) => write_at(err, b"byte ", at, b"unknown column"),
-        Refusal::Ambiguous(at) => write_at(err, b"byte ", at, b"ambiguous column"),
-        Refusal::UnknownBest => write_text(err, b"unknown alias in --best-of"),
-        Refusal::NoHeader(table) => write_on_table(err, table, b"no header"),
-        Refusal::DuplicateName { table, column } => write_duplicate_name(err, table, column),
-        Refusal::Ragged { table, row } => write_ragged(err, table, row),
-        Refusal::BadWeight {
-            item,
-            row,
-            column,
-            ..
-        } => write_bad_weight(err, item, row, column),
-        Refusal::Cyclic { core, .. } => write_cyclic(err, core),
-        Refusal::RankRange { key, .. } => write_numbered(
-            err,
-            b"order key ",
-            key,
-            b": rank may pass 128 bits",
-        ),
-        Refusal::TooLong => write_text(err, b"query longer than 65536 bytes"),
-        Refusal::TooManyBranches => write_text(err, b"more than 8 branches"),
-        Refusal::TooManyItems => write_text(err, b"more than 16 items"),
-        Refusal::TooManyKeys => write_text(err, b"more than 8 order keys"),
-        Refusal::LimitRange(at) => write_numbered(err, b"limit at byte ", at, b" out of range"),
-        Refusal::TooLarge(file) => write_on_file(err, file, b" longer than 67108864 bytes"),
-        Refusal::TooManyColumns(table) => write_on_table(err, table, b"more than 64 columns"),
-        Refusal::TooManyTableRows(table) => write_on_table(err, table, b"more than 1048576 rows"),
-        Refusal::TooManyNodeRows => write_text(err, b"more than 4194304 node rows"),
-        Refusal::TooManyLines => write_text(err, b"script: more than 10000 lines"),
-        Refusal::TooManyOpen(line) => write_at(err, b"script line ", line, b"more than 64 cursors"),
-        Refusal::NoFile(file) => write_on_file(err, file, b": not found"),
-        Refusal::ReadFault(file) => write_on_file(err, file, b": read failed"),
-        Refusal::WriteFault => write_text(err, b"write failed"),
-        Refusal::NoMemory => write_text(err, b"out of memory"),
-        Refusal::BadProofHeader => write_text(err, b"proof: bad header"),
-        Refusal::BadProofLine(line) => write_at(err, b"proof line ", line, b"bad line"),
-        Refusal::BadBound(line) => write_at(err, b"proof line ", line, b"no solution"),
-        Refusal::BoundTwice(line) => write_at(err, b"proof line ", line, b"bound twice"),
-        Refusal::WeakBound(node) => write_numbered(
-            err,
-            b"proof node ",
-            node,
-            b": bound missing or too high",
-        ),
-        Refusal::BadAnswer(line) => write_at(err, b"proof line ", line, b"no answer"),
-        Refusal::AnswerOrder(line) => write_at(err, b"proof line ", line, b"not in order"),
-        Refusal::AnswerCount => write_text(err, b"proof: wrong number of answers"),
-        Refusal::MissedAnswer => write_text(err, b"proof: unlisted answer"),
-        Refusal::BranchShape(_) => write_text(err, b"shape differs"),
-        Refusal::UnionBest => write_text(err, b"several branches with --best-of"),
+    match form_of(refusal) {
+        Form::Text(text) => write_text(err, text),
+        Form::Numbered(before, number, after) => write_numbered(err, before, number, after),
+        Form::At(place, at, what) => write_at(err, place, at, what),
+        Form::OnTable(table, what) => write_on_table(err, table, what),
+        Form::OnFile(file, what) => write_on_file(err, file, what),
+        Form::DuplicateName(table, column) => write_duplicate_name(err, table, column),
+        Form::Ragged(table, row) => write_ragged(err, table, row),
+        Form::BadWeight(item, row, column) => write_bad_weight(err, item, row, column),
+        Form::Cyclic(core) => write_cyclic(err, core),
     }
 }
 
