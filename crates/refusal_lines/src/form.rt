@@ -23,8 +23,8 @@ pub(crate) enum Form<'a> {
     DuplicateName(&'a [u8], u32),
     /// This row of the table has more or fewer fields than the header.
     Ragged(&'a [u8], u32),
-    /// A field of an order column is not a weight: its item, its row and its column.
-    BadWeight(u32, u32, u32),
+    /// A field of an order column is not a weight.
+    BadWeight { item: u32, row: u32, column: u32 },
     /// The query is cyclic, with this core.
     Cyclic(u16),
 }
@@ -57,7 +57,7 @@ pub(crate) fn form_of<'a>(refusal: Refusal<'a>) -> Form<'a>
             row,
             column,
             ..
-        } => Form::BadWeight(item, row, column),
+        } => Form::BadWeight { item, row, column },
         Refusal::Cyclic { core, .. } => Form::Cyclic(core),
         Refusal::RankRange { key, .. } => Form::Numbered(
             b"order key ",

@@ -48,7 +48,7 @@ fn write_reason<E: Sink>(err: &mut E, refusal: Refusal<'_>) -> Result<(), Unwrit
         Form::OnFile(file, what) => write_on_file(err, file, what),
         Form::DuplicateName(table, column) => write_duplicate_name(err, table, column),
         Form::Ragged(table, row) => write_ragged(err, table, row),
-        Form::BadWeight(item, row, column) => write_bad_weight(err, item, row, column),
+        Form::BadWeight { item, row, column } => write_bad_weight(err, item, row, column),
         Form::Cyclic(core) => write_cyclic(err, core),
     }
 }
