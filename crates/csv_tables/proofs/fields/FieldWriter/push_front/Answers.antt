@@ -1,9 +1,12 @@
-use Rattle.std.proofs.Common.{◌≡◌, ◌+◌, ◌++◌, ◌∙◌, ℕ, List, take, length, ap, arith}
+use Rattle.std.proofs.Common.{◌≡◌, ◌+◌, ◌++◌, ◌∙◌, ℕ, List, take, length, ap, subst, sym, arith}
 use Rattle.std.proofs.Math.Seq.{take-append-add}
+use Rattle.std.proofs.lemmas.Result.{IfOk-from_err}
 use Rattle.std.specs.List.{concat}
+use Rattle.csv.specs.Records.{Rising, cut_from, last_end}
 use Rattle.csv.specs.Records.{fields_of}
 use Rattle.csv_tables.specs.Fields.{ends_from}
 use Rattle.csv_tables.proofs.Copied.{Shows, shows_more}
+use Rattle.table_store.proofs.Stands.{on_err}
 use Rattle.csv_tables.proofs.fields.FieldWriter.push_front.Goals as goal
 use Rattle.csv_tables.proofs.fields.FieldWriter.push_front.Goals.{After-truncate}
 
@@ -33,3 +36,34 @@ invariant_of-self-2 c = let s = shown c in record { rising = s.rising; whole = s
 
 pub returns-clause-added : goal.returns-clause-added
 returns-clause-added c = (shown c).cut
+
+pub invariant_of-self : goal.invariant_of-self
+invariant_of-self c =
+    let bytes = c.self.inside.bytes.items in
+    record {
+      rising = subst (λ (l : List ℕ). Rising 0 l (length bytes)) (sym c.in_err-reserve.ensures.items) c.self.invariant.rising;
+      whole = subst (λ (l : List ℕ). last_end 0 l ≡ length bytes) (sym c.in_err-reserve.ensures.items) c.self.invariant.whole;
+    }
+
+pub returns-in_err-reserve : goal.returns-in_err-reserve
+returns-in_err-reserve c =
+    let r = c.from_residual.result in
+    let e = c.from_residual.ensures.0 in
+    record { added = IfOk-from_err r _ e; within = IfOk-from_err r _ e; err = on_err r (ap (λ (l : List ℕ). cut_from 0 l c.self.inside.bytes.items) c.in_err-reserve.ensures.items ∙ c.self.view_is) }
+
+pub invariant_of-self-in_err-extend_from_slice : goal.invariant_of-self-in_err-extend_from_slice
+invariant_of-self-in_err-extend_from_slice c =
+    let ends = c.in_ok-reserve.ensures.items in
+    let bytes = c.in_err-extend_from_slice.ensures.items in
+    record {
+      rising = rw (ends, bytes) c.self.invariant.rising;
+      whole = rw (ends, bytes) c.self.invariant.whole;
+    }
+
+pub returns-in_err-extend_from_slice : goal.returns-in_err-extend_from_slice
+returns-in_err-extend_from_slice c =
+    let r = c.from_residual-in_err-extend_from_slice.result in
+    let e = c.from_residual-in_err-extend_from_slice.ensures.0 in
+    let ends = c.in_ok-reserve.ensures.items in
+    let bytes = c.in_err-extend_from_slice.ensures.items in
+    record { added = IfOk-from_err r _ e; within = IfOk-from_err r _ e; err = on_err r ((λ i. cut_from 0 (ends i) (bytes i)) ∙ c.self.view_is) }
