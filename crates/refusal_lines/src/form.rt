@@ -19,10 +19,8 @@ pub(crate) enum Form<'a> {
     OnTable(&'a [u8], &'a [u8]),
     /// A text about a file.
     OnFile(&'a str, &'a [u8]),
-    /// This column of the table has the same name as an earlier one.
-    DuplicateName(&'a [u8], u32),
-    /// This row of the table has more or fewer fields than the header.
-    Ragged(&'a [u8], u32),
+    /// A number between two texts, about a table.
+    InTable(&'a [u8], &'a [u8], u32, &'a [u8]),
     /// A field of an order column is not a weight.
     BadWeight { item: u32, row: u32, column: u32 },
     /// The query is cyclic, with this core.
@@ -50,8 +48,18 @@ pub(crate) fn form_of<'a>(refusal: Refusal<'a>) -> Form<'a>
         Refusal::Ambiguous(at) => Form::At(b"byte ", at, b"ambiguous column"),
         Refusal::UnknownBest => Form::Text(b"unknown alias in --best-of"),
         Refusal::NoHeader(table) => Form::OnTable(table, b"no header"),
-        Refusal::DuplicateName { table, column } => Form::DuplicateName(table, column),
-        Refusal::Ragged { table, row } => Form::Ragged(table, row),
+        Refusal::DuplicateName { table, column } => Form::InTable(
+            table,
+            b": column ",
+            column,
+            b": name used twice",
+        ),
+        Refusal::Ragged { table, row } => Form::InTable(
+            table,
+            b": row ",
+            row,
+            b": wrong number of fields",
+        ),
         Refusal::BadWeight {
             item,
             row,

@@ -1,9 +1,10 @@
 //! The line that says why a run ended.
 ghost use Rattle.std.specs.Prelude.{◌≡◌, ◌<◌, ◌+◌, ◌++◌, None, codes, decimal};
-ghost use Rattle.refusal_lines.specs.Reason.{BadWeight, branch_text, DuplicateName, Ragged, line_of, on_file, on_table, spaced, text_of};
+ghost use Rattle.refusal_lines.specs.Reason.{BadWeight, branch_text, line_of, on_file, on_table, spaced, text_of};
 ghost use Rattle.hyper_graph.specs.Graph.{is_in};
 ghost use Rattle.hyper_graph.specs.Items.{items_of};
 ghost use Rattle.refusal_lines.specs.Core.{item_text};
+ghost use Rattle.refusal_lines.specs.Forms.{in_table};
 ghost use Rattle.refusal_lines.specs.RefusalReasons.{reason_of};
 ghost use Rattle.refusal_lines.specs.SinkText.{Sent};
 ghost use Rattle.refusal_lines.specs.SinkState.{state_of};
@@ -46,8 +47,9 @@ fn write_reason<E: Sink>(err: &mut E, refusal: Refusal<'_>) -> Result<(), Unwrit
         Form::At(place, at, what) => write_at(err, place, at, what),
         Form::OnTable(table, what) => write_on_table(err, table, what),
         Form::OnFile(file, what) => write_on_file(err, file, what),
-        Form::DuplicateName(table, column) => write_duplicate_name(err, table, column),
-        Form::Ragged(table, row) => write_ragged(err, table, row),
+        Form::InTable(table, before, number, after) => {
+            write_in_table(err, table, before, number, after)
+        }
         Form::BadWeight { item, row, column } => write_bad_weight(err, item, row, column),
         Form::Cyclic(core) => write_cyclic(err, core),
     }
@@ -121,32 +123,23 @@ fn write_on_file<'a, E: Sink>(err: &mut E, file: &'a str, what: &'a [u8]) -> Res
     write_pieces(err, &pieces)
 }
 
-/// Writes that a column has the same name as an earlier one.
-fn write_duplicate_name<E: Sink>(err: &mut E, table: &[u8], column: u32) -> Result<(), Unwritten>
+/// Writes a reason about a table, with a number in it.
+fn write_in_table<'a, E: Sink>(
+    err: &mut E,
+    table: &'a [u8],
+    before: &'a [u8],
+    number: u32,
+    after: &'a [u8],
+) -> Result<(), Unwritten>
     ensures { Sent (state_of E.Sink err.old) (state_of E.Sink err.new)
-        (text_of (DuplicateName table.now column)) result }
+        (in_table table.now before.now number after.now) result }
 {
     let pieces = [
         Piece::Text(b"table "),
         Piece::Text(table),
-        Piece::Text(b": column "),
-        Piece::Number(column),
-        Piece::Text(b": name used twice"),
-    ];
-    write_pieces(err, &pieces)
-}
-
-/// Writes that a row has more or fewer fields than the header.
-fn write_ragged<E: Sink>(err: &mut E, table: &[u8], row: u32) -> Result<(), Unwritten>
-    ensures { Sent (state_of E.Sink err.old) (state_of E.Sink err.new)
-        (text_of (Ragged table.now row)) result }
-{
-    let pieces = [
-        Piece::Text(b"table "),
-        Piece::Text(table),
-        Piece::Text(b": row "),
-        Piece::Number(row),
-        Piece::Text(b": wrong number of fields"),
+        Piece::Text(before),
+        Piece::Number(number),
+        Piece::Text(after),
     ];
     write_pieces(err, &pieces)
 }

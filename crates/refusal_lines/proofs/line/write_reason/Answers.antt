@@ -26,11 +26,8 @@ returns-in-OnTable g c = told _ _ _ _ _ _ c.in-OnTable.is c.form_of.ensures c.wr
 pub returns-in-OnFile : goal.returns-in-OnFile
 returns-in-OnFile g c = told _ _ _ _ _ _ c.in-OnFile.is c.form_of.ensures c.write_on_file.ensures
 
-pub returns-in-DuplicateName : goal.returns-in-DuplicateName
-returns-in-DuplicateName g c = told _ _ _ _ _ _ c.in-DuplicateName.is c.form_of.ensures c.write_duplicate_name.ensures
-
-pub returns-in-Ragged : goal.returns-in-Ragged
-returns-in-Ragged g c = told _ _ _ _ _ _ c.in-Ragged.is c.form_of.ensures c.write_ragged.ensures
+pub returns-in-InTable : goal.returns-in-InTable
+returns-in-InTable g c = told _ _ _ _ _ _ c.in-InTable.is c.form_of.ensures c.write_in_table.ensures
 
 pub returns-in-BadWeight : goal.returns-in-BadWeight
 returns-in-BadWeight g c = told _ _ _ _ _ _ c.in-BadWeight.is c.form_of.ensures c.write_bad_weight.ensures
