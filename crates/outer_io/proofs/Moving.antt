@@ -1,7 +1,7 @@
 -- Bytes that were moved in two calls, one after the other.
 use Rattle.std.proofs.Common.{min, length-drop, ◌≡◌, ℕ, ◌+◌, ◌≤◌, ◌<◌, List, [], ◌++◌, Option, None, Some, IfSome, sym, ap, ◌∙◌, subst, take, drop, length, arith, length-take-le, length-append, drop_at, Result, Ok, Err, IfOk}
 use Rattle.std.specs.Io.{ReadsAtMost}
-use Rattle.std.specs.Io.KnownBytes.{Appends, Consumes, IsAtEnd}
+use Rattle.std.specs.Io.KnownBytes.{Appends, Consumes, IsAtEnd, Keeps}
 use Rattle.std.proofs.KnownBytes.{Appends-trans, Consumes-trans, Consumes-all}
 use Rattle.std.proofs.lemmas.List.{drop_all, take-append-drop}
 use lib.Seq.{take-add, take-append-le, take_at}
@@ -11,6 +11,13 @@ pub Appends-more : (a b c : Option (List ℕ)) (n k : ℕ) (bytes rest : List �
     → Appends a c (take (n + k) bytes)
 Appends-more a b c n k bytes rest p q e =
     subst (Appends a c) (ap (λ l. take n bytes ++ take k l) e ∙ sym (take-add n k bytes)) (Appends-trans a b c _ _ p q)
+
+-- the call after it wrote none
+pub Appends-kept : (a b c : Option (List ℕ)) (bytes : List ℕ) → Appends a b bytes → Keeps b c → Appends a c bytes
+Appends-kept None b c bytes p q = tt
+Appends-kept (Some xs) None c bytes p q = absurd p
+Appends-kept (Some xs) (Some ys) None bytes p q = absurd q
+Appends-kept (Some xs) (Some ys) (Some zs) bytes p q = q ∙ p
 
 -- the first n bytes were read, and then k more after them
 pub Consumes-more : (a b c : Option (List ℕ)) (n k : ℕ) (old new : List ℕ) → take n new ≡ take n old → Consumes a b (take n old) → Consumes b c (take k (drop n new))
