@@ -6,50 +6,34 @@ use Rattle.plan_engine.proofs.choice.choose_engine.Goals as goal
 one_product : (steps old m n : ℕ) → steps ≤ old + 16 * m * (1 + n) → steps ≤ old + 16 * (m * (1 + n))
 one_product steps old m n h = omega arith
 
-pub returns-in_err-part-in-Part-clause-tree : goal.returns-in_err-part-in-Part-clause-tree
-returns-in_err-part-in-Part-clause-tree g c = IfOk-from_err c.from_residual.result _ c.from_residual.ensures.0
+pub returns-in_err-part-in-Part : goal.returns-in_err-part-in-Part
+returns-in_err-part-in-Part g c = record {
+  tree = IfOk-from_err c.from_residual.result _ c.from_residual.ensures.0;
+  calls = IfOk-from_err c.from_residual.result _ c.from_residual.ensures.0;
+  ranking = IfOk-from_err c.from_residual.result _ c.from_residual.ensures.0;
+  cost = c.new.ensures.cost;
+}
 
-pub returns-in_err-part-in-Part-clause-calls : goal.returns-in_err-part-in-Part-clause-calls
-returns-in_err-part-in-Part-clause-calls g c = IfOk-from_err c.from_residual.result _ c.from_residual.ensures.0
+pub returns-in_ok-part-in-Part : goal.returns-in_ok-part-in-Part
+returns-in_ok-part-in-Part g c = record {
+  tree = c.in_ok-part-in-Part.ensures.tree;
+  calls = c.in_ok-part-in-Part.ensures.calls;
+  ranking = c.in_ok-part-in-Part.ensures.ranking;
+  cost = c.new.ensures.cost;
+}
 
-pub returns-in_err-part-in-Part-clause-ranking : goal.returns-in_err-part-in-Part-clause-ranking
-returns-in_err-part-in-Part-clause-ranking g c = IfOk-from_err c.from_residual.result _ c.from_residual.ensures.0
+pub returns-in_err-rec-in-Rec : goal.returns-in_err-rec-in-Rec
+returns-in_err-rec-in-Rec g c = record {
+  tree = IfOk-from_err c.from_residual-in_err-rec-in-Rec.result _ c.from_residual-in_err-rec-in-Rec.ensures.0;
+  calls = IfOk-from_err c.from_residual-in_err-rec-in-Rec.result _ c.from_residual-in_err-rec-in-Rec.ensures.0;
+  ranking = IfOk-from_err c.from_residual-in_err-rec-in-Rec.result _ c.from_residual-in_err-rec-in-Rec.ensures.0;
+  cost = one_product _ _ (length c.args.tree.now) (row_count c.args.tree.now) c.new-in-Rec.ensures.cost;
+}
 
-pub returns-in_err-part-in-Part-clause-cost : goal.returns-in_err-part-in-Part-clause-cost
-returns-in_err-part-in-Part-clause-cost g c = c.new.ensures.cost
-
-pub returns-in_ok-part-in-Part-clause-tree : goal.returns-in_ok-part-in-Part-clause-tree
-returns-in_ok-part-in-Part-clause-tree g c = c.in_ok-part-in-Part.ensures.tree
-
-pub returns-in_ok-part-in-Part-clause-calls : goal.returns-in_ok-part-in-Part-clause-calls
-returns-in_ok-part-in-Part-clause-calls g c = c.in_ok-part-in-Part.ensures.calls
-
-pub returns-in_ok-part-in-Part-clause-ranking : goal.returns-in_ok-part-in-Part-clause-ranking
-returns-in_ok-part-in-Part-clause-ranking g c = c.in_ok-part-in-Part.ensures.ranking
-
-pub returns-in_ok-part-in-Part-clause-cost : goal.returns-in_ok-part-in-Part-clause-cost
-returns-in_ok-part-in-Part-clause-cost g c = c.new.ensures.cost
-
-pub returns-in_err-rec-in-Rec-clause-tree : goal.returns-in_err-rec-in-Rec-clause-tree
-returns-in_err-rec-in-Rec-clause-tree g c = IfOk-from_err c.from_residual-in_err-rec-in-Rec.result _ c.from_residual-in_err-rec-in-Rec.ensures.0
-
-pub returns-in_err-rec-in-Rec-clause-calls : goal.returns-in_err-rec-in-Rec-clause-calls
-returns-in_err-rec-in-Rec-clause-calls g c = IfOk-from_err c.from_residual-in_err-rec-in-Rec.result _ c.from_residual-in_err-rec-in-Rec.ensures.0
-
-pub returns-in_err-rec-in-Rec-clause-ranking : goal.returns-in_err-rec-in-Rec-clause-ranking
-returns-in_err-rec-in-Rec-clause-ranking g c = IfOk-from_err c.from_residual-in_err-rec-in-Rec.result _ c.from_residual-in_err-rec-in-Rec.ensures.0
-
-pub returns-in_err-rec-in-Rec-clause-cost : goal.returns-in_err-rec-in-Rec-clause-cost
-returns-in_err-rec-in-Rec-clause-cost g c = one_product _ _ (length c.args.tree.now) (row_count c.args.tree.now) c.new-in-Rec.ensures.cost
-
-pub returns-in_ok-rec-in-Rec-clause-tree : goal.returns-in_ok-rec-in-Rec-clause-tree
-returns-in_ok-rec-in-Rec-clause-tree g c = c.in_ok-rec-in-Rec.ensures.tree
-
-pub returns-in_ok-rec-in-Rec-clause-calls : goal.returns-in_ok-rec-in-Rec-clause-calls
-returns-in_ok-rec-in-Rec-clause-calls g c = c.in_ok-rec-in-Rec.ensures.calls
-
-pub returns-in_ok-rec-in-Rec-clause-ranking : goal.returns-in_ok-rec-in-Rec-clause-ranking
-returns-in_ok-rec-in-Rec-clause-ranking g c = c.in_ok-rec-in-Rec.ensures.ranking
-
-pub returns-in_ok-rec-in-Rec-clause-cost : goal.returns-in_ok-rec-in-Rec-clause-cost
-returns-in_ok-rec-in-Rec-clause-cost g c = one_product _ _ (length c.args.tree.now) (row_count c.args.tree.now) c.new-in-Rec.ensures.cost
+pub returns-in_ok-rec-in-Rec : goal.returns-in_ok-rec-in-Rec
+returns-in_ok-rec-in-Rec g c = record {
+  tree = c.in_ok-rec-in-Rec.ensures.tree;
+  calls = c.in_ok-rec-in-Rec.ensures.calls;
+  ranking = c.in_ok-rec-in-Rec.ensures.ranking;
+  cost = one_product _ _ (length c.args.tree.now) (row_count c.args.tree.now) c.new-in-Rec.ensures.cost;
+}

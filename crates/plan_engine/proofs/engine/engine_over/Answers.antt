@@ -9,48 +9,56 @@ use Rattle.tree_dp.specs.BestRanking.{IsBestRanking}
 use Rattle.plan_engine.proofs.Left.{best_left, ranking_left}
 use Rattle.plan_engine.proofs.engine.engine_over.Goals as goal
 
-pub returns-in-None-clause-asked : goal.returns-in-None-clause-asked
-returns-in-None-clause-asked g c bound tables is =
+pub returns-in-None : goal.returns-in-None
+returns-in-None g c =
     let d = g.R.Rank.KEYS in
     let key = g.R.Rank.key in
     let plan = c.args.plan.now in
-    let P : Option ℕ → Type 0 = λ best. IsPlanOf d key bound tables best plan in
-    let whole = subst P c.in-None.is is in
-    rw c.in-None.is
-    (IfOk-weaker c.choose_engine.result _ _
-    (λ e ranking.
-    let of_plan = subst (λ (t : List (NodeView g.row.R.Denot)). IsTreeRanking t d key ranking.0) c.tree-tree.ensures ranking.1 in
-    ranking_left d key bound tables plan whole (rest_of d key e) ranking.0 of_plan ranking.2)
-    c.choose_engine.ensures.ranking)
-
-pub returns-in-Some-clause-asked : goal.returns-in-Some-clause-asked
-returns-in-Some-clause-asked g c bound tables is =
-    let d = g.R.Rank.KEYS in
-    let key = g.R.Rank.key in
-    let plan = c.args.plan.now in
-    let item : ℕ = c.in-Some.field-0 in
-    let P : Option ℕ → Type 0 = λ best. IsPlanOf d key bound tables best plan in
-    let at = subst P c.in-Some.is is in
-    let formed : IsFormed d key plan.tree = subst (λ (t : List (NodeView g.row.R.Denot)). IsFormed d key t) c.tree-tree.ensures c.nodes-nodes.ensures.formed in
-    rw c.in-Some.is
-    (IfOk-weaker c.best_engine.result _ _
-    (λ e best.
-    let of_plan = subst (λ (t : List (NodeView g.row.R.Denot)). IsBestRanking t d key best.0) c.tree-tree.ensures best.1 in
-    best_left d key bound tables item plan at formed (rest_of d key e) best.0 of_plan best.2)
-    c.best_engine.ensures.best)
-
-pub returns-in-None-clause-ranking : goal.returns-in-None-clause-ranking
-returns-in-None-clause-ranking g c = λ none.
-    IfOk-weaker c.choose_engine.result _ _
-    (λ e ranking. (
-      ranking.0,
-      subst (λ (t : List (NodeView g.row.R.Denot)). IsTreeRanking t g.R.Rank.KEYS g.R.Rank.key ranking.0) c.tree-tree.ensures ranking.1,
-      ranking.2,
-    ))
-    c.choose_engine.ensures.ranking
+    record {
+      tree = rw c.tree-tree.ensures at c.choose_engine.ensures.tree;
+      calls = c.choose_engine.ensures.calls;
+      asked = λ bound tables is.
+          let P : Option ℕ → Type 0 = λ best. IsPlanOf d key bound tables best plan in
+          let whole = subst P c.in-None.is is in
+          rw c.in-None.is
+          (IfOk-weaker c.choose_engine.result _ _
+          (λ e ranking.
+          let of_plan = subst (λ (t : List (NodeView g.row.R.Denot)). IsTreeRanking t d key ranking.0) c.tree-tree.ensures ranking.1 in
+          ranking_left d key bound tables plan whole (rest_of d key e) ranking.0 of_plan ranking.2)
+          c.choose_engine.ensures.ranking);
+      ranking = λ none.
+          IfOk-weaker c.choose_engine.result _ _
+          (λ e ranking. (
+            ranking.0,
+            subst (λ (t : List (NodeView g.row.R.Denot)). IsTreeRanking t d key ranking.0) c.tree-tree.ensures ranking.1,
+            ranking.2,
+          ))
+          c.choose_engine.ensures.ranking;
+      cost = rw c.tree-tree.ensures at c.choose_engine.ensures.cost;
+    }
 
 some_none : {A : Type 0} {item : ℕ} → ◌≡◌ {A = Option ℕ} (Some item) None → A
 some_none e = cc
 
-pub returns-in-Some-clause-ranking : goal.returns-in-Some-clause-ranking
-returns-in-Some-clause-ranking g c = λ none. some_none (sym c.in-Some.is ∙ none)
+pub returns-in-Some : goal.returns-in-Some
+returns-in-Some g c =
+    let d = g.R.Rank.KEYS in
+    let key = g.R.Rank.key in
+    let plan = c.args.plan.now in
+    let item : ℕ = c.in-Some.field-0 in
+    record {
+      tree = rw c.tree-tree.ensures at c.best_engine.ensures.tree;
+      calls = c.best_engine.ensures.calls;
+      asked = λ bound tables is.
+          let P : Option ℕ → Type 0 = λ best. IsPlanOf d key bound tables best plan in
+          let at = subst P c.in-Some.is is in
+          let formed : IsFormed d key plan.tree = subst (λ (t : List (NodeView g.row.R.Denot)). IsFormed d key t) c.tree-tree.ensures c.nodes-nodes.ensures.formed in
+          rw c.in-Some.is
+          (IfOk-weaker c.best_engine.result _ _
+          (λ e best.
+          let of_plan = subst (λ (t : List (NodeView g.row.R.Denot)). IsBestRanking t d key best.0) c.tree-tree.ensures best.1 in
+          best_left d key bound tables item plan at formed (rest_of d key e) best.0 of_plan best.2)
+          c.best_engine.ensures.best);
+      ranking = λ none. some_none (sym c.in-Some.is ∙ none);
+      cost = rw c.tree-tree.ensures at c.best_engine.ensures.cost;
+    }
