@@ -24,11 +24,11 @@ ghost use Rattle.verdict.specs.Sides.{seen_by};
 use crate::certificate::print_certificate;
 use crate::load::print_load;
 use crate::plan::print_report;
+use crate::planned_query::{PlannedQueries, PlannedQuery};
 use crate::run::print_run;
 use crate::session::print_script;
 use crate::style::style_in;
 use crate::union::print_union_run;
-use bound_query::Query;
 use hash_keys::Keys;
 use outer_io::{Shelf, Sink};
 use plan_build::{Plan, RankedPlan};
@@ -38,7 +38,6 @@ use session_script::Step;
 use std::alloc::Global;
 use std::sync::ledger::Ledger;
 use step_counter::Steps;
-use table_store::Tables;
 use task_plan::{Input, Planned, Plans, Task, plan_task};
 
 /// Reads or makes the input of the command, plans its query, and prints the command's output. The
@@ -143,11 +142,14 @@ fn print_plan<R: Rank, S: Sink, L: Ledger>(
         (state_of S.Sink out.old) (state_of S.Sink out.new) steps.new result }
 {
     let query = &input.queries[0];
-    let tables = &input.tables;
+    let asked = PlannedQuery {
+        plan,
+        query,
+        tables: &input.tables,
+        best: input.best,
+    };
     let script = input.script.as_slice();
-    print_output(
-        alloc, task, plan, query, tables, input.best, script, out, steps,
-    )
+    print_output(alloc, task, &asked, script, out, steps)
 }
 
 /// Prints the output over several queries, which only `run` may have.
@@ -171,17 +173,12 @@ fn print_branches<R: Rank, S: Sink, L: Ledger>(
         Task::Run(words) => {
             let style = style_in(words);
             let queries = input.queries.as_slice();
-            let tables = &input.tables;
-            print_union_run(
-                alloc,
-                words.engine,
-                &style,
+            let asked = PlannedQueries {
                 plans,
                 queries,
-                tables,
-                out,
-                steps,
-            )
+                tables: &input.tables,
+            };
+            print_union_run(alloc, words.engine, &style, &asked, out, steps)
         }
         _ => Err(PrintFault::NoMemory),
     }
@@ -191,57 +188,35 @@ fn print_branches<R: Rank, S: Sink, L: Ledger>(
 fn print_output<R: Rank, S: Sink, L: Ledger>(
     alloc: Global,
     task: &Task,
-    plan: &Plan<R>,
-    query: &Query,
-    tables: &Tables,
-    best: Option<u32>,
+    asked: &PlannedQuery<'_, R>,
     script: &[Step],
     out: &mut S,
     steps: &mut Steps<L>,
 ) -> Result<(), PrintFault>
-    requires fits { Fits query.now tables.now }
+    requires fits { Fits asked.now.query.now asked.now.tables.now }
     requires rules { KeepsRules [] script.now }
-    requires plan { IsPlanOf R.KEYS R.key query.now tables.now best plan.now }
-    requires unnamed { IsUnnamed (command_of task.now) best }
+    requires plan { IsPlanOf R.KEYS R.key asked.now.query.now asked.now.tables.now asked.now.best
+        asked.now.plan.now }
+    requires unnamed { IsUnnamed (command_of task.now) asked.now.best }
     ensures { (proof : Certificate) → IsAnswered (command_of task.now)
-        (found_by query.now tables.now best script.now proof (shape_of plan.now))
-        (λ before. IsPrepared query.now.query tables.now before steps.old)
+        (found_by asked.now.query.now asked.now.tables.now asked.now.best script.now proof
+        (shape_of asked.now.plan.now))
+        (λ before. IsPrepared asked.now.query.now.query asked.now.tables.now before steps.old)
         (state_of S.Sink out.old) (state_of S.Sink out.new) steps.new result }
 {
     match task {
         Task::Run(words) => {
             let style = style_in(words);
-            print_run(
-                alloc,
-                words.engine,
-                &style,
-                plan,
-                query,
-                tables,
-                best,
-                out,
-                steps,
-            )
+            print_run(alloc, words.engine, &style, asked, out, steps)
         }
-        Task::Plan(_) => print_report(alloc, plan, query, tables, out),
+        Task::Plan(_) => print_report(alloc, asked.plan, asked.query, asked.tables, out),
         Task::Session(_, words) => {
             let style = style_in(words);
-            print_script(
-                alloc,
-                words.engine,
-                &style,
-                plan,
-                query,
-                tables,
-                best,
-                script,
-                out,
-                steps,
-            )
+            print_script(alloc, words.engine, &style, asked, script, out, steps)
         }
-        Task::Load(engine, _) => {
-            print_load(alloc, *engine, plan, query, tables, best, out, steps)
+        Task::Load(engine, _) => print_load(alloc, *engine, asked, out, steps),
+        Task::Prove(words) => {
+            print_certificate(alloc, words.engine, asked.plan, asked.query, out, steps)
         }
-        Task::Prove(words) => print_certificate(alloc, words.engine, plan, query, out, steps),
     }
 }

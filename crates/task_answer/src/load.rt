@@ -9,44 +9,42 @@ ghost use Rattle.refusal_lines.specs.SinkState.{state_of};
 ghost use Rattle.step_bounds.specs.RunBounds.{IsPrepared, KeepsBound};
 ghost use Rattle.verdict.specs.Summary.{summary_text};
 
-use bound_query::Query;
+use crate::planned_query::PlannedQuery;
 use bumpalo::Bump;
 use cmd_words::Engine;
 use command_output::print_summary;
 use outer_io::Sink;
-use plan_build::Plan;
 use plan_engine::engine_over;
 use rank_key::Rank;
 use refusal_lines::PrintFault;
 use std::alloc::Global;
 use std::sync::ledger::Ledger;
 use step_counter::Steps;
-use table_store::Tables;
 
 /// Takes the first answers of the query, as many as the limit allows, and then prints their
 /// summary. `Write` if the write failed, and `NoMemory` if memory is refused.
 pub fn print_load<R: Rank, S: Sink, L: Ledger>(
     alloc: Global,
     engine: Engine,
-    plan: &Plan<R>,
-    query: &Query,
-    tables: &Tables,
-    best: Option<u32>,
+    asked: &PlannedQuery<'_, R>,
     out: &mut S,
     steps: &mut Steps<L>,
 ) -> Result<(), PrintFault>
-    requires fits { Fits query.now tables.now }
-    requires plan { IsPlanOf R.KEYS R.key query.now tables.now best plan.now }
+    requires fits { Fits asked.now.query.now asked.now.tables.now }
+    requires plan { IsPlanOf R.KEYS R.key asked.now.query.now asked.now.tables.now asked.now.best
+        asked.now.plan.now }
     ensures printed { Printed (state_of S.Sink out.old) (state_of S.Sink out.new)
-        (summary_text query.now.query tables.now
-        (cut query.now.query.limit (list_of query.now.query tables.now best))) result }
-    ensures bounded { (before : ℕ) → IsPrepared query.now.query tables.now before steps.old
-        → KeepsBound query.now.query tables.now
-        (list_of query.now.query tables.now best) before steps.new }
+        (summary_text asked.now.query.now.query asked.now.tables.now
+        (cut asked.now.query.now.query.limit
+        (list_of asked.now.query.now.query asked.now.tables.now asked.now.best))) result }
+    ensures bounded { (before : ℕ)
+        → IsPrepared asked.now.query.now.query asked.now.tables.now before steps.old
+        → KeepsBound asked.now.query.now.query asked.now.tables.now
+        (list_of asked.now.query.now.query asked.now.tables.now asked.now.best) before steps.new }
 {
     let arena = Bump::new(alloc);
-    let mut chosen = engine_over(alloc, engine, plan, best, &arena, steps)?;
-    let printed = print_summary(alloc, query, tables, &mut chosen, out, steps);
+    let mut chosen = engine_over(alloc, engine, asked.plan, asked.best, &arena, steps)?;
+    let printed = print_summary(alloc, asked.query, asked.tables, &mut chosen, out, steps);
     drop(chosen);
     printed
 }

@@ -12,13 +12,12 @@ ghost use Rattle.step_bounds.specs.RunBounds.{IsPrepared};
 ghost use Rattle.verdict.specs.Session.{session_text};
 ghost use Rattle.verdict.specs.SessionBound.{KeepsSessionBound};
 
+use crate::planned_query::PlannedQuery;
 use answer_print::Style;
-use bound_query::Query;
 use bumpalo::Bump;
 use cmd_words::Engine;
 use command_output::print_session;
 use outer_io::Sink;
-use plan_build::Plan;
 use plan_engine::engine_over;
 use rank_key::Rank;
 use refusal_lines::PrintFault;
@@ -26,7 +25,6 @@ use session_script::Step;
 use std::alloc::Global;
 use std::sync::ledger::Ledger;
 use step_counter::Steps;
-use table_store::Tables;
 
 /// Prints the header with the title of the cursors' names, and then what the steps of the script
 /// print of the query's answers, as far as the limit allows: of all of them, or of the best answer
@@ -36,25 +34,35 @@ pub fn print_script<R: Rank, S: Sink, L: Ledger>(
     alloc: Global,
     engine: Engine,
     style: &Style<'_>,
-    plan: &Plan<R>,
-    query: &Query,
-    tables: &Tables,
-    best: Option<u32>,
+    asked: &PlannedQuery<'_, R>,
     script: &[Step],
     out: &mut S,
     steps: &mut Steps<L>,
 ) -> Result<(), PrintFault>
-    requires fits { Fits query.now tables.now }
-    requires plan { IsPlanOf R.KEYS R.key query.now tables.now best plan.now }
+    requires fits { Fits asked.now.query.now asked.now.tables.now }
+    requires plan { IsPlanOf R.KEYS R.key asked.now.query.now asked.now.tables.now asked.now.best
+        asked.now.plan.now }
     requires rules { KeepsRules [] script.now }
     ensures printed { Printed (state_of S.Sink out.old) (state_of S.Sink out.new)
-        (session_text query.now.query tables.now (style_view style.now)
-        (cut query.now.query.limit (list_of query.now.query tables.now best)) script.now) result }
-    ensures bounded { (before : ℕ) → IsPrepared query.now.query tables.now before steps.old
-        → KeepsSessionBound query.now.query tables.now
-        (list_of query.now.query tables.now best) script.now before steps.new }
+        (session_text asked.now.query.now.query asked.now.tables.now (style_view style.now)
+        (cut asked.now.query.now.query.limit
+        (list_of asked.now.query.now.query asked.now.tables.now asked.now.best)) script.now) result }
+    ensures bounded { (before : ℕ)
+        → IsPrepared asked.now.query.now.query asked.now.tables.now before steps.old
+        → KeepsSessionBound asked.now.query.now.query asked.now.tables.now
+        (list_of asked.now.query.now.query asked.now.tables.now asked.now.best) script.now before
+        steps.new }
 {
     let arena = Bump::new(alloc);
-    let chosen = engine_over(alloc, engine, plan, best, &arena, steps)?;
-    print_session(alloc, query, tables, style, chosen, script, out, steps)
+    let chosen = engine_over(alloc, engine, asked.plan, asked.best, &arena, steps)?;
+    print_session(
+        alloc,
+        asked.query,
+        asked.tables,
+        style,
+        chosen,
+        script,
+        out,
+        steps,
+    )
 }

@@ -15,8 +15,8 @@ ghost use Rattle.verdict.specs.AcceptedInput.{queries_in};
 ghost use Rattle.verdict.specs.UnionBound.{KeepsUnionBound, KeepsUnionPace};
 ghost use Rattle.task_answer.specs.Begun.{AreStarted, starts_of};
 
+use crate::planned_query::PlannedQueries;
 use answer_print::Style;
-use bound_query::Query;
 use bumpalo::Bump;
 use cmd_words::Engine;
 use command_output::print_union;
@@ -28,7 +28,6 @@ use refusal_lines::PrintFault;
 use std::alloc::Global;
 use std::sync::ledger::Ledger;
 use step_counter::{NoMemory, Steps};
-use table_store::Tables;
 use union_all::Merge;
 
 /// Prints the header, and then the first members of the union of the queries' answers, as many as
@@ -38,38 +37,38 @@ pub fn print_union_run<R: Rank, S: Sink, L: Ledger>(
     alloc: Global,
     engine: Engine,
     style: &Style<'_>,
-    plans: &[Plan<R>],
-    queries: &[Query],
-    tables: &Tables,
+    asked: &PlannedQueries<'_, R>,
     out: &mut S,
     steps: &mut Steps<L>,
 ) -> Result<(), PrintFault>
-    requires some { 1 ≤ length queries.now }
-    requires few { length queries.now ≤ 8 }
-    requires fits { All (λ q. Fits q tables.now) queries.now }
-    requires plans { HavePlans R.KEYS R.key tables.now queries.now plans.now }
-    ensures printed { let all = queries_in queries.now in
+    requires some { 1 ≤ length asked.now.queries.now }
+    requires few { length asked.now.queries.now ≤ 8 }
+    requires fits { All (λ q. Fits q asked.now.tables.now) asked.now.queries.now }
+    requires plans { HavePlans R.KEYS R.key asked.now.tables.now asked.now.queries.now
+        asked.now.plans.now }
+    ensures printed { let all = queries_in asked.now.queries.now in
         Printed (state_of S.Sink out.old) (state_of S.Sink out.new)
-        (union_output_of all tables.now (style_view style.now)
-        (cut (branch_at all 0).limit (union_of all tables.now))) result }
-    ensures bounded { let all = queries_in queries.now in
-        (before : ℕ) → ArePrepared all tables.now before steps.old
-        → KeepsUnionBound all tables.now (cut (branch_at all 0).limit (union_of all tables.now))
-        before steps.new }
-    ensures paced { let all = queries_in queries.now in
-        (before : ℕ) → ArePrepared all tables.now before steps.old
-        → KeepsUnionPace all tables.now (cut (branch_at all 0).limit (union_of all tables.now))
+        (union_output_of all asked.now.tables.now (style_view style.now)
+        (cut (branch_at all 0).limit (union_of all asked.now.tables.now))) result }
+    ensures bounded { let all = queries_in asked.now.queries.now in
+        (before : ℕ) → ArePrepared all asked.now.tables.now before steps.old
+        → KeepsUnionBound all asked.now.tables.now
+        (cut (branch_at all 0).limit (union_of all asked.now.tables.now)) before steps.new }
+    ensures paced { let all = queries_in asked.now.queries.now in
+        (before : ℕ) → ArePrepared all asked.now.tables.now before steps.old
+        → KeepsUnionPace all asked.now.tables.now
+        (cut (branch_at all 0).limit (union_of all asked.now.tables.now))
         (style_view style.now) (S.written out.old) (S.written out.new) before steps.new }
 {
-    let arenas = arenas_for(alloc, plans.len())?;
-    let engines = engines_over(alloc, engine, plans, arenas.as_slice(), steps)?;
-    let mut merge = Merge::new(alloc, queries, tables, engines, steps)?;
+    let arenas = arenas_for(alloc, asked.plans.len())?;
+    let engines = engines_over(alloc, engine, asked.plans, arenas.as_slice(), steps)?;
+    let mut merge = Merge::new(alloc, asked.queries, asked.tables, engines, steps)?;
     print_union(
         alloc,
-        queries,
-        tables,
+        asked.queries,
+        asked.tables,
         style,
-        queries[0].limit(),
+        asked.queries[0].limit(),
         &mut merge,
         out,
         steps,

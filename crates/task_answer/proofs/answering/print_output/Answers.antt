@@ -17,11 +17,11 @@ use Rattle.task_answer.proofs.answering.print_output.Goals as goal
 
 pub returns-in-Run : goal.returns-in-Run
 returns-in-Run g c =
-    let has = plan_shape g.R.Rank.KEYS g.R.Rank.key c.args.query.now c.args.tables.now c.args.plan.now
-    (whole_of g.R.Rank.KEYS g.R.Rank.key c.args.query.now c.args.tables.now c.args.best c.args.plan.now c.requires.plan) in
-    let query = c.args.query.now.query in
-    let tables = c.args.tables.now in
-    let list = list_of query tables c.args.best in
+    let has = plan_shape g.R.Rank.KEYS g.R.Rank.key c.args.asked.now.query.now c.args.asked.now.tables.now c.args.asked.now.plan.now
+    (whole_of g.R.Rank.KEYS g.R.Rank.key c.args.asked.now.query.now c.args.asked.now.tables.now c.args.asked.now.best c.args.asked.now.plan.now c.requires.plan) in
+    let query = c.args.asked.now.query.now.query in
+    let tables = c.args.asked.now.tables.now in
+    let list = list_of query tables c.args.asked.now.best in
     let output = λ (style : Style). output_of query tables style (cut query.limit list) in
     let text = ap output c.style_in-style.ensures in
     let P = λ (style : Style). (before : ℕ) → IsPrepared query tables before c.args.steps.now
@@ -30,8 +30,8 @@ returns-in-Run g c =
     let paced = subst P c.style_in-style.ensures c.print_run.ensures.paced in
     rw c.in-Run.is (λ proof. record {
       printed = printed_some _ _ _ (output (style_view c.style_in-style.result)) _ text c.print_run.ensures.printed;
-      bounded = λ before prepared. c.print_run.ensures.bounded before prepared (shape_of c.args.plan.now) has;
-      paced = λ before prepared. paced before prepared (shape_of c.args.plan.now) has;
+      bounded = λ before prepared. c.print_run.ensures.bounded before prepared (shape_of c.args.asked.now.plan.now) has;
+      paced = λ before prepared. paced before prepared (shape_of c.args.asked.now.plan.now) has;
     })
 
 pub returns-in-Plan : goal.returns-in-Plan
@@ -39,47 +39,47 @@ returns-in-Plan g c =
     rw c.in-Plan.is (λ proof. record {
       printed = printed_some _ _ _ _ _ refl c.print_report.ensures;
       bounded = λ before prepared.
-          prepared_over c.args.query.now.query c.args.tables.now (shape_of c.args.plan.now) before _ 0 prepared;
+          prepared_over c.args.asked.now.query.now.query c.args.asked.now.tables.now (shape_of c.args.asked.now.plan.now) before _ 0 prepared;
       paced = λ before prepared. tt;
     })
 
 pub returns-in-Session : goal.returns-in-Session
 returns-in-Session g c =
-    let has = plan_shape g.R.Rank.KEYS g.R.Rank.key c.args.query.now c.args.tables.now c.args.plan.now
-    (whole_of g.R.Rank.KEYS g.R.Rank.key c.args.query.now c.args.tables.now c.args.best c.args.plan.now c.requires.plan) in
-    let query = c.args.query.now.query in
-    let tables = c.args.tables.now in
+    let has = plan_shape g.R.Rank.KEYS g.R.Rank.key c.args.asked.now.query.now c.args.asked.now.tables.now c.args.asked.now.plan.now
+    (whole_of g.R.Rank.KEYS g.R.Rank.key c.args.asked.now.query.now c.args.asked.now.tables.now c.args.asked.now.best c.args.asked.now.plan.now c.requires.plan) in
+    let query = c.args.asked.now.query.now.query in
+    let tables = c.args.asked.now.tables.now in
     let output = λ (style : Style).
-    session_text query tables style (cut query.limit (list_of query tables c.args.best)) c.args.script.now in
+    session_text query tables style (cut query.limit (list_of query tables c.args.asked.now.best)) c.args.script.now in
     let text = ap output c.style_in-style-in-Session.ensures in
     rw c.in-Session.is (λ proof. record {
       printed = printed_some _ _ _ (output (style_view c.style_in-style-in-Session.result)) _ text c.print_script.ensures.printed;
       bounded = λ before prepared.
-          let least = c.print_script.ensures.bounded before prepared (shape_of c.args.plan.now) has in
+          let least = c.print_script.ensures.bounded before prepared (shape_of c.args.asked.now.plan.now) has in
           omega (arith, least);
       paced = λ before prepared. tt;
     })
 
 pub returns-in-Load : goal.returns-in-Load
 returns-in-Load g c =
-    let has = plan_shape g.R.Rank.KEYS g.R.Rank.key c.args.query.now c.args.tables.now c.args.plan.now
-    (whole_of g.R.Rank.KEYS g.R.Rank.key c.args.query.now c.args.tables.now c.args.best c.args.plan.now c.requires.plan) in
-    let query = c.args.query.now.query in
-    let tables = c.args.tables.now in
-    let text = summary_text query tables (cut query.limit (list_of query tables c.args.best)) in
+    let has = plan_shape g.R.Rank.KEYS g.R.Rank.key c.args.asked.now.query.now c.args.asked.now.tables.now c.args.asked.now.plan.now
+    (whole_of g.R.Rank.KEYS g.R.Rank.key c.args.asked.now.query.now c.args.asked.now.tables.now c.args.asked.now.best c.args.asked.now.plan.now c.requires.plan) in
+    let query = c.args.asked.now.query.now.query in
+    let tables = c.args.asked.now.tables.now in
+    let text = summary_text query tables (cut query.limit (list_of query tables c.args.asked.now.best)) in
     rw c.in-Load.is (λ proof. record {
       printed = printed_some _ _ _ text _ refl c.print_load.ensures.printed;
-      bounded = λ before prepared. c.print_load.ensures.bounded before prepared (shape_of c.args.plan.now) has;
+      bounded = λ before prepared. c.print_load.ensures.bounded before prepared (shape_of c.args.asked.now.plan.now) has;
       paced = λ before prepared. tt;
     })
 
 pub returns-in-Prove : goal.returns-in-Prove
 returns-in-Prove g c =
-    let none : c.args.best ≡ None = subst (λ (t : Task). IsUnnamed (command_of t) c.args.best) c.in-Prove.is c.requires.unnamed in
-    let is = subst (λ (best : Option ℕ). IsPlanOf g.R.Rank.KEYS g.R.Rank.key c.args.query.now c.args.tables.now best c.args.plan.now) none
+    let none : c.args.asked.now.best ≡ None = subst (λ (t : Task). IsUnnamed (command_of t) c.args.asked.now.best) c.in-Prove.is c.requires.unnamed in
+    let is = subst (λ (best : Option ℕ). IsPlanOf g.R.Rank.KEYS g.R.Rank.key c.args.asked.now.query.now c.args.asked.now.tables.now best c.args.asked.now.plan.now) none
     c.requires.plan in
     rw c.in-Prove.is (λ proof. record {
-      printed = c.print_certificate.ensures.printed c.args.tables.now c.requires.fits is;
+      printed = c.print_certificate.ensures.printed c.args.asked.now.tables.now c.requires.fits is;
       bounded = λ before prepared. tt;
       paced = λ before prepared. tt;
     })
@@ -87,35 +87,14 @@ returns-in-Prove g c =
 -- the plan is that of the join tree, since no item is named
 pub print_certificate-requires : goal.print_certificate-requires
 print_certificate-requires g c =
-    let none : c.args.best ≡ None = subst (λ (t : Task). IsUnnamed (command_of t) c.args.best) c.in-Prove.is c.requires.unnamed in
+    let none : c.args.asked.now.best ≡ None = subst (λ (t : Task). IsUnnamed (command_of t) c.args.asked.now.best) c.in-Prove.is c.requires.unnamed in
     record {
       plan = (
-        c.args.tables.now,
+        c.args.asked.now.tables.now,
         c.requires.fits,
-        subst (λ (best : Option ℕ). IsPlanOf g.R.Rank.KEYS g.R.Rank.key c.args.query.now c.args.tables.now best c.args.plan.now) none c.requires.plan,
+        subst (λ (best : Option ℕ). IsPlanOf g.R.Rank.KEYS g.R.Rank.key c.args.asked.now.query.now c.args.asked.now.tables.now best c.args.asked.now.plan.now) none c.requires.plan,
       );
     }
 
 pub print_report-requires : goal.print_report-requires
-print_report-requires g c = record { plan = whole_of g.R.Rank.KEYS g.R.Rank.key c.args.query.now c.args.tables.now c.args.best c.args.plan.now c.requires.plan }
-
-pub print_run-requires-clause-fits : goal.print_run-requires-clause-fits
-print_run-requires-clause-fits g c = c.requires.fits
-
-pub print_run-requires-clause-plan : goal.print_run-requires-clause-plan
-print_run-requires-clause-plan g c = c.requires.plan
-
-pub print_script-requires-clause-fits : goal.print_script-requires-clause-fits
-print_script-requires-clause-fits g c = c.requires.fits
-
-pub print_script-requires-clause-plan : goal.print_script-requires-clause-plan
-print_script-requires-clause-plan g c = c.requires.plan
-
-pub print_script-requires-clause-rules : goal.print_script-requires-clause-rules
-print_script-requires-clause-rules g c = c.requires.rules
-
-pub print_load-requires-clause-fits : goal.print_load-requires-clause-fits
-print_load-requires-clause-fits g c = c.requires.fits
-
-pub print_load-requires-clause-plan : goal.print_load-requires-clause-plan
-print_load-requires-clause-plan g c = c.requires.plan
+print_report-requires g c = record { plan = whole_of g.R.Rank.KEYS g.R.Rank.key c.args.asked.now.query.now c.args.asked.now.tables.now c.args.asked.now.best c.args.asked.now.plan.now c.requires.plan }

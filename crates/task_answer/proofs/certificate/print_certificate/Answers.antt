@@ -16,18 +16,18 @@ returns-in_err-chosen g c = record {
       rw e (none_printed (IsProofText c.args.query.now.query tables) _);
 }
 
-pub print_proof-printed-requires : goal.print_proof-printed-requires
-print_proof-printed-requires g c =
+pub print_proof-printed-requires-clause-planned : goal.print_proof-printed-requires-clause-planned
+print_proof-printed-requires-clause-planned g c =
     let plan = c.requires.plan in
-    let ranking = c.in_ok-chosen.ensures.ranking refl in
-    record {
-      planned = (plan.0, c.args.plan.now, plan.1, plan.2, sym c.tree.ensures);
-      rest = (
-        ranking.0,
-        subst (λ (t : List (NodeView g.row.R.Denot)). IsTreeRanking t g.R.Rank.KEYS g.R.Rank.key ranking.0) (sym c.tree.ensures) ranking.1,
-        ranking.2,
-      );
-    }
+    (plan.0, c.args.plan.now, plan.1, plan.2, sym c.tree.ensures)
+
+pub print_proof-printed-requires-clause-rest : goal.print_proof-printed-requires-clause-rest
+print_proof-printed-requires-clause-rest g c =
+    let ranking = c.in_ok-chosen.ensures.ranking refl in (
+      ranking.0,
+      subst (λ (t : List (NodeView g.row.R.Denot)). IsTreeRanking t g.R.Rank.KEYS g.R.Rank.key ranking.0) (sym c.tree.ensures) ranking.1,
+      ranking.2,
+    )
 
 pub returns : goal.returns
 returns g c =

@@ -7,33 +7,39 @@ use Rattle.plan_build.proofs.ShapeIs.{rows_counted}
 use Rattle.plan_engine.proofs.RunBounds.{called_by, started}
 use Rattle.task_answer.proofs.load.print_load.Goals as goal
 
-pub returns-in_err-chosen-clause-printed : goal.returns-in_err-chosen-clause-printed
-returns-in_err-chosen-clause-printed g c =
-    let e : c.from_residual.result ≡ Err fault.NoMemory = search rules in
-    rw e (unprinted _ _)
-
 pub engine_over-requires : goal.engine_over-requires
-engine_over-requires g c = record { tie_free = (whole_of g.R.Rank.KEYS g.R.Rank.key c.args.query.now c.args.tables.now c.args.best c.args.plan.now c.requires.plan).tie_free }
+engine_over-requires g c = record { tie_free = (whole_of g.R.Rank.KEYS g.R.Rank.key c.args.asked.now.query.now c.args.asked.now.tables.now c.args.asked.now.best c.args.asked.now.plan.now c.requires.plan).tie_free }
 
-pub returns-in_err-chosen-clause-bounded : goal.returns-in_err-chosen-clause-bounded
-returns-in_err-chosen-clause-bounded g c before prepared shape has =
-    let plan = whole_of g.R.Rank.KEYS g.R.Rank.key c.args.query.now c.args.tables.now c.args.best c.args.plan.now c.requires.plan in
-    started g.R.Rank.KEYS g.R.Rank.key c.args.query.now.query c.args.tables.now c.requires.fits.some shape c.args.plan.now plan.nodes
-    (rows_counted g.R.Rank.KEYS g.R.Rank.key c.args.query.now c.args.tables.now c.args.plan.now plan shape has) before c.args.steps.now _ _ prepared c.in_err-chosen.ensures.cost
+pub returns-in_err-chosen : goal.returns-in_err-chosen
+returns-in_err-chosen g c =
+    let query = c.args.asked.now.query.now in
+    let tables = c.args.asked.now.tables.now in
+    let view = c.args.asked.now.plan.now in
+    let plan = whole_of g.R.Rank.KEYS g.R.Rank.key query tables c.args.asked.now.best view c.requires.plan in
+    let e : c.from_residual.result ≡ Err fault.NoMemory = search rules in
+    record {
+      printed = rw e (unprinted _ _);
+      bounded = λ before prepared shape has.
+          started g.R.Rank.KEYS g.R.Rank.key query.query tables c.requires.fits.some shape view plan.nodes
+          (rows_counted g.R.Rank.KEYS g.R.Rank.key query tables view plan shape has) before c.args.steps.now _ _ prepared c.in_err-chosen.ensures.cost;
+    }
 
 pub print_summary-printed-requires-clause-rows : goal.print_summary-printed-requires-clause-rows
-print_summary-printed-requires-clause-rows g c = (c.in_ok-chosen.ensures.asked c.args.query.now c.args.tables.now c.requires.plan).rows
+print_summary-printed-requires-clause-rows g c =
+    (c.in_ok-chosen.ensures.asked c.args.asked.now.query.now c.args.asked.now.tables.now c.requires.plan).rows
 
-pub returns-clause-printed : goal.returns-clause-printed
-returns-clause-printed g c =
-    let left = (c.in_ok-chosen.ensures.asked c.args.query.now c.args.tables.now c.requires.plan).list in
-    rw left at c.print_summary-printed.ensures.printed
-
-pub returns-clause-bounded : goal.returns-clause-bounded
-returns-clause-bounded g c before prepared shape has =
-    let left = (c.in_ok-chosen.ensures.asked c.args.query.now c.args.tables.now c.requires.plan).list in
-    let plan = whole_of g.R.Rank.KEYS g.R.Rank.key c.args.query.now c.args.tables.now c.args.best c.args.plan.now c.requires.plan in
-    called_by g.R.Rank.KEYS g.R.Rank.key c.args.query.now.query c.args.tables.now c.requires.fits.some shape c.args.plan.now plan.nodes
-    (rows_counted g.R.Rank.KEYS g.R.Rank.key c.args.query.now c.args.tables.now c.args.plan.now plan shape has)
-    (tree_of c.in_ok-chosen.chosen) (calls_of c.in_ok-chosen.chosen) c.in_ok-chosen.ensures.tree c.in_ok-chosen.ensures.calls
-    before c.args.steps.now _ _ _ prepared c.in_ok-chosen.ensures.cost (rw left at c.print_summary-printed.ensures.bounded)
+pub returns : goal.returns
+returns g c =
+    let query = c.args.asked.now.query.now in
+    let tables = c.args.asked.now.tables.now in
+    let view = c.args.asked.now.plan.now in
+    let left = (c.in_ok-chosen.ensures.asked query tables c.requires.plan).list in
+    let plan = whole_of g.R.Rank.KEYS g.R.Rank.key query tables c.args.asked.now.best view c.requires.plan in
+    record {
+      printed = rw left at c.print_summary-printed.ensures.printed;
+      bounded = λ before prepared shape has.
+          called_by g.R.Rank.KEYS g.R.Rank.key query.query tables c.requires.fits.some shape view plan.nodes
+          (rows_counted g.R.Rank.KEYS g.R.Rank.key query tables view plan shape has)
+          (tree_of c.in_ok-chosen.chosen) (calls_of c.in_ok-chosen.chosen) c.in_ok-chosen.ensures.tree c.in_ok-chosen.ensures.calls
+          before c.args.steps.now _ _ _ prepared c.in_ok-chosen.ensures.cost (rw left at c.print_summary-printed.ensures.bounded);
+    }

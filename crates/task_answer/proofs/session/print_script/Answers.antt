@@ -11,49 +11,60 @@ use Rattle.plan_build.proofs.ShapeIs.{rows_counted}
 use Rattle.plan_engine.proofs.RunBounds.{called_by, started}
 use Rattle.task_answer.proofs.session.print_script.Goals as goal
 
-pub returns-in_err-chosen-clause-printed : goal.returns-in_err-chosen-clause-printed
-returns-in_err-chosen-clause-printed g c =
-    let e : c.from_residual.result ≡ Err fault.NoMemory = search rules in
-    rw e (unprinted _ _)
-
 pub engine_over-requires : goal.engine_over-requires
-engine_over-requires g c = record { tie_free = (whole_of g.R.Rank.KEYS g.R.Rank.key c.args.query.now c.args.tables.now c.args.best c.args.plan.now c.requires.plan).tie_free }
+engine_over-requires g c = record { tie_free = (whole_of g.R.Rank.KEYS g.R.Rank.key c.args.asked.now.query.now c.args.asked.now.tables.now c.args.asked.now.best c.args.asked.now.plan.now c.requires.plan).tie_free }
 
-pub returns-in_err-chosen-clause-bounded : goal.returns-in_err-chosen-clause-bounded
-returns-in_err-chosen-clause-bounded g c before prepared shape has =
-    let plan = whole_of g.R.Rank.KEYS g.R.Rank.key c.args.query.now c.args.tables.now c.args.best c.args.plan.now c.requires.plan in
-    let query = c.args.query.now.query in
-    let tables = c.args.tables.now in
-    let reach : ℕ = session_reach query.limit (list_of query tables c.args.best) c.args.script.now in
-    let least =
-    started g.R.Rank.KEYS g.R.Rank.key query tables c.requires.fits.some shape c.args.plan.now plan.nodes
-    (rows_counted g.R.Rank.KEYS g.R.Rank.key c.args.query.now tables c.args.plan.now plan shape has) before c.args.steps.now c.engine_over.new.steps reach prepared c.in_err-chosen.ensures.cost in
-    omega (arith, least)
+-- no step was taken for a move of a cursor
+no_moves : (now most moves : ℕ) → now ≤ most → now ≤ most + moves
+no_moves now most moves h = omega (arith, h)
+
+-- the moves of the cursors are apart from the calls
+less_moves : (now most moves : ℕ) → now ≤ most + moves → now - moves ≤ most
+less_moves now most moves h = omega (arith, h)
+
+with_moves : (now most moves : ℕ) → now - moves ≤ most → now ≤ most + moves
+with_moves now most moves h = omega (arith, h)
+
+pub returns-in_err-chosen : goal.returns-in_err-chosen
+returns-in_err-chosen g c =
+    let bound = c.args.asked.now.query.now in
+    let query = bound.query in
+    let tables = c.args.asked.now.tables.now in
+    let view = c.args.asked.now.plan.now in
+    let plan = whole_of g.R.Rank.KEYS g.R.Rank.key bound tables c.args.asked.now.best view c.requires.plan in
+    let reach : ℕ = session_reach query.limit (list_of query tables c.args.asked.now.best) c.args.script.now in
+    let e : c.from_residual.result ≡ Err fault.NoMemory = search rules in
+    record {
+      printed = rw e (unprinted _ _);
+      bounded = λ before prepared shape has.
+          no_moves _ _ _ (started g.R.Rank.KEYS g.R.Rank.key query tables c.requires.fits.some shape view plan.nodes
+          (rows_counted g.R.Rank.KEYS g.R.Rank.key bound tables view plan shape has) before c.args.steps.now c.engine_over.new.steps reach prepared c.in_err-chosen.ensures.cost);
+    }
 
 pub print_session-requires-clause-rows : goal.print_session-requires-clause-rows
-print_session-requires-clause-rows g c = (c.in_ok-chosen.ensures.asked c.args.query.now c.args.tables.now c.requires.plan).rows
+print_session-requires-clause-rows g c =
+    (c.in_ok-chosen.ensures.asked c.args.asked.now.query.now c.args.asked.now.tables.now c.requires.plan).rows
 
-pub returns-clause-printed : goal.returns-clause-printed
-returns-clause-printed g c =
-    let left = (c.in_ok-chosen.ensures.asked c.args.query.now c.args.tables.now c.requires.plan).list in
-    rw left at c.print_session.ensures.printed
-
-pub returns-clause-bounded : goal.returns-clause-bounded
-returns-clause-bounded g c before prepared shape has =
-    let left = (c.in_ok-chosen.ensures.asked c.args.query.now c.args.tables.now c.requires.plan).list in
-    let plan = whole_of g.R.Rank.KEYS g.R.Rank.key c.args.query.now c.args.tables.now c.args.best c.args.plan.now c.requires.plan in
-    let query = c.args.query.now.query in
-    let tables = c.args.tables.now in
-    let list = list_of query tables c.args.best in
+pub returns : goal.returns
+returns g c =
+    let bound = c.args.asked.now.query.now in
+    let query = bound.query in
+    let tables = c.args.asked.now.tables.now in
+    let view = c.args.asked.now.plan.now in
+    let left = (c.in_ok-chosen.ensures.asked bound tables c.requires.plan).list in
+    let plan = whole_of g.R.Rank.KEYS g.R.Rank.key bound tables c.args.asked.now.best view c.requires.plan in
+    let list = list_of query tables c.args.asked.now.best in
     let reach : ℕ = session_reach query.limit list c.args.script.now in
     let moves : ℕ = 4 * session_calls query.limit list c.args.script.now in
     let tree = tree_of c.in_ok-chosen.chosen in
     let calls : ℕ = calls_of c.in_ok-chosen.chosen in
     let spent : c.print_session.new.steps ≤ c.engine_over.new.steps + steps_for (λ n. share_of (size_of tree) (calls + n)) reach + moves = rw left at c.print_session.ensures.bounded in
-    let called : c.print_session.new.steps - moves ≤ c.engine_over.new.steps + steps_for (λ n. share_of (size_of tree) (calls + n)) reach = omega (arith, spent) in
-    let least =
-    called_by g.R.Rank.KEYS g.R.Rank.key query tables c.requires.fits.some shape c.args.plan.now plan.nodes
-    (rows_counted g.R.Rank.KEYS g.R.Rank.key c.args.query.now tables c.args.plan.now plan shape has)
-    tree calls c.in_ok-chosen.ensures.tree c.in_ok-chosen.ensures.calls
-    before c.args.steps.now c.engine_over.new.steps (c.print_session.new.steps - moves) reach prepared c.in_ok-chosen.ensures.cost called in
-    omega (arith, least)
+    record {
+      printed = rw left at c.print_session.ensures.printed;
+      bounded = λ before prepared shape has.
+          with_moves _ _ _ (called_by g.R.Rank.KEYS g.R.Rank.key query tables c.requires.fits.some shape view plan.nodes
+          (rows_counted g.R.Rank.KEYS g.R.Rank.key bound tables view plan shape has)
+          tree calls c.in_ok-chosen.ensures.tree c.in_ok-chosen.ensures.calls
+          before c.args.steps.now c.engine_over.new.steps (c.print_session.new.steps - moves) reach prepared c.in_ok-chosen.ensures.cost
+          (less_moves _ _ _ spent));
+    }

@@ -7,18 +7,6 @@ use Rattle.task_answer.proofs.union.engines_over.Given.{Over}
 use Rattle.task_answer.proofs.union.engines_over.Goals.{After-loop-plan}
 use Rattle.task_answer.proofs.union.engines_over.Goals as goal
 
-pub returns-in_err-started-clause-cost : goal.returns-in_err-started-clause-cost
-returns-in_err-started-clause-cost g c =
-    some_spent g.R.Rank.KEYS g.R.Rank.key c.args.plans.now c.loop-plan.plan-index c.loop-plan.engines.items
-    c.args.steps.now c.loop-plan.steps _ c.plan-item.result
-    c.loop-plan.invariant c.loop-plan-test.true c.plan-item.is c.engine_over.ensures.cost
-
-pub returns-in_err-push-clause-cost : goal.returns-in_err-push-clause-cost
-returns-in_err-push-clause-cost g c =
-    some_spent g.R.Rank.KEYS g.R.Rank.key c.args.plans.now c.loop-plan.plan-index c.loop-plan.engines.items
-    c.args.steps.now c.loop-plan.steps _ c.plan-item.result
-    c.loop-plan.invariant c.loop-plan-test.true c.plan-item.is c.engine_over.ensures.cost
-
 pub loop-plan-preserved : goal.loop-plan-preserved
 loop-plan-preserved g c =
     rw c.in_ok-push.ensures.items
@@ -32,14 +20,27 @@ loop-plan-preserved g c =
           c.in_ok-started.ensures.asked;
     }) c.engine_over.ensures.cost)
 
-pub returns-in_err-engines-clause-started : goal.returns-in_err-engines-clause-started
-returns-in_err-engines-clause-started g c = IfOk-from_err c.from_residual.result _ c.from_residual.ensures.0
+pub returns-in_err-engines : goal.returns-in_err-engines
+returns-in_err-engines g c = record {
+  started = IfOk-from_err c.from_residual.result _ c.from_residual.ensures.0;
+  cost = omega arith;
+}
 
-pub returns-in_err-started-clause-started : goal.returns-in_err-started-clause-started
-returns-in_err-started-clause-started g c = IfOk-from_err c.from_residual-in_err-started.result _ c.from_residual-in_err-started.ensures.0
+pub returns-in_err-started : goal.returns-in_err-started
+returns-in_err-started g c = record {
+  started = IfOk-from_err c.from_residual-in_err-started.result _ c.from_residual-in_err-started.ensures.0;
+  cost = some_spent g.R.Rank.KEYS g.R.Rank.key c.args.plans.now c.loop-plan.plan-index c.loop-plan.engines.items
+      c.args.steps.now c.loop-plan.steps _ c.plan-item.result
+      c.loop-plan.invariant c.loop-plan-test.true c.plan-item.is c.engine_over.ensures.cost;
+}
 
-pub returns-in_err-push-clause-started : goal.returns-in_err-push-clause-started
-returns-in_err-push-clause-started g c = IfOk-from_err c.from_residual-in_err-push.result _ c.from_residual-in_err-push.ensures.0
+pub returns-in_err-push : goal.returns-in_err-push
+returns-in_err-push g c = record {
+  started = IfOk-from_err c.from_residual-in_err-push.result _ c.from_residual-in_err-push.ensures.0;
+  cost = some_spent g.R.Rank.KEYS g.R.Rank.key c.args.plans.now c.loop-plan.plan-index c.loop-plan.engines.items
+      c.args.steps.now c.loop-plan.steps _ c.plan-item.result
+      c.loop-plan.invariant c.loop-plan-test.true c.plan-item.is c.engine_over.ensures.cost;
+}
 
 pub loop-plan-init : goal.loop-plan-init
 loop-plan-init g c =
@@ -53,12 +54,12 @@ module _ (g : Over) where
       let taken = length-take c.loop-plan.plan-index c.args.plans.now in
       omega (arith, c.loop-plan-test.false, long, taken, c.loop-plan.invariant.count)
 
-pub returns-clause-started : goal.returns-clause-started
-returns-clause-started g c =
-    all_started g.R.Rank.KEYS g.R.Rank.key c.args.plans.now c.loop-plan.plan-index c.loop-plan.engines.items
-    c.args.steps.now c.loop-plan.steps c.loop-plan.invariant (whole_of g c)
-
-pub returns-clause-cost : goal.returns-clause-cost
-returns-clause-cost g c =
-    all_spent g.R.Rank.KEYS g.R.Rank.key c.args.plans.now c.loop-plan.plan-index c.loop-plan.engines.items
-    c.args.steps.now c.loop-plan.steps c.loop-plan.invariant (whole_of g c)
+pub returns : goal.returns
+returns g c =
+    let whole = whole_of g (goal.at.returns g c).After-loop-plan in
+    record {
+      started = all_started g.R.Rank.KEYS g.R.Rank.key c.args.plans.now c.loop-plan.plan-index c.loop-plan.engines.items
+          c.args.steps.now c.loop-plan.steps c.loop-plan.invariant whole;
+      cost = all_spent g.R.Rank.KEYS g.R.Rank.key c.args.plans.now c.loop-plan.plan-index c.loop-plan.engines.items
+          c.args.steps.now c.loop-plan.steps c.loop-plan.invariant whole;
+    }
