@@ -1,5 +1,5 @@
 -- An input whose certificate is checked.
-use Rattle.std.proofs.Common.{◌≡◌, ◌∙◌, ℕ, zero, suc, List, [], ◌∷◌, length, map, take, slice_index, inl, inr, Option, None, Result, Ok, Err, IfOk, refl, sym, ap, subst, arith}
+use Rattle.std.proofs.Common.{◌≡◌, ◌∙◌, ℕ, zero, suc, List, [], ◌∷◌, length, map, take, slice_index, inl, inr, Option, None, Result, Ok, Err, IfErr, OnOk, refl, sym, ap, subst, arith}
 use Rattle.std.specs.List.{AllByRecursion}
 use Rattle.std.proofs.lemmas.List.{length-map}
 use Rattle.anyk_model.specs.Output.{output_of}
@@ -23,6 +23,12 @@ use Rattle.query_shape.specs.declared.fault.ShapeFault.TheVariants as cycle
 use Rattle.query_shape.specs.Shape.{HasNodeRows, HasShape, HasTree, IsShape, Shape, cyclic, too_many_rows}
 use Rattle.query_shape.specs.JoinTreeView.{HasStoredTree, TellsCycle}
 use Rattle.rankings.specs.Order.{IsMember}
+use Rattle.outer_io.specs.Files.{Files}
+use Rattle.refusal_lines.proofs.Prints.{appends_nothing, printed_some}
+use Rattle.refusal_lines.specs.Printing as print
+use Rattle.refusal_lines.specs.Printing.{Printed}
+use Rattle.refusal_lines.specs.SinkState.{SinkState}
+use Rattle.refusal_lines.specs.declared.fault.PrintFault.{PrintFault}
 use Rattle.refusal_lines.specs.declared.refusal.Refusal.{Refusal}
 use Rattle.refusal_lines.specs.RefusalReasons.{reason_of}
 use Rattle.query_shape.proofs.OneShape.{one_tree}
@@ -32,16 +38,19 @@ use Rattle.session_script.specs.declared.step.Step.{Step}
 use Rattle.task_plan.specs.Input.{InputView, loaded_of}
 use Rattle.task_plan.specs.Turns.{IsTurn}
 use Rattle.verdict.specs.Faults.{of_proof}
-use Rattle.verdict.specs.Output.{answers_text, style_of}
+use Rattle.verdict.specs.Outcome.{GotNothing, IsCaused, IsComplete, IsCut, IsReason, Outside}
+use Rattle.verdict.specs.Output.{HasOutput, answers_text, style_of}
 use Rattle.verdict.specs.AcceptedInput.{Found, found_of, queries_in}
 use Rattle.verdict.specs.Loading.{Loaded}
 use Rattle.verdict.specs.StageResults.{NoTurn, Pure, Shelved}
 use Rattle.verdict.specs.Stages.{Then, followed, refused}
 use Rattle.verdict.specs.Verdict.{IsLoadedOn, IsShaped, IsStructure, IsVerdict, IsVerified}
-use Rattle.verdict.specs.Words.{Words, built, verify, sought_by}
+use Rattle.verdict.specs.Words.{Command, Words, built, verify, sought_by}
+use Rattle.verdict.proofs.Printed.{printed_caused, printed_complete, printed_cut, printed_fits}
 use Rattle.verdict.proofs.Staging.{found_within, pure_staged}
-use Rattle.task_verify.specs.Verifications.{HasAnswers, IsChecked, IsCheckedFor, IsVerifiedIn, shape_reason, done_result_view}
-use Rattle.task_verify.specs.declared.verify.Checked.{Checked}
+use Rattle.task_plan.proofs.Ends.{judged_accepts, judged_caused, judged_cut, judged_reason}
+use Rattle.task_verify.specs.Verifications.{HasAnswers, IsCheckedFor, IsShown, check_reason, rejected, shape_reason, shown}
+use Rattle.task_verify.specs.declared.fault.CheckFault.{CheckFault}
 use Rattle.task_plan.specs.Judgement.{IsJudgedOn, IsLookedUp}
 
 -- ---- stages that read no file
@@ -189,14 +198,29 @@ with_queries input queries = record {
   proof = input.proof;
 }
 
-pub verified_in : {A : Type 0} (input : InputView) (query : BoundQuery) → input.queries ≡ query ∷ [] → (r : Result A Refusal)
-    → Pure (IsCheckedFor query.query input.tables input.proof) (done_result_view r) → IsVerifiedIn (loaded_of input) r
-verified_in {A} input query only (Ok a) h =
-    subst (λ (qs : List BoundQuery). IsVerifiedIn {A = A} (with_queries input qs) (Ok a)) (sym only)
-    (checked_found query.query input.tables input.best input.steps input.proof h)
-verified_in {A} input query only (Err refusal) h =
-    subst (λ (qs : List BoundQuery). IsVerifiedIn {A = A} (with_queries input qs) (Err refusal)) (sym only)
-    (checked_refused query.query input.tables input.best input.steps input.proof (reason_of refusal) h)
+abbrev IsTold : InputView → List BoundQuery → Result Found Reason → Type 0
+IsTold input queries = Then (IsShaped (with_queries input queries)) IsVerified
+
+-- its certificate is valid, and its answers were printed
+pub shown_in : (words : Words) (input : InputView) (query : BoundQuery) → input.queries ≡ query ∷ [] → (old new : SinkState)
+    (r : Result (Unit {0}) PrintFault) → IsCheckedFor query.query input.tables input.proof (Ok tt)
+    → ((shape : Shape) → Printed old new (answers_text words (found_of (loaded_of input) (shape ∷ []))) r)
+    → IsShown words (loaded_of input) old new (print.refused r)
+shown_in words input query only old new r checked printed =
+    let told = checked_found query.query input.tables input.best input.steps input.proof checked in
+    let found : List BoundQuery → Found = λ qs. found_of (with_queries input qs) (told.0 ∷ []) in
+    shown told.0 r (subst (λ (qs : List BoundQuery). IsTold input qs (Ok (found qs))) (sym only) told.1) (printed told.0)
+
+-- it is not, or the query has no structure, and nothing was printed
+pub rejected_in : (words : Words) (input : InputView) (query : BoundQuery) → input.queries ≡ query ∷ [] → (s : SinkState)
+    (fault : CheckFault) (refusal : Refusal) → reason_of refusal ≡ check_reason fault
+    → Pure (IsCheckedFor query.query input.tables input.proof) (Err (check_reason fault))
+    → IsShown words (loaded_of input) s s (Err refusal)
+rejected_in words input query only s fault refusal same checked =
+    let told = checked_refused query.query input.tables input.best input.steps input.proof (check_reason fault) checked in
+    let P : List BoundQuery → Reason → Type 0 = λ qs a. Pure (IsTold input qs) (Err a) in
+    rejected {refusal = refusal} (subst (λ (qs : List BoundQuery). P qs (reason_of refusal)) (sym only) (subst (P (query ∷ [])) (sym same) told))
+    (appends_nothing s.written)
 
 -- the answers are rows of the items
 combine_all : (query : Query) (tables : List Table) (n : ℕ) (answers : List (List ℕ))
@@ -230,14 +254,55 @@ answers_shown words input shape answers h =
     ap (output_of h.query.query input.tables (style_of words)) h.listed
     ∙ sym (ap (text (h.query ∷ [])) h.unnamed) ∙ sym (ap (λ (qs : List BoundQuery). text qs input.best) h.only)
 
-pub looked_checked : (proof : List ℕ) (words : Words) (before after : Shelved) (input : InputView) (r : Result Checked Refusal)
-    → IsLookedUp (sought_by (verify proof words)) before after (Ok (loaded_of input))
-    → IfOk r (λ checked. checked.input ≡ input) → IsVerifiedIn (loaded_of input) r
-    → IsChecked (verify proof words) before after r
-looked_checked proof words before after input (Ok checked) looked same verified = (
-  verified.0,
-  subst (λ (i : InputView). IsJudgedOn (verify proof words) before after (Ok (found_of (loaded_of i) (verified.0 ∷ [])))) (sym same)
-      (looked_verified proof words before after (loaded_of input) (Ok (found_of (loaded_of input) (verified.0 ∷ []))) looked verified.1),
-)
-looked_checked proof words before after input (Err refusal) looked same verified =
-    looked_verified proof words before after (loaded_of input) (Err (reason_of refusal)) looked verified
+-- ---- how the command ends
+
+pub record Ends (command : Command) (told : Option Files) (old new : Outside) (r : Result (Unit {0}) Refusal) : Type 0 where
+  pub done : OnOk r (IsComplete (built command) told old new)
+  pub fits : IfErr r (λ refusal. IsReason (built command) told (reason_of refusal))
+  pub caused : IfErr r (λ refusal. IsCaused old new (reason_of refusal))
+  pub cut : IfErr r (λ refusal. IsCut (built command) told old new (reason_of refusal))
+
+-- the counts of the shelf, as the outside has them
+abbrev shelf_of : Option Files → Outside → Shelved
+shelf_of files outside =
+    record { files = files; misses = outside.misses; faults = outside.read_faults; taken = outside.taken }
+
+-- and those of the sink for the output
+abbrev sink_of : Outside → SinkState
+sink_of outside = record { written = outside.output; faults = outside.write_faults }
+
+-- the input or its certificate was refused, and nothing was written
+pub refused_ends : (proof : List ℕ) (words : Words) (files files' : Option Files) (old new : Outside) (refusal : Refusal)
+    → IsJudgedOn (verify proof words) (shelf_of files old) (shelf_of files' new) (Err (reason_of refusal)) → GotNothing old new
+    → Ends (verify proof words) files old new (Err refusal)
+refused_ends proof words files files' old new refusal judged nothing =
+    let command = verify proof words in
+    let before = shelf_of files old in
+    let after = shelf_of files' new in
+    let a = reason_of refusal in
+    record {
+      done = tt;
+      fits = judged_reason command before after a judged;
+      caused = judged_caused command old new files files' a judged;
+      cut = judged_cut command before after old new a judged nothing;
+    }
+
+-- after the input was read
+pub verified_ends : (proof : List ℕ) (words : Words) (files files' : Option Files) (old new : Outside) (loaded : Loaded)
+    (r : Result (Unit {0}) Refusal) → IsLookedUp (sought_by (verify proof words)) (shelf_of files old) (shelf_of files' new) (Ok loaded)
+    → IsShown words loaded (sink_of old) (sink_of new) r → Ends (verify proof words) files old new r
+verified_ends proof words files files' old new loaded _ looked (rejected {refusal} told nothing) =
+    refused_ends proof words files files' old new refusal
+    (looked_verified proof words (shelf_of files old) (shelf_of files' new) loaded (Err (reason_of refusal)) looked told) nothing
+verified_ends proof words files files' old new loaded _ looked (shown shape r verified printed) =
+    let command = verify proof words in
+    let found = found_of loaded (shape ∷ []) in
+    let judged = looked_verified proof words (shelf_of files old) (shelf_of files' new) loaded (Ok found) looked verified in
+    let accepts = judged_accepts command (shelf_of files old) (shelf_of files' new) found judged in
+    let some = printed_some (HasOutput command found) (sink_of old) (sink_of new) _ r refl printed in
+    record {
+      done = printed_complete command files old new found r accepts some.whole;
+      fits = printed_fits command files old new found accepts r some.cause;
+      caused = printed_caused command files old new found accepts r some.cause;
+      cut = printed_cut command files old new found accepts r some.cause some.part;
+    }

@@ -1,50 +1,49 @@
 //! Whether a certificate is valid for the query of an input.
-ghost use Rattle.std.specs.Prelude.{◌≡◌, ◌≤◌, IfErr, IfOk, List, None, length};
+ghost use Rattle.std.specs.Prelude.{◌≡◌, ◌≤◌, IfOk, length};
 ghost use Rattle.anyk_model.specs.Output.{cut};
 ghost use Rattle.anyk_model.specs.Ranking.{ranking_of};
-ghost use Rattle.anyk_model.specs.Table.{Table};
 ghost use Rattle.join_tree.specs.Rerooting.{IsTree};
 ghost use Rattle.node_build.specs.Nodes.{CapsBelow};
 ghost use Rattle.proof_check.specs.RowLists.{item_rows};
 ghost use Rattle.proof_text.specs.ProofView.{proof_view};
 ghost use Rattle.bound_query.specs.WeighedQuery.{Fits};
 ghost use Rattle.query_shape.specs.JoinTreeView.{HasItems, HasStoredTree};
-ghost use Rattle.refusal_lines.specs.RefusalReasons.{reason_of};
 ghost use Rattle.verdict.specs.StageResults.{Pure};
-ghost use Rattle.verdict.specs.Verdict.{IsStructure};
-ghost use Rattle.task_verify.specs.Verifications.{IsCheckedFor, shape_reason, done_result_view};
+ghost use Rattle.task_verify.specs.Verifications.{IsCheckedFor, done_result_view};
 
+use crate::fault::CheckFault;
 use bound_query::Query;
 use join_tree::JoinTree;
 use proof_check::verify;
 use proof_text::Proof;
-use query_shape::{ShapeFault, tree_shape};
+use query_shape::tree_shape;
 use rank_key::{LexRank, Rank, SumRank};
-use refusal_lines::Refusal;
 use std::alloc::Global;
 use std::sync::ledger::Ledger;
 use step_counter::Steps;
 use table_store::Tables;
-use task_plan::proof_refusal;
 
 /// The answers that a certificate lists, which are the first answers of the query: for each a row
 /// for each item, from 1, and 0 past the last item. `Cyclic` if the query has no join tree,
-/// `TooManyNodeRows` if its nodes have too many rows, and then the refusal for the certificate's
-/// first flaw. `NoMemory` if memory is refused.
-pub(crate) fn check_proof<'a, L: Ledger>(
+/// `TooManyRows` if its nodes have too many rows, and then the certificate's first flaw.
+/// `NoMemory` if memory is refused.
+pub(crate) fn check_proof<L: Ledger>(
     alloc: Global,
     query: &Query,
     tables: &Tables,
     proof: &Proof,
     steps: &mut Steps<L>,
-) -> Result<Vec<[u32; 16]>, Refusal<'a>>
+) -> Result<Vec<[u32; 16]>, CheckFault>
     requires fits { Fits query.now tables.now }
     ensures checked { Pure (IsCheckedFor query.now.query tables.now (proof_view proof.now))
         (done_result_view result) }
     ensures answers { IfOk result (λ found. item_rows query.now.query found.items
         ≡ cut query.now.query.limit (ranking_of query.now.query tables.now)) }
 {
-    let join = join_of(query)?;
+    let join = match tree_shape(query) {
+        Ok(join) => join,
+        Err(fault) => return Err(CheckFault::Shape(fault)),
+    };
     // there are at most 16 items
     let _items = query.items();
     if query.keys() <= 1 {
@@ -54,43 +53,15 @@ pub(crate) fn check_proof<'a, L: Ledger>(
     }
 }
 
-/// The join tree of the query. `Cyclic` if it has none.
-fn join_of<'a>(query: &Query) -> Result<JoinTree, Refusal<'a>>
-    requires fits { (tables : List Table) × Fits query.now tables }
-    ensures tree { IfOk result (λ join. HasStoredTree query.now.query join) }
-    ensures ordered { IfOk result (λ join. IsTree join.count join.atom join.parent) }
-    ensures count { IfOk result (λ join. join.count ≡ length query.now.query.items) }
-    ensures items { IfOk result
-        (λ join. HasItems join.count join.atom (length query.now.query.items)) }
-    ensures refusal { (tables : List Table)
-        → IfErr result (λ refusal. Pure (IsStructure None tables query.now.query)
-        (Err (reason_of refusal))) }
-{
-    match tree_shape(query) {
-        Ok(join) => Ok(join),
-        Err(fault) => Err(shape_refusal(fault)),
-    }
-}
-
-/// The refusal for a query that has no join tree.
-fn shape_refusal<'a>(fault: ShapeFault) -> Refusal<'a>
-    ensures { reason_of result ≡ shape_reason fault }
-{
-    match fault {
-        ShapeFault::Cyclic(core) => Refusal::Cyclic { branch: None, core },
-        ShapeFault::NoMemory => Refusal::NoMemory,
-    }
-}
-
 /// The answers that a certificate lists, by one rank type.
-fn listed_answers<'a, R: Rank, L: Ledger>(
+fn listed_answers<R: Rank, L: Ledger>(
     alloc: Global,
     query: &Query,
     tables: &Tables,
     join: &JoinTree,
     proof: &Proof,
     steps: &mut Steps<L>,
-) -> Result<Vec<[u32; 16]>, Refusal<'a>>
+) -> Result<Vec<[u32; 16]>, CheckFault>
     requires fits { Fits query.now tables.now }
     requires keys { length query.now.query.order ≤ R.KEYS }
     requires slots { length query.now.query.items ≤ R.ITEMS }
@@ -106,6 +77,6 @@ fn listed_answers<'a, R: Rank, L: Ledger>(
 {
     match verify::<R, L>(alloc, query, tables, join, proof, steps) {
         Ok(answers) => Ok(answers),
-        Err(fault) => Err(proof_refusal(fault)),
+        Err(fault) => Err(CheckFault::Proof(fault)),
     }
 }

@@ -19,6 +19,5 @@ returns-in-Ok-clause-answers g c =
 
 pub returns-in-Err-clause-checked : goal.returns-in-Err-clause-checked
 returns-in-Err-clause-checked g c =
-    rw c.proof_refusal.ensures
-    (flaw_checked c.args.query.now.query c.args.tables.now c.args.join.now (proof_view c.args.proof.now) c.requires.tree c.in-Err.fault
-    c.in-Err.ensures.fault)
+    flaw_checked c.args.query.now.query c.args.tables.now c.args.join.now (proof_view c.args.proof.now) c.requires.tree c.in-Err.fault
+    c.in-Err.ensures.fault
