@@ -55,30 +55,11 @@ fn session_of(words: Words) -> Result<Request, WordsFault>
     ensures early { IfErr result
         (λ fault. IsEarly (asked_of (Some (command_view (Command.Session words)))) fault) }
 {
-    let Words {
-        engine,
-        ranks,
-        rows,
-        script,
-        proof,
-        best_of,
-        query,
-        tables,
-    } = words;
-    let Some(script) = script else {
-        return Err(WordsFault::Usage);
-    };
-    let others = Words {
-        engine,
-        ranks,
-        rows,
-        script: None,
-        proof,
-        best_of,
-        query,
-        tables,
-    };
-    Ok(Request::Planned(Task::Session(script, others)))
+    let mut words = words;
+    match words.script.take() {
+        Some(script) => Ok(Request::Planned(Task::Session(script, words))),
+        None => Err(WordsFault::Usage),
+    }
 }
 
 /// The check that these words ask for. `Usage` if they name no certificate.
@@ -89,28 +70,9 @@ fn verify_of(words: Words) -> Result<Request, WordsFault>
     ensures early { IfErr result
         (λ fault. IsEarly (asked_of (Some (command_view (Command.Verify words)))) fault) }
 {
-    let Words {
-        engine,
-        ranks,
-        rows,
-        script,
-        proof,
-        best_of,
-        query,
-        tables,
-    } = words;
-    let Some(proof) = proof else {
-        return Err(WordsFault::Usage);
-    };
-    let others = Words {
-        engine,
-        ranks,
-        rows,
-        script,
-        proof: None,
-        best_of,
-        query,
-        tables,
-    };
-    Ok(Request::Verify(proof, others))
+    let mut words = words;
+    match words.proof.take() {
+        Some(proof) => Ok(Request::Verify(proof, words)),
+        None => Err(WordsFault::Usage),
+    }
 }

@@ -21,38 +21,26 @@ verify_prompt proof words (Some files) old new before now = λ found verdict. tt
 
 -- # The parts of an answer
 
-pub returns-in-Planned-clause-done : goal.returns-in-Planned-clause-done
-returns-in-Planned-clause-done g c = rw c.in-Planned.is c.answer_task.ensures.done
+pub returns-in-Planned : goal.returns-in-Planned
+returns-in-Planned g c = record {
+  done = rw c.in-Planned.is c.answer_task.ensures.done;
+  fits = rw c.in-Planned.is c.answer_task.ensures.fits;
+  caused = c.answer_task.ensures.caused;
+  cut = rw c.in-Planned.is c.answer_task.ensures.cut;
+  bounded = rw c.in-Planned.is c.answer_task.ensures.bounded;
+  prompt = rw c.in-Planned.is c.answer_task.ensures.prompt;
+}
 
-pub returns-in-Planned-clause-fits : goal.returns-in-Planned-clause-fits
-returns-in-Planned-clause-fits g c = rw c.in-Planned.is c.answer_task.ensures.fits
-
-pub returns-in-Planned-clause-cut : goal.returns-in-Planned-clause-cut
-returns-in-Planned-clause-cut g c = rw c.in-Planned.is c.answer_task.ensures.cut
-
-pub returns-in-Planned-clause-bounded : goal.returns-in-Planned-clause-bounded
-returns-in-Planned-clause-bounded g c = rw c.in-Planned.is c.answer_task.ensures.bounded
-
-pub returns-in-Planned-clause-prompt : goal.returns-in-Planned-clause-prompt
-returns-in-Planned-clause-prompt g c = rw c.in-Planned.is c.answer_task.ensures.prompt
-
-pub returns-in-Verify-clause-done : goal.returns-in-Verify-clause-done
-returns-in-Verify-clause-done g c = rw c.in-Verify.is (rw c.as_str.ensures.value at c.answer_verified.ensures.done)
-
-pub returns-in-Verify-clause-fits : goal.returns-in-Verify-clause-fits
-returns-in-Verify-clause-fits g c = rw c.in-Verify.is (rw c.as_str.ensures.value at c.answer_verified.ensures.fits)
-
-pub returns-in-Verify-clause-cut : goal.returns-in-Verify-clause-cut
-returns-in-Verify-clause-cut g c = rw c.in-Verify.is (rw c.as_str.ensures.value at c.answer_verified.ensures.cut)
-
-pub returns-in-Verify-clause-bounded : goal.returns-in-Verify-clause-bounded
-returns-in-Verify-clause-bounded g c =
-    rw c.in-Verify.is
-    (verify_bounded (string_bytes c.in-Verify.proof) (words_of (words_view c.in-Verify.words)) (g.F.Shelf.files c.args.shelf.now)
-    c.args.steps.now c.answer_verified.new.steps)
-
-pub returns-in-Verify-clause-prompt : goal.returns-in-Verify-clause-prompt
-returns-in-Verify-clause-prompt g c =
-    rw c.in-Verify.is
-    (verify_prompt (string_bytes c.in-Verify.proof) (words_of (words_view c.in-Verify.words)) (g.F.Shelf.files c.args.shelf.now)
-    (g.S.Sink.written c.args.out.now) (g.S.Sink.written c.answer_verified.new.out) c.args.steps.now c.answer_verified.new.steps)
+pub returns-in-Verify : goal.returns-in-Verify
+returns-in-Verify g c =
+    let proof : List ℕ = string_bytes c.in-Verify.proof in
+    let words = words_of (words_view c.in-Verify.words) in
+    record {
+      done = rw c.in-Verify.is (rw c.as_str.ensures.value at c.answer_verified.ensures.done);
+      fits = rw c.in-Verify.is (rw c.as_str.ensures.value at c.answer_verified.ensures.fits);
+      caused = c.answer_verified.ensures.caused;
+      cut = rw c.in-Verify.is (rw c.as_str.ensures.value at c.answer_verified.ensures.cut);
+      bounded = rw c.in-Verify.is (verify_bounded proof words (g.F.Shelf.files c.args.shelf.now) c.args.steps.now c.answer_verified.new.steps);
+      prompt = rw c.in-Verify.is (verify_prompt proof words (g.F.Shelf.files c.args.shelf.now)
+          (g.S.Sink.written c.args.out.now) (g.S.Sink.written c.answer_verified.new.out) c.args.steps.now c.answer_verified.new.steps);
+    }

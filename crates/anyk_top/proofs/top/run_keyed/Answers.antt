@@ -13,29 +13,26 @@ use Rattle.refusal_lines.specs.SinkState.{state_of}
 use Rattle.refusal_lines.proofs.Prints.{appends_nothing}
 use Rattle.anyk_top.proofs.top.run_keyed.Goals as goal
 
-pub returns-in-Ok-clause-outcome : goal.returns-in-Ok-clause-outcome
-returns-in-Ok-clause-outcome g c =
+pub returns-in-Ok : goal.returns-in-Ok
+returns-in-Ok g c =
     let old : Outside = seen_by g.F.Shelf g.S.Sink c.args.shelf.now c.args.out.now in
     let new : Outside = seen_by g.F.Shelf g.S.Sink c.answer.new.shelf c.answer.new.out in
-    rw c.in-Ok.ensures.built
-    (built_outcome (asked_by c.in-Ok.request) (known_to (built (asked_by c.in-Ok.request)) (g.F.Shelf.files c.args.shelf.now)) old new
-    (state_of g.E.Sink c.args.err.now) (state_of g.E.Sink c.finish-status.new.err)
-    c.answer.result c.finish-status.result c.answer.ensures.done c.answer.ensures.fits c.answer.ensures.caused c.answer.ensures.cut c.finish-status.ensures)
+    let command = asked_by c.in-Ok.request in
+    record {
+      outcome = rw c.in-Ok.ensures.built
+          (built_outcome command (known_to (built command) (g.F.Shelf.files c.args.shelf.now)) old new
+          (state_of g.E.Sink c.args.err.now) (state_of g.E.Sink c.finish-status.new.err)
+          c.answer.result c.finish-status.result c.answer.ensures.done c.answer.ensures.fits c.answer.ensures.caused c.answer.ensures.cut c.finish-status.ensures);
+      bounded = rw c.in-Ok.ensures.built c.answer.ensures.bounded;
+      prompt = rw c.in-Ok.ensures.built c.answer.ensures.prompt;
+    }
 
-pub returns-in-Err-clause-outcome : goal.returns-in-Err-clause-outcome
-returns-in-Err-clause-outcome g c = early_outcome _ _ _ _ c.in-Err.fault _ _ c.in-Err.ensures.early c.refusal_of.ensures (appends_nothing _) c.finish.ensures
-
-pub returns-in-Ok-clause-bounded : goal.returns-in-Ok-clause-bounded
-returns-in-Ok-clause-bounded g c = rw c.in-Ok.ensures.built c.answer.ensures.bounded
-
-pub returns-in-Ok-clause-prompt : goal.returns-in-Ok-clause-prompt
-returns-in-Ok-clause-prompt g c = rw c.in-Ok.ensures.built c.answer.ensures.prompt
-
-pub returns-in-Err-clause-bounded : goal.returns-in-Err-clause-bounded
-returns-in-Err-clause-bounded g c = bounded_still (asked_of (said_of (map string_bytes c.args.words.now)))
-    (known_to (asked_of (said_of (map string_bytes c.args.words.now))) (g.F.Shelf.files c.args.shelf.now)) c.args.steps.now
-
-pub returns-in-Err-clause-prompt : goal.returns-in-Err-clause-prompt
-returns-in-Err-clause-prompt g c =
-    prompt_still (asked_of (said_of (map string_bytes c.args.words.now)))
-    (known_to (asked_of (said_of (map string_bytes c.args.words.now))) (g.F.Shelf.files c.args.shelf.now)) (g.S.Sink.written c.args.out.now) (g.S.Sink.written c.args.out.now) c.args.steps.now
+pub returns-in-Err : goal.returns-in-Err
+returns-in-Err g c =
+    let asked = asked_of (said_of (map string_bytes c.args.words.now)) in
+    let told = known_to asked (g.F.Shelf.files c.args.shelf.now) in
+    record {
+      outcome = early_outcome _ _ _ _ c.in-Err.fault _ _ c.in-Err.ensures.early c.refusal_of.ensures (appends_nothing _) c.finish.ensures;
+      bounded = bounded_still asked told c.args.steps.now;
+      prompt = prompt_still asked told (g.S.Sink.written c.args.out.now) (g.S.Sink.written c.args.out.now) c.args.steps.now;
+    }
