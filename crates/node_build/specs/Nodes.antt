@@ -1,5 +1,5 @@
 -- The nodes of a join tree, with the rows of their items and the links of these.
-use Rattle.std.specs.Prelude.{◌≡◌, ◌↔◌, ◌⊎◌, ◌<◌, ℕ, ℤ, nat_lt, cond, List, [], map, length, slice_index, slice_index_or, take}
+use Rattle.std.specs.Prelude.{◌≡◌, ◌↔◌, ◌⊎◌, ◌<◌, ◌≤◌, ℕ, ℤ, nat_lt, cond, List, [], map, length, slice_index, slice_index_or, take}
 use Rattle.std.specs.List.{sum_by}
 use Rattle.rankings.specs.Order.{IsMember, IsAscending}
 use Rattle.hyper_graph.specs.Graph.{Hypergraph}
@@ -13,8 +13,8 @@ use Rattle.anyk_model.specs.Query.{Query}
 use Rattle.bound_query.specs.Classes.{HasVariable, IsPassing, row_field}
 use Rattle.bound_query.specs.Graph.{IsGraphOf}
 use Rattle.bound_query.specs.Parts.{numbers_of, sum_of_all}
-use Rattle.bound_query.specs.WeighedQuery.{BoundQuery}
-use Rattle.bound_query.specs.Weights.{cap_of, key_at, part_of}
+use Rattle.bound_query.specs.WeighedQuery.{BoundQuery, Fits}
+use Rattle.bound_query.specs.Weights.{cap_of, key_at, part_of, table_in}
 use Rattle.node_build.specs.declared.built.BuildFault.{BuildFault}
 use Rattle.node_build.specs.declared.built.BuildFault.TheVariants as fault
 
@@ -112,3 +112,20 @@ abbrev pub CapsBelow : (limit : ℕ) → BoundQuery → List Table → Type 0
 CapsBelow limit bound tables =
     (key : ℕ)
     → sum_of_all (map (λ item. cap_at bound tables item key) (numbers_of bound.query.items)) < limit
+
+-- the query fits its tables, the tree is its join tree, and a rank has room for so many keys and
+-- items and for parts whose caps add up to less than `most`
+pub record AreReady (keys_room items_room most : ℕ) (bound : BoundQuery) (tables : List Table)
+    (join : JoinTree) : Type 0 where
+  pub fits : Fits bound tables
+  pub keys : length bound.query.order ≤ keys_room
+  pub slots : length bound.query.items ≤ items_room
+  pub limit : CapsBelow most bound tables
+  pub tree : IsJoinTreeOf bound.query join
+
+-- the table of a node's item has a row of this number
+pub record IsRowAt (query : Query) (tables : List Table) (join : JoinTree)
+    (v row : ℕ) : Type 0 where
+  pub node : v < join.count
+  pub first : 1 ≤ row
+  pub row_there : row ≤ length (table_in tables query.items (item_of join v)).rows

@@ -2,11 +2,10 @@
 ghost use Rattle.std.specs.Prelude.{◌≡◌, ◌<◌, ◌≤◌, ◌+◌, ◌*◌, length, IfOk, OnOk};
 ghost use Rattle.rankings.specs.NodeRows.{most_node_rows};
 ghost use Rattle.std.specs.List.{sum_by};
-ghost use Rattle.bound_query.specs.WeighedQuery.{Fits};
 ghost use Rattle.counted_index.specs.Pairs.{AreNumbers};
 ghost use Rattle.node_build.specs.Columns.{HaveColumns};
 ghost use Rattle.node_build.specs.PartialTrees.{AreFilled, IsFilledTree};
-ghost use Rattle.node_build.specs.Nodes.{CapsBelow, IsJoinTreeOf};
+ghost use Rattle.node_build.specs.Nodes.{AreReady};
 ghost use Rattle.node_build.specs.Rows.{HaveRows, lists_of};
 ghost use Rattle.node_build.specs.Shapes.{AreShapesOf};
 
@@ -32,11 +31,7 @@ pub(crate) fn filled_tree<R: Rank, L: Ledger>(
     rows: &[Vec<u32>],
     steps: &mut Steps<L>,
 ) -> Result<RawTree<R>, NoMemory>
-    requires fits { Fits query.now tables.now }
-    requires keys { length query.now.query.order ≤ R.KEYS }
-    requires slots { length query.now.query.items ≤ R.ITEMS }
-    requires limit { CapsBelow R.LIMIT query.now tables.now }
-    requires tree { IsJoinTreeOf query.now.query join.now }
+    requires ready { AreReady R.KEYS R.ITEMS R.LIMIT query.now tables.now join.now }
     requires rows { HaveRows query.now.query tables.now join.now join.now.count
         (lists_of rows.now) }
     requires room { sum_by length (lists_of rows.now) ≤ most_node_rows }
@@ -70,11 +65,7 @@ fn add_nodes<R: Rank, L: Ledger>(
     tree: &mut RawTree<R>,
     steps: &mut Steps<L>,
 ) -> Result<(), NoMemory>
-    requires fits { Fits query.now tables.now }
-    requires keys { length query.now.query.order ≤ R.KEYS }
-    requires slots { length query.now.query.items ≤ R.ITEMS }
-    requires limit { CapsBelow R.LIMIT query.now tables.now }
-    requires tree { IsJoinTreeOf query.now.query join.now }
+    requires ready { AreReady R.KEYS R.ITEMS R.LIMIT query.now tables.now join.now }
     requires columns { HaveColumns query.now join.now join.now.count
         (lists_of columns.now.own.items) (lists_of columns.now.above.items) }
     requires rows { HaveRows query.now.query tables.now join.now join.now.count

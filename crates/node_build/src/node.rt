@@ -1,5 +1,5 @@
 //! The rows of one node.
-ghost use Rattle.std.specs.Prelude.{◌≡◌, ◌<◌, ◌≤◌, ◌+◌, ◌*◌, ℕ, [], length, IfOk, OnOk};
+ghost use Rattle.std.specs.Prelude.{◌≡◌, ◌<◌, ◌≤◌, ◌+◌, ◌*◌, ℕ, [], length, OnOk};
 ghost use Rattle.rankings.specs.NodeRows.{most_node_rows};
 ghost use Rattle.rankings.specs.Order.{IsMember};
 ghost use Rattle.tdp_core.specs.RawView.{RawRowView, row_total, rows_at, with_row};
@@ -10,7 +10,7 @@ ghost use Rattle.node_build.specs.Columns.{HaveColumns};
 ghost use Rattle.node_build.specs.PartialTrees.{HasOnlyMore};
 ghost use Rattle.counted_index.specs.Pairs.{AreMore};
 ghost use Rattle.node_build.specs.Links.{HasRowsOf, IsRowOf, NamesLinks};
-ghost use Rattle.node_build.specs.Nodes.{CapsBelow, IsJoinTreeOf, item_of, parent_of};
+ghost use Rattle.node_build.specs.Nodes.{AreReady, IsJoinTreeOf, IsRowAt, item_of, parent_of};
 ghost use Rattle.node_build.specs.Rows.{lists_of};
 ghost use Rattle.node_build.specs.Shapes.{AreShapesOf};
 
@@ -43,10 +43,7 @@ fn child_links<L: Ledger>(
     requires tree { IsJoinTreeOf query.now.query join.now }
     requires columns { HaveColumns query.now join.now join.now.count
         (lists_of columns.now.own.items) (lists_of columns.now.above.items) }
-    requires node { node < join.now.count }
-    requires first { 1 ≤ row }
-    requires row { row ≤ length
-        (table_in tables.now query.now.query.items (item_of join.now node)).rows }
+    requires at { IsRowAt query.now.query tables.now join.now node row }
     requires links { length links.old ≡ join.now.count }
     ensures more { OnOk result (AreMore links.old links.new) }
     ensures count { OnOk result
@@ -84,17 +81,10 @@ fn add_row<R: Rank, L: Ledger>(
     tree: &mut RawTree<R>,
     steps: &mut Steps<L>,
 ) -> Result<(), NoMemory>
-    requires fits { Fits query.now tables.now }
-    requires keys { length query.now.query.order ≤ R.KEYS }
-    requires slots { length query.now.query.items ≤ R.ITEMS }
-    requires limit { CapsBelow R.LIMIT query.now tables.now }
-    requires tree { IsJoinTreeOf query.now.query join.now }
+    requires ready { AreReady R.KEYS R.ITEMS R.LIMIT query.now tables.now join.now }
     requires columns { HaveColumns query.now join.now join.now.count
         (lists_of columns.now.own.items) (lists_of columns.now.above.items) }
-    requires node { node < join.now.count }
-    requires first { 1 ≤ row }
-    requires row { row ≤ length
-        (table_in tables.now query.now.query.items (item_of join.now node)).rows }
+    requires at { IsRowAt query.now.query tables.now join.now node row }
     requires links { length links.old ≡ join.now.count }
     requires shapes { AreShapesOf query.now tables.now join.now join.now.count tree.old.shapes }
     requires room { row_total tree.old < most_node_rows }
@@ -128,11 +118,7 @@ pub(crate) fn add_rows<R: Rank, L: Ledger>(
     tree: &mut RawTree<R>,
     steps: &mut Steps<L>,
 ) -> Result<(), NoMemory>
-    requires fits { Fits query.now tables.now }
-    requires keys { length query.now.query.order ≤ R.KEYS }
-    requires slots { length query.now.query.items ≤ R.ITEMS }
-    requires limit { CapsBelow R.LIMIT query.now tables.now }
-    requires tree { IsJoinTreeOf query.now.query join.now }
+    requires ready { AreReady R.KEYS R.ITEMS R.LIMIT query.now tables.now join.now }
     requires columns { HaveColumns query.now join.now join.now.count
         (lists_of columns.now.own.items) (lists_of columns.now.above.items) }
     requires node { node < join.now.count }

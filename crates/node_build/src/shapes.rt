@@ -4,7 +4,7 @@ ghost use Rattle.anyk_model.specs.Table.{Table};
 ghost use Rattle.rank_key.specs.Keys.{row_key};
 ghost use Rattle.bound_query.specs.WeighedQuery.{Fits};
 ghost use Rattle.bound_query.specs.Weights.{table_in};
-ghost use Rattle.node_build.specs.Nodes.{CapsBelow, IsJoinTreeOf, item_of, cap_at, row_parts};
+ghost use Rattle.node_build.specs.Nodes.{AreReady, IsJoinTreeOf, IsRowAt, item_of, cap_at, row_parts};
 ghost use Rattle.node_build.specs.Shapes.{AreShapesOf};
 
 use bound_query::Query;
@@ -79,15 +79,8 @@ pub(crate) fn rank_of<R: Rank>(
     node: u32,
     row: u32,
 ) -> R
-    requires fits { Fits query.now tables.now }
-    requires keys { length query.now.query.order ≤ R.KEYS }
-    requires slots { length query.now.query.items ≤ R.ITEMS }
-    requires limit { CapsBelow R.LIMIT query.now tables.now }
-    requires tree { IsJoinTreeOf query.now.query join.now }
-    requires node { node < join.now.count }
-    requires first { 1 ≤ row }
-    requires row { row ≤ length
-        (table_in tables.now query.now.query.items (item_of join.now node)).rows }
+    requires ready { AreReady R.KEYS R.ITEMS R.LIMIT query.now tables.now join.now }
+    requires at { IsRowAt query.now.query tables.now join.now node row }
     ensures { R.key result
         ≡ row_key R.KEYS (row_parts query.now tables.now (item_of join.now node) row)
         (item_of join.now node) row }

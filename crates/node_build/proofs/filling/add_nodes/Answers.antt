@@ -18,52 +18,61 @@ bounds-rows-node g c = omega (arith, c.requires.rows.count, lists_length c.args.
 pub loop-node-init : goal.loop-node-init
 loop-node-init g c = record { shapes = refl; count = c.requires.links; numbers = c.requires.numbers; filled = c.requires.none; cost = omega arith }
 
-pub add_rows-requires-clause-columns : goal.add_rows-requires-clause-columns
-add_rows-requires-clause-columns g c = c.requires.columns
+pub add_rows-requires : goal.add_rows-requires
+add_rows-requires g c = record {
+  ready = c.requires.ready;
+  columns = c.requires.columns;
+  node = c.loop-node-test.true;
+  rows = λ row m. let vs = c.args.rows.now in
+        let node = c.loop-node.node in
+        let inside : node < length vs = omega (arith, c.requires.rows.count, lists_length vs, c.loop-node-test.true) in
+        let list : c.as_slice-list.result.now ≡ get_or (lists_of vs) node [] = c.as_slice-list.ensures.value ∙ sym (list_at vs node c.index-rows-node.result inside c.index-rows-node.is) in
+        let h = ((c.requires.rows.each node (omega arith)).members row).0 (subst (λ (xs : List ℕ). IsMember row xs) list m) in
+        (h.0, h.1);
+  links = c.loop-node.invariant.count;
+  shapes = subst (AreShapesOf c.args.query.now c.args.tables.now c.args.join.now c.args.join.now.count) (sym c.loop-node.invariant.shapes) c.requires.shapes;
+  each_node = c.loop-node.invariant.filled.each_node;
+  empty = c.loop-node.invariant.filled.empty c.loop-node.node (omega arith);
+  room = let vs = c.args.rows.now in
+        let node = c.loop-node.node in
+        let inside : node < length vs = omega (arith, c.requires.rows.count, lists_length vs, c.loop-node-test.true) in
+        let list : c.as_slice-list.result.now ≡ get_or (lists_of vs) node [] = c.as_slice-list.ensures.value ∙ sym (list_at vs node c.index-rows-node.result inside c.index-rows-node.is) in
+        let size = ap (λ (xs : List ℕ). length xs) list in
+        let more = sum_by_more_le (λ (xs : List ℕ). length xs) (lists_of vs) node [] (omega (arith, inside, lists_length vs)) in
+        omega (arith, size, more, c.loop-node.invariant.filled.total, c.requires.room);
+}
 
-pub add_rows-requires-clause-shapes : goal.add_rows-requires-clause-shapes
-add_rows-requires-clause-shapes g c = subst (AreShapesOf c.args.query.now c.args.tables.now c.args.join.now c.args.join.now.count) (sym c.loop-node.invariant.shapes) c.requires.shapes
+pub returns : goal.returns
+returns g c = record {
+  shapes = subst (AreShapesOf c.args.query.now c.args.tables.now c.args.join.now c.args.join.now.count) (sym c.loop-node.invariant.shapes) c.requires.shapes;
+  filled = let own = lists_of c.args.columns.now.own.items in
+        let above = lists_of c.args.columns.now.above.items in
+        let names = c.loop-node.links in
+        let all : c.loop-node.node ≡ c.args.join.now.count = omega arith in
+        record {
+          own = own;
+          above = above;
+          names = names;
+          columns = c.requires.columns;
+          numbers = c.loop-node.invariant.numbers;
+          filled = subst (λ (n : ℕ). AreFilled c.args.query.now c.args.tables.now c.args.join.now own above g.R.Rank.KEYS g.R.Rank.key names n (lists_of c.args.rows.now) c.loop-node.tree) all c.loop-node.invariant.filled;
+        };
+  cost = let most = mul-le-mul_right c.args.join.now.count (sum_by-take-le (λ (xs : List ℕ). length xs) (lists_of c.args.rows.now) c.loop-node.node) in
+        omega (arith, most, c.loop-node.invariant.cost);
+}
 
-pub returns-clause-shapes : goal.returns-clause-shapes
-returns-clause-shapes g c = subst (AreShapesOf c.args.query.now c.args.tables.now c.args.join.now c.args.join.now.count) (sym c.loop-node.invariant.shapes) c.requires.shapes
-
-pub add_rows-requires-clause-links : goal.add_rows-requires-clause-links
-add_rows-requires-clause-links g c = c.loop-node.invariant.count
-
-pub add_rows-requires-clause-each_node : goal.add_rows-requires-clause-each_node
-add_rows-requires-clause-each_node g c = c.loop-node.invariant.filled.each_node
-
-pub add_rows-requires-clause-empty : goal.add_rows-requires-clause-empty
-add_rows-requires-clause-empty g c = c.loop-node.invariant.filled.empty c.loop-node.node (omega arith)
-
-pub add_rows-requires-clause-rows : goal.add_rows-requires-clause-rows
-add_rows-requires-clause-rows g c row m =
-    let vs = c.args.rows.now in
-    let node = c.loop-node.node in
-    let inside : node < length vs = omega (arith, c.requires.rows.count, lists_length vs, c.loop-node-test.true) in
-    let list : c.as_slice-list.result.now ≡ get_or (lists_of vs) node [] = c.as_slice-list.ensures.value ∙ sym (list_at vs node c.index-rows-node.result inside c.index-rows-node.is) in
-    let h = ((c.requires.rows.each node (omega arith)).members row).0 (subst (λ (xs : List ℕ). IsMember row xs) list m) in
-    (h.0, h.1)
-
-pub add_rows-requires-clause-room : goal.add_rows-requires-clause-room
-add_rows-requires-clause-room g c =
-    let vs = c.args.rows.now in
-    let node = c.loop-node.node in
-    let inside : node < length vs = omega (arith, c.requires.rows.count, lists_length vs, c.loop-node-test.true) in
-    let list : c.as_slice-list.result.now ≡ get_or (lists_of vs) node [] = c.as_slice-list.ensures.value ∙ sym (list_at vs node c.index-rows-node.result inside c.index-rows-node.is) in
-    let size = ap (λ (xs : List ℕ). length xs) list in
-    let more = sum_by_more_le (λ (xs : List ℕ). length xs) (lists_of vs) node [] (omega (arith, inside, lists_length vs)) in
-    omega (arith, size, more, c.loop-node.invariant.filled.total, c.requires.room)
-
-pub returns-in_err-add_rows-clause-cost : goal.returns-in_err-add_rows-clause-cost
-returns-in_err-add_rows-clause-cost g c =
-    let vs = c.args.rows.now in
-    let node = c.loop-node.node in
-    let inside : node < length vs = omega (arith, c.requires.rows.count, lists_length vs, c.loop-node-test.true) in
-    let list : c.as_slice-list.result.now ≡ get_or (lists_of vs) node [] = c.as_slice-list.ensures.value ∙ sym (list_at vs node c.index-rows-node.result inside c.index-rows-node.is) in
-    let size = ap (λ (xs : List ℕ). length xs * c.args.join.now.count) list in
-    let more = mul-le-mul_right c.args.join.now.count (sum_by_more_le (λ (xs : List ℕ). length xs) (lists_of vs) node [] (omega (arith, inside, lists_length vs))) in
-    omega (arith, size, more, c.loop-node.invariant.cost, c.in_err-add_rows.ensures.cost)
+pub returns-in_err-add_rows : goal.returns-in_err-add_rows
+returns-in_err-add_rows g c = record {
+  cost = let vs = c.args.rows.now in
+        let node = c.loop-node.node in
+        let inside : node < length vs = omega (arith, c.requires.rows.count, lists_length vs, c.loop-node-test.true) in
+        let list : c.as_slice-list.result.now ≡ get_or (lists_of vs) node [] = c.as_slice-list.ensures.value ∙ sym (list_at vs node c.index-rows-node.result inside c.index-rows-node.is) in
+        let size = ap (λ (xs : List ℕ). length xs * c.args.join.now.count) list in
+        let more = mul-le-mul_right c.args.join.now.count (sum_by_more_le (λ (xs : List ℕ). length xs) (lists_of vs) node [] (omega (arith, inside, lists_length vs))) in
+        omega (arith, size, more, c.loop-node.invariant.cost, c.in_err-add_rows.ensures.cost);
+  shapes = failed c.from_residual.result _ c.from_residual.ensures.0;
+  filled = failed c.from_residual.result _ c.from_residual.ensures.0;
+}
 
 pub loop-node-preserved : goal.loop-node-preserved
 loop-node-preserved g c =
@@ -92,44 +101,3 @@ loop-node-preserved g c =
           (subst (λ (xs : List ℕ). HasRowsOf query tables join own above g.R.Rank.KEYS g.R.Rank.key new node (length xs) xs (rows_at c.add_rows.new.tree node)) list now.rows);
       cost = omega (arith, size, one, before.cost, now.cost);
     }
-
-pub returns-clause-filled : goal.returns-clause-filled
-returns-clause-filled g c =
-    let own = lists_of c.args.columns.now.own.items in
-    let above = lists_of c.args.columns.now.above.items in
-    let names = c.loop-node.links in
-    let all : c.loop-node.node ≡ c.args.join.now.count = omega arith in
-    record {
-      own = own;
-      above = above;
-      names = names;
-      columns = c.requires.columns;
-      numbers = c.loop-node.invariant.numbers;
-      filled = subst (λ (n : ℕ). AreFilled c.args.query.now c.args.tables.now c.args.join.now own above g.R.Rank.KEYS g.R.Rank.key names n (lists_of c.args.rows.now) c.loop-node.tree) all c.loop-node.invariant.filled;
-    }
-
-pub returns-clause-cost : goal.returns-clause-cost
-returns-clause-cost g c =
-    let most = mul-le-mul_right c.args.join.now.count (sum_by-take-le (λ (xs : List ℕ). length xs) (lists_of c.args.rows.now) c.loop-node.node) in
-    omega (arith, most, c.loop-node.invariant.cost)
-
-pub add_rows-requires-clause-fits : goal.add_rows-requires-clause-fits
-add_rows-requires-clause-fits g c = c.requires.fits
-
-pub add_rows-requires-clause-keys : goal.add_rows-requires-clause-keys
-add_rows-requires-clause-keys g c = c.requires.keys
-
-pub add_rows-requires-clause-slots : goal.add_rows-requires-clause-slots
-add_rows-requires-clause-slots g c = c.requires.slots
-
-pub add_rows-requires-clause-limit : goal.add_rows-requires-clause-limit
-add_rows-requires-clause-limit g c = c.requires.limit
-
-pub add_rows-requires-clause-tree : goal.add_rows-requires-clause-tree
-add_rows-requires-clause-tree g c = c.requires.tree
-
-pub returns-in_err-add_rows-clause-shapes : goal.returns-in_err-add_rows-clause-shapes
-returns-in_err-add_rows-clause-shapes g c = failed c.from_residual.result _ c.from_residual.ensures.0
-
-pub returns-in_err-add_rows-clause-filled : goal.returns-in_err-add_rows-clause-filled
-returns-in_err-add_rows-clause-filled g c = failed c.from_residual.result _ c.from_residual.ensures.0

@@ -13,152 +13,103 @@ use Rattle.node_build.proofs.Shaped.{item_known}
 use Rattle.node_build.proofs.node.add_row.Goals as goal
 
 pub table_of-table-requires : goal.table_of-table-requires
-table_of-table-requires g c = item_known c.args.query.now.query c.args.join.now c.requires.tree c.args.node c.requires.node
+table_of-table-requires g c = item_known c.args.query.now.query c.args.join.now c.requires.ready.tree c.args.node c.requires.at.node
 
 pub len-rows-requires : goal.len-rows-requires
 len-rows-requires g c =
-    let known = item_known c.args.query.now.query c.args.join.now c.requires.tree c.args.node c.requires.node in
-    table_there c.args.query.now c.args.tables.now c.requires.fits (item_of c.args.join.now c.args.node) c.table_of-table.result known c.table_of-table.ensures
+    let known = item_known c.args.query.now.query c.args.join.now c.requires.ready.tree c.args.node c.requires.at.node in
+    table_there c.args.query.now c.args.tables.now c.requires.ready.fits (item_of c.args.join.now c.args.node) c.table_of-table.result known c.table_of-table.ensures
 
 pub index-requires : goal.index-requires
-index-requires g c = omega (arith, c.requires.columns.own_count, lists_length c.args.columns.now.own.items, c.requires.node)
+index-requires g c = omega (arith, c.requires.columns.own_count, lists_length c.args.columns.now.own.items, c.requires.at.node)
 
-pub link-requires-clause-table : goal.link-requires-clause-table
-link-requires-clause-table g c =
-    let known = item_known c.args.query.now.query c.args.join.now c.requires.tree c.args.node c.requires.node in
-    table_there c.args.query.now c.args.tables.now c.requires.fits (item_of c.args.join.now c.args.node) c.table_of-table.result known c.table_of-table.ensures
+pub link-requires : goal.link-requires
+link-requires g c = record {
+  table = let known = item_known c.args.query.now.query c.args.join.now c.requires.ready.tree c.args.node c.requires.at.node in
+        table_there c.args.query.now c.args.tables.now c.requires.ready.fits (item_of c.args.join.now c.args.node) c.table_of-table.result known c.table_of-table.ensures;
+  first = c.requires.at.first;
+  row = rw c.table_of-table.ensures c.requires.at.row_there;
+  columns = let vs = c.args.columns.now.own.items in
+        let node = c.args.node in
+        let inside : node < length vs = omega (arith, c.requires.columns.own_count, lists_length vs, c.requires.at.node) in
+        let list : c.as_slice-own.result.now ≡ get_or (lists_of vs) node [] = c.as_slice-own.ensures.value ∙ sym (list_at vs node c.index.result.now inside c.index.ensures) in
+        own_there c.args.query.now c.args.tables.now c.requires.ready.fits c.args.join.now (lists_of vs) (lists_of c.args.columns.now.above.items) c.requires.columns
+        node c.table_of-table.result c.as_slice-own.result.now c.requires.at.node list c.table_of-table.ensures;
+  node = omega (arith, c.requires.links, c.requires.at.node);
+}
 
-pub link-requires-clause-row : goal.link-requires-clause-row
-link-requires-clause-row g c = rw c.table_of-table.ensures c.requires.row
+pub returns-in_err-child_links : goal.returns-in_err-child_links
+returns-in_err-child_links g c = record {
+  cost = let few = kids_below_lem (parent_of c.args.join.now) c.args.node c.args.join.now.count (omega (arith, c.requires.at.node)) in
+        omega (arith, few, c.in_err-child_links.ensures.cost, c.in_ok-own_link.ensures.cost);
+  more = failed c.from_residual-in_err-child_links.result _ c.from_residual-in_err-child_links.ensures.0;
+  added = failed c.from_residual-in_err-child_links.result _ c.from_residual-in_err-child_links.ensures.0;
+}
 
-pub link-requires-clause-node : goal.link-requires-clause-node
-link-requires-clause-node g c = omega (arith, c.requires.links, c.requires.node)
+pub add_row-requires : goal.add_row-requires
+add_row-requires g c = record {
+  node = rw c.requires.shapes.count c.requires.at.node;
+  fits = let query = c.args.query.now in
+        let tables = c.args.tables.now in
+        let join = c.args.join.now in
+        let node = c.args.node in
+        let shapes = c.args.tree.now.shapes in
+        let low = row_below tables query.query.items (item_of join node) c.table_of-table.result c.len-rows.result c.args.row (2 ^ 21)
+        c.table_of-table.ensures c.len-rows.ensures.rows c.len-rows.ensures.limit c.requires.at.row_there (omega arith) in (
+          row_fits query tables join shapes c.requires.shapes node c.requires.at.node g.R.Rank.KEYS c.args.row (g.R.Rank.key c.rank_of-rank.result)
+              (item_below_16 query.query join c.requires.ready.tree node c.requires.at.node) low c.rank_of-rank.ensures,
+          ap length c.as_slice.ensures.value ∙ c.in_ok-child_links.ensures.count ∙ children_are query tables join shapes c.requires.shapes node c.requires.at.node,
+        );
+  room = c.requires.room;
+}
 
-pub child_links-requires-clause-links : goal.child_links-requires-clause-links
-child_links-requires-clause-links g c = c.in_ok-own_link.ensures.more.count ∙ c.requires.links
-
-pub link-requires-clause-columns : goal.link-requires-clause-columns
-link-requires-clause-columns g c =
-    let vs = c.args.columns.now.own.items in
-    let node = c.args.node in
-    let inside : node < length vs = omega (arith, c.requires.columns.own_count, lists_length vs, c.requires.node) in
-    let list : c.as_slice-own.result.now ≡ get_or (lists_of vs) node [] = c.as_slice-own.ensures.value ∙ sym (list_at vs node c.index.result.now inside c.index.ensures) in
-    own_there c.args.query.now c.args.tables.now c.requires.fits c.args.join.now (lists_of vs) (lists_of c.args.columns.now.above.items) c.requires.columns
-    node c.table_of-table.result c.as_slice-own.result.now c.requires.node list c.table_of-table.ensures
-
-pub returns-in_err-child_links-clause-cost : goal.returns-in_err-child_links-clause-cost
-returns-in_err-child_links-clause-cost g c =
-    let few = kids_below_lem (parent_of c.args.join.now) c.args.node c.args.join.now.count (omega (arith, c.requires.node)) in
-    omega (arith, few, c.in_err-child_links.ensures.cost, c.in_ok-own_link.ensures.cost)
-
-pub add_row-requires-clause-fits : goal.add_row-requires-clause-fits
-add_row-requires-clause-fits g c =
-    let query = c.args.query.now in
-    let tables = c.args.tables.now in
-    let join = c.args.join.now in
-    let node = c.args.node in
-    let shapes = c.args.tree.now.shapes in
-    let low = row_below tables query.query.items (item_of join node) c.table_of-table.result c.len-rows.result c.args.row (2 ^ 21)
-    c.table_of-table.ensures c.len-rows.ensures.rows c.len-rows.ensures.limit c.requires.row (omega arith) in (
-      row_fits query tables join shapes c.requires.shapes node c.requires.node g.R.Rank.KEYS c.args.row (g.R.Rank.key c.rank_of-rank.result)
-          (item_below_16 query.query join c.requires.tree node c.requires.node) low c.rank_of-rank.ensures,
-      ap length c.as_slice.ensures.value ∙ c.in_ok-child_links.ensures.count ∙ children_are query tables join shapes c.requires.shapes node c.requires.node,
-    )
-
-pub returns-clause-more : goal.returns-clause-more
-returns-clause-more g c =
-    on_ok c.add_row.result
-    (more_trans c.args.links.now c.link.new.links c.child_links.new.links c.in_ok-own_link.ensures.more c.in_ok-child_links.ensures.more)
-
-pub returns-clause-added : goal.returns-clause-added
-returns-clause-added g c =
-    let query = c.args.query.now in
-    let tables = c.args.tables.now in
-    let join = c.args.join.now in
-    let vs = c.args.columns.now.own.items in
-    let node = c.args.node in
-    let inside : node < length vs = omega (arith, c.requires.columns.own_count, lists_length vs, c.requires.node) in
-    let list : c.as_slice-own.result.now ≡ get_or (lists_of vs) node [] = c.as_slice-own.ensures.value ∙ sym (list_at vs node c.index.result.now inside c.index.ensures) in
-    let values : values_in tables (table_at tables c.table_of-table.result) c.args.row c.as_slice-own.result.now
-    ≡ values_at query tables join (lists_of vs) (lists_of c.args.columns.now.above.items) node c.args.row (get_or (lists_of vs) node []) =
-    ap (λ (t : ℕ). values_in tables (table_at tables t) c.args.row c.as_slice-own.result.now) c.table_of-table.ensures
-    ∙ ap (λ (l : List ℕ). values_in tables (table_in tables query.query.items (item_of join node)) c.args.row l) list in
-    let link = subst (λ (l : List ℕ). IsLink c.link.new.links node c.in_ok-own_link.own_link l) values c.in_ok-own_link.ensures.link in
-    on_ok_map c.add_row.result
-    (λ e. (
-      record { row = record { rank = c.rank_of-rank.result; row = c.args.row }; own = c.in_ok-own_link.own_link; children = c.as_slice.result.now },
-      e,
-      record {
-        number = refl;
-        rank = c.rank_of-rank.ensures;
-        link = link_kept c.link.new.links c.child_links.new.links node c.in_ok-own_link.own_link _ c.in_ok-child_links.ensures.more link;
-        children = subst (λ (cs : List ℕ). NamesLinks query tables join (lists_of vs) (lists_of c.args.columns.now.above.items) c.child_links.new.links node c.args.row join.count cs)
-            (sym c.as_slice.ensures.value) c.in_ok-child_links.ensures.names;
-      },
-    ))
-    c.add_row.ensures.ok
-
-pub returns-clause-cost : goal.returns-clause-cost
-returns-clause-cost g c =
-    let few = kids_below_lem (parent_of c.args.join.now) c.args.node c.args.join.now.count (omega (arith, c.requires.node)) in
-    omega (arith, few, c.in_ok-child_links.ensures.cost, c.in_ok-own_link.ensures.cost)
+pub returns : goal.returns
+returns g c = record {
+  more = on_ok c.add_row.result
+        (more_trans c.args.links.now c.link.new.links c.child_links.new.links c.in_ok-own_link.ensures.more c.in_ok-child_links.ensures.more);
+  added = let query = c.args.query.now in
+        let tables = c.args.tables.now in
+        let join = c.args.join.now in
+        let vs = c.args.columns.now.own.items in
+        let node = c.args.node in
+        let inside : node < length vs = omega (arith, c.requires.columns.own_count, lists_length vs, c.requires.at.node) in
+        let list : c.as_slice-own.result.now ≡ get_or (lists_of vs) node [] = c.as_slice-own.ensures.value ∙ sym (list_at vs node c.index.result.now inside c.index.ensures) in
+        let values : values_in tables (table_at tables c.table_of-table.result) c.args.row c.as_slice-own.result.now
+        ≡ values_at query tables join (lists_of vs) (lists_of c.args.columns.now.above.items) node c.args.row (get_or (lists_of vs) node []) =
+        ap (λ (t : ℕ). values_in tables (table_at tables t) c.args.row c.as_slice-own.result.now) c.table_of-table.ensures
+        ∙ ap (λ (l : List ℕ). values_in tables (table_in tables query.query.items (item_of join node)) c.args.row l) list in
+        let link = subst (λ (l : List ℕ). IsLink c.link.new.links node c.in_ok-own_link.own_link l) values c.in_ok-own_link.ensures.link in
+        on_ok_map c.add_row.result
+        (λ e. (
+          record { row = record { rank = c.rank_of-rank.result; row = c.args.row }; own = c.in_ok-own_link.own_link; children = c.as_slice.result.now },
+          e,
+          record {
+            number = refl;
+            rank = c.rank_of-rank.ensures;
+            link = link_kept c.link.new.links c.child_links.new.links node c.in_ok-own_link.own_link _ c.in_ok-child_links.ensures.more link;
+            children = subst (λ (cs : List ℕ). NamesLinks query tables join (lists_of vs) (lists_of c.args.columns.now.above.items) c.child_links.new.links node c.args.row join.count cs)
+                (sym c.as_slice.ensures.value) c.in_ok-child_links.ensures.names;
+          },
+        ))
+        c.add_row.ensures.ok;
+  cost = let few = kids_below_lem (parent_of c.args.join.now) c.args.node c.args.join.now.count (omega (arith, c.requires.at.node)) in
+        omega (arith, few, c.in_ok-child_links.ensures.cost, c.in_ok-own_link.ensures.cost);
+}
 
 pub returns-in_err-own_link : goal.returns-in_err-own_link
 returns-in_err-own_link g c =
     let r = c.from_residual.result in
     let e = c.from_residual.ensures.0 in
-    record { more = failed r _ e; added = failed r _ e; cost = omega (arith, c.requires.node) }
+    record { more = failed r _ e; added = failed r _ e; cost = omega (arith, c.requires.at.node) }
 
-pub returns-in_err-child_links-clause-more : goal.returns-in_err-child_links-clause-more
-returns-in_err-child_links-clause-more g c = failed c.from_residual-in_err-child_links.result _ c.from_residual-in_err-child_links.ensures.0
+pub child_links-requires : goal.child_links-requires
+child_links-requires g c = record {
+  fits = c.requires.ready.fits;
+  tree = c.requires.ready.tree;
+  columns = c.requires.columns;
+  at = c.requires.at;
+  links = c.in_ok-own_link.ensures.more.count ∙ c.requires.links;
+}
 
-pub returns-in_err-child_links-clause-added : goal.returns-in_err-child_links-clause-added
-returns-in_err-child_links-clause-added g c = failed c.from_residual-in_err-child_links.result _ c.from_residual-in_err-child_links.ensures.0
-
-pub link-requires-clause-first : goal.link-requires-clause-first
-link-requires-clause-first g c = c.requires.first
-
-pub child_links-requires-clause-fits : goal.child_links-requires-clause-fits
-child_links-requires-clause-fits g c = c.requires.fits
-
-pub child_links-requires-clause-tree : goal.child_links-requires-clause-tree
-child_links-requires-clause-tree g c = c.requires.tree
-
-pub child_links-requires-clause-columns : goal.child_links-requires-clause-columns
-child_links-requires-clause-columns g c = c.requires.columns
-
-pub child_links-requires-clause-node : goal.child_links-requires-clause-node
-child_links-requires-clause-node g c = c.requires.node
-
-pub child_links-requires-clause-first : goal.child_links-requires-clause-first
-child_links-requires-clause-first g c = c.requires.first
-
-pub child_links-requires-clause-row : goal.child_links-requires-clause-row
-child_links-requires-clause-row g c = c.requires.row
-
-pub rank_of-rank-requires-clause-fits : goal.rank_of-rank-requires-clause-fits
-rank_of-rank-requires-clause-fits g c = c.requires.fits
-
-pub rank_of-rank-requires-clause-keys : goal.rank_of-rank-requires-clause-keys
-rank_of-rank-requires-clause-keys g c = c.requires.keys
-
-pub rank_of-rank-requires-clause-slots : goal.rank_of-rank-requires-clause-slots
-rank_of-rank-requires-clause-slots g c = c.requires.slots
-
-pub rank_of-rank-requires-clause-limit : goal.rank_of-rank-requires-clause-limit
-rank_of-rank-requires-clause-limit g c = c.requires.limit
-
-pub rank_of-rank-requires-clause-tree : goal.rank_of-rank-requires-clause-tree
-rank_of-rank-requires-clause-tree g c = c.requires.tree
-
-pub rank_of-rank-requires-clause-node : goal.rank_of-rank-requires-clause-node
-rank_of-rank-requires-clause-node g c = c.requires.node
-
-pub rank_of-rank-requires-clause-first : goal.rank_of-rank-requires-clause-first
-rank_of-rank-requires-clause-first g c = c.requires.first
-
-pub rank_of-rank-requires-clause-row : goal.rank_of-rank-requires-clause-row
-rank_of-rank-requires-clause-row g c = c.requires.row
-
-pub add_row-requires-clause-room : goal.add_row-requires-clause-room
-add_row-requires-clause-room g c = c.requires.room
+pub rank_of-rank-requires : goal.rank_of-rank-requires
+rank_of-rank-requires g c = record { ready = c.requires.ready; at = c.requires.at }

@@ -23,33 +23,32 @@ loop-row-init g c =
       cost = omega arith;
     }
 
-pub add_row-requires-clause-first : goal.add_row-requires-clause-first
-add_row-requires-clause-first g c =
-    (c.requires.rows (get_or c.args.rows.now c.loop-row.row-index 0) (get_member c.args.rows.now c.loop-row.row-index 0 (omega arith))).0
+pub add_row-requires : goal.add_row-requires
+add_row-requires g c = record {
+  ready = c.requires.ready;
+  columns = c.requires.columns;
+  at = let there = c.requires.rows (get_or c.args.rows.now c.loop-row.row-index 0) (get_member c.args.rows.now c.loop-row.row-index 0 (omega arith)) in
+    record { node = c.requires.node; first = there.0; row_there = there.1 };
+  links = c.loop-row.invariant.more.count ∙ c.requires.links;
+  shapes = let same = c.loop-row.invariant.others.shapes ∙ ap (λ (t : RawView g.row.R.Denot). t.shapes) c.reserve.ensures in
+        subst (AreShapesOf c.args.query.now c.args.tables.now c.args.join.now c.args.join.now.count) (sym same) c.requires.shapes;
+  room = let same = ap (λ (t : RawView g.row.R.Denot). row_total t) c.reserve.ensures in
+        let total = c.loop-row.invariant.others.total in
+        omega (arith, same, total, c.requires.room);
+}
 
-pub add_row-requires-clause-row : goal.add_row-requires-clause-row
-add_row-requires-clause-row g c =
-    (c.requires.rows (get_or c.args.rows.now c.loop-row.row-index 0) (get_member c.args.rows.now c.loop-row.row-index 0 (omega arith))).1
-
-pub add_row-requires-clause-shapes : goal.add_row-requires-clause-shapes
-add_row-requires-clause-shapes g c =
-    let same = c.loop-row.invariant.others.shapes ∙ ap (λ (t : RawView g.row.R.Denot). t.shapes) c.reserve.ensures in
-    subst (AreShapesOf c.args.query.now c.args.tables.now c.args.join.now c.args.join.now.count) (sym same) c.requires.shapes
-
-pub add_row-requires-clause-links : goal.add_row-requires-clause-links
-add_row-requires-clause-links g c = c.loop-row.invariant.more.count ∙ c.requires.links
-
-pub add_row-requires-clause-room : goal.add_row-requires-clause-room
-add_row-requires-clause-room g c =
-    let same = ap (λ (t : RawView g.row.R.Denot). row_total t) c.reserve.ensures in
-    let total = c.loop-row.invariant.others.total in
-    omega (arith, same, total, c.requires.room)
-
-pub returns-in_err-add_row-clause-cost : goal.returns-in_err-add_row-clause-cost
-returns-in_err-add_row-clause-cost g c =
-    let less : c.loop-row.row-index + 1 ≤ length c.args.rows.now = omega arith in
-    let most = mul-le-mul_right c.args.join.now.count less in
-    omega (arith, most, c.loop-row.invariant.cost, c.in_err-add_row.ensures.cost)
+pub returns-in_err-add_row : goal.returns-in_err-add_row
+returns-in_err-add_row g c =
+    let r = c.from_residual-in_err-add_row.result in
+    let e = c.from_residual-in_err-add_row.ensures.0 in
+    record {
+      cost = let less : c.loop-row.row-index + 1 ≤ length c.args.rows.now = omega arith in
+            let most = mul-le-mul_right c.args.join.now.count less in
+            omega (arith, most, c.loop-row.invariant.cost, c.in_err-add_row.ensures.cost);
+      more = failed r _ e;
+      others = failed r _ e;
+      rows = failed r _ e;
+    }
 
 pub loop-row-preserved : goal.loop-row-preserved
 loop-row-preserved g c =
@@ -68,53 +67,19 @@ loop-row-preserved g c =
       cost = omega (arith, before.cost, c.in_ok-add_row.ensures.cost);
     }
 
-pub returns-clause-others : goal.returns-clause-others
-returns-clause-others g c =
-    let all : c.loop-row.row-index ≡ length c.args.rows.now = omega arith in
-    subst (λ n. HasOnlyMore c.args.node n c.args.tree.now c.loop-row.tree) all
-    (subst (λ (t : RawView g.row.R.Denot). HasOnlyMore c.args.node c.loop-row.row-index t c.loop-row.tree) c.reserve.ensures c.loop-row.invariant.others)
-
-pub returns-clause-rows : goal.returns-clause-rows
-returns-clause-rows g c =
-    let all : c.loop-row.row-index ≡ length c.args.rows.now = omega arith in
-    subst (λ (n : ℕ). HasRowsOf c.args.query.now c.args.tables.now c.args.join.now (lists_of c.args.columns.now.own.items) (lists_of c.args.columns.now.above.items) g.R.Rank.KEYS g.R.Rank.key
-    c.loop-row.links c.args.node n c.args.rows.now (rows_at c.loop-row.tree c.args.node)) all c.loop-row.invariant.rows
-
-pub returns-clause-cost : goal.returns-clause-cost
-returns-clause-cost g c =
-    let all : c.loop-row.row-index ≡ length c.args.rows.now = omega arith in
-    let same = ap (λ (n : ℕ). n * c.args.join.now.count) all in
-    omega (arith, same, c.loop-row.invariant.cost)
-
-pub add_row-requires-clause-fits : goal.add_row-requires-clause-fits
-add_row-requires-clause-fits g c = c.requires.fits
-
-pub add_row-requires-clause-keys : goal.add_row-requires-clause-keys
-add_row-requires-clause-keys g c = c.requires.keys
-
-pub add_row-requires-clause-slots : goal.add_row-requires-clause-slots
-add_row-requires-clause-slots g c = c.requires.slots
-
-pub add_row-requires-clause-limit : goal.add_row-requires-clause-limit
-add_row-requires-clause-limit g c = c.requires.limit
-
-pub add_row-requires-clause-tree : goal.add_row-requires-clause-tree
-add_row-requires-clause-tree g c = c.requires.tree
-
-pub add_row-requires-clause-columns : goal.add_row-requires-clause-columns
-add_row-requires-clause-columns g c = c.requires.columns
-
-pub add_row-requires-clause-node : goal.add_row-requires-clause-node
-add_row-requires-clause-node g c = c.requires.node
-
-pub returns-in_err-add_row-clause-more : goal.returns-in_err-add_row-clause-more
-returns-in_err-add_row-clause-more g c = failed c.from_residual-in_err-add_row.result _ c.from_residual-in_err-add_row.ensures.0
-
-pub returns-in_err-add_row-clause-others : goal.returns-in_err-add_row-clause-others
-returns-in_err-add_row-clause-others g c = failed c.from_residual-in_err-add_row.result _ c.from_residual-in_err-add_row.ensures.0
-
-pub returns-in_err-add_row-clause-rows : goal.returns-in_err-add_row-clause-rows
-returns-in_err-add_row-clause-rows g c = failed c.from_residual-in_err-add_row.result _ c.from_residual-in_err-add_row.ensures.0
+pub returns : goal.returns
+returns g c = record {
+  more = c.loop-row.invariant.more;
+  others = let all : c.loop-row.row-index ≡ length c.args.rows.now = omega arith in
+        subst (λ n. HasOnlyMore c.args.node n c.args.tree.now c.loop-row.tree) all
+        (subst (λ (t : RawView g.row.R.Denot). HasOnlyMore c.args.node c.loop-row.row-index t c.loop-row.tree) c.reserve.ensures c.loop-row.invariant.others);
+  rows = let all : c.loop-row.row-index ≡ length c.args.rows.now = omega arith in
+        subst (λ (n : ℕ). HasRowsOf c.args.query.now c.args.tables.now c.args.join.now (lists_of c.args.columns.now.own.items) (lists_of c.args.columns.now.above.items) g.R.Rank.KEYS g.R.Rank.key
+        c.loop-row.links c.args.node n c.args.rows.now (rows_at c.loop-row.tree c.args.node)) all c.loop-row.invariant.rows;
+  cost = let all : c.loop-row.row-index ≡ length c.args.rows.now = omega arith in
+        let same = ap (λ (n : ℕ). n * c.args.join.now.count) all in
+        omega (arith, same, c.loop-row.invariant.cost);
+}
 
 pub returns-in_err-reserve : goal.returns-in_err-reserve
 returns-in_err-reserve g c =

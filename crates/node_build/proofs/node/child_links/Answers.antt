@@ -8,6 +8,7 @@ use Rattle.node_build.specs.Rows.{lists_of}
 use Rattle.node_build.proofs.Items.{table_there}
 use Rattle.node_build.proofs.Naming.{above_there, kids_first, kids_rise, list_at, lists_length, names_more, names_none, names_skip}
 use Rattle.node_build.proofs.Numbering.{more_same, more_trans}
+use Rattle.node_build.proofs.Results.{failed}
 use Rattle.node_build.proofs.Shaped.{item_known}
 use Rattle.node_build.specs.Links.{IsLink, NamesLinks, values_at, values_in}
 use Rattle.node_build.proofs.node.child_links.Goals as goal
@@ -36,44 +37,53 @@ loop-child-preserved-then-join-child g c =
     }
 
 pub table_of-table-requires : goal.table_of-table-requires
-table_of-table-requires g c = item_known c.args.query.now.query c.args.join.now c.requires.tree c.args.node c.requires.node
+table_of-table-requires g c = item_known c.args.query.now.query c.args.join.now c.requires.tree c.args.node c.requires.at.node
 
 pub index-requires : goal.index-requires
 index-requires g c = omega (arith, c.requires.columns.above_count, lists_length c.args.columns.now.above.items, c.loop-child-test.true)
 
-pub link-requires-clause-table : goal.link-requires-clause-table
-link-requires-clause-table g c =
-    let known = item_known c.args.query.now.query c.args.join.now c.requires.tree c.args.node c.requires.node in
-    table_there c.args.query.now c.args.tables.now c.requires.fits (item_of c.args.join.now c.args.node) c.table_of-table.result known c.table_of-table.ensures
+pub link-requires : goal.link-requires
+link-requires g c = record {
+  table = let known = item_known c.args.query.now.query c.args.join.now c.requires.tree c.args.node c.requires.at.node in
+        table_there c.args.query.now c.args.tables.now c.requires.fits (item_of c.args.join.now c.args.node) c.table_of-table.result known c.table_of-table.ensures;
+  first = c.requires.at.first;
+  row = rw c.table_of-table.ensures c.requires.at.row_there;
+  columns = let vs = c.args.columns.now.above.items in
+        let child = c.loop-child.child in
+        let inside : child < length vs = omega (arith, c.requires.columns.above_count, lists_length vs, c.loop-child-test.true) in
+        let list : c.as_slice-above.result.now ≡ get_or (lists_of vs) child [] = c.as_slice-above.ensures.value ∙ sym (list_at vs child c.index.result.now inside c.index.ensures) in
+        above_there c.args.query.now c.args.tables.now c.requires.fits c.args.join.now (lists_of c.args.columns.now.own.items) (lists_of vs) c.requires.columns
+        child c.args.node c.table_of-table.result c.as_slice-above.result.now (omega arith) (omega arith) c.if-join-child.false list c.table_of-table.ensures;
+  node = omega (arith, c.loop-child.invariant.more.count, c.requires.links, c.loop-child-test.true);
+}
 
-pub link-requires-clause-row : goal.link-requires-clause-row
-link-requires-clause-row g c = rw c.table_of-table.ensures c.requires.row
+pub returns-in_err-number : goal.returns-in_err-number
+returns-in_err-number g c =
+    let r = c.from_residual.result in
+    let e = c.from_residual.ensures.0 in
+    record {
+      more = failed r _ e;
+      count = failed r _ e;
+      names = failed r _ e;
+      cost = let below : parent_of c.args.join.now c.loop-child.child ≡ c.args.node = c.if-join-child.false in
+            let one = kids_below_child (parent_of c.args.join.now) c.args.node c.loop-child.child (omega arith) below in
+            let rise = kids_rise (parent_of c.args.join.now) c.args.node (c.loop-child.child + 1) c.args.join.now.count (omega arith) in
+            omega (arith, rise, one, c.loop-child.invariant.cost, c.in_err-number.ensures.cost);
+    }
 
-pub link-requires-clause-node : goal.link-requires-clause-node
-link-requires-clause-node g c = omega (arith, c.loop-child.invariant.more.count, c.requires.links, c.loop-child-test.true)
-
-pub link-requires-clause-columns : goal.link-requires-clause-columns
-link-requires-clause-columns g c =
-    let vs = c.args.columns.now.above.items in
-    let child = c.loop-child.child in
-    let inside : child < length vs = omega (arith, c.requires.columns.above_count, lists_length vs, c.loop-child-test.true) in
-    let list : c.as_slice-above.result.now ≡ get_or (lists_of vs) child [] = c.as_slice-above.ensures.value ∙ sym (list_at vs child c.index.result.now inside c.index.ensures) in
-    above_there c.args.query.now c.args.tables.now c.requires.fits c.args.join.now (lists_of c.args.columns.now.own.items) (lists_of vs) c.requires.columns
-    child c.args.node c.table_of-table.result c.as_slice-above.result.now (omega arith) (omega arith) c.if-join-child.false list c.table_of-table.ensures
-
-pub returns-in_err-number-clause-cost : goal.returns-in_err-number-clause-cost
-returns-in_err-number-clause-cost g c =
-    let below : parent_of c.args.join.now c.loop-child.child ≡ c.args.node = c.if-join-child.false in
-    let one = kids_below_child (parent_of c.args.join.now) c.args.node c.loop-child.child (omega arith) below in
-    let rise = kids_rise (parent_of c.args.join.now) c.args.node (c.loop-child.child + 1) c.args.join.now.count (omega arith) in
-    omega (arith, rise, one, c.loop-child.invariant.cost, c.in_err-number.ensures.cost)
-
-pub returns-in_err-push-clause-cost : goal.returns-in_err-push-clause-cost
-returns-in_err-push-clause-cost g c =
-    let below : parent_of c.args.join.now c.loop-child.child ≡ c.args.node = c.if-join-child.false in
-    let one = kids_below_child (parent_of c.args.join.now) c.args.node c.loop-child.child (omega arith) below in
-    let rise = kids_rise (parent_of c.args.join.now) c.args.node (c.loop-child.child + 1) c.args.join.now.count (omega arith) in
-    omega (arith, rise, one, c.loop-child.invariant.cost, c.in_ok-number.ensures.cost)
+pub returns-in_err-push : goal.returns-in_err-push
+returns-in_err-push g c =
+    let r = c.from_residual-in_err-push.result in
+    let e = c.from_residual-in_err-push.ensures.0 in
+    record {
+      more = failed r _ e;
+      count = failed r _ e;
+      names = failed r _ e;
+      cost = let below : parent_of c.args.join.now c.loop-child.child ≡ c.args.node = c.if-join-child.false in
+            let one = kids_below_child (parent_of c.args.join.now) c.args.node c.loop-child.child (omega arith) below in
+            let rise = kids_rise (parent_of c.args.join.now) c.args.node (c.loop-child.child + 1) c.args.join.now.count (omega arith) in
+            omega (arith, rise, one, c.loop-child.invariant.cost, c.in_ok-number.ensures.cost);
+    }
 
 pub loop-child-preserved : goal.loop-child-preserved
 loop-child-preserved g c =
@@ -102,19 +112,15 @@ loop-child-preserved g c =
       cost = omega (arith, one, before.cost, c.in_ok-number.ensures.cost);
     }
 
-pub returns-clause-count : goal.returns-clause-count
-returns-clause-count g c =
-    let all : c.loop-child.child ≡ c.args.join.now.count = omega arith in
-    c.loop-child.invariant.count ∙ ap (kids_below (parent_of c.args.join.now) c.args.node) all
-
-pub returns-clause-names : goal.returns-clause-names
-returns-clause-names g c =
-    let all : c.loop-child.child ≡ c.args.join.now.count = omega arith in
-    subst (λ (n : ℕ). NamesLinks c.args.query.now c.args.tables.now c.args.join.now (lists_of c.args.columns.now.own.items) (lists_of c.args.columns.now.above.items)
-    c.loop-child.links c.args.node c.args.row n c.loop-child.named.items) all c.loop-child.invariant.names
-
-pub returns-clause-cost : goal.returns-clause-cost
-returns-clause-cost g c =
-    let all : c.loop-child.child ≡ c.args.join.now.count = omega arith in
-    let same = ap (kids_below (parent_of c.args.join.now) c.args.node) all in
-    omega (arith, same, c.loop-child.invariant.cost)
+pub returns : goal.returns
+returns g c = record {
+  more = c.loop-child.invariant.more;
+  count = let all : c.loop-child.child ≡ c.args.join.now.count = omega arith in
+        c.loop-child.invariant.count ∙ ap (kids_below (parent_of c.args.join.now) c.args.node) all;
+  names = let all : c.loop-child.child ≡ c.args.join.now.count = omega arith in
+        subst (λ (n : ℕ). NamesLinks c.args.query.now c.args.tables.now c.args.join.now (lists_of c.args.columns.now.own.items) (lists_of c.args.columns.now.above.items)
+        c.loop-child.links c.args.node c.args.row n c.loop-child.named.items) all c.loop-child.invariant.names;
+  cost = let all : c.loop-child.child ≡ c.args.join.now.count = omega arith in
+        let same = ap (kids_below (parent_of c.args.join.now) c.args.node) all in
+        omega (arith, same, c.loop-child.invariant.cost);
+}

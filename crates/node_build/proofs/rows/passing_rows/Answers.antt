@@ -21,14 +21,19 @@ loop-row-preserved c =
           (one_more c.args.query.now.query c.args.tables.now c.args.item c.loop-row.row c.loop-row.rows.items (omega arith) c.loop-row.invariant.rows (c.passes.ensures.0 passes));
     }
 
-pub returns-clause-rows : goal.returns-clause-rows
-returns-clause-rows c =
-    let tables = c.args.tables.now in
-    let query = c.args.query.now.query in
-    let known : c.len-count.result ≡ length (item_table query tables c.args.item).rows =
-    c.len-count.ensures.rows ∙ ap (λ (t : ℕ). length (table_at tables t).rows) c.table_of.ensures in
-    let all : c.loop-row.row ≡ length (item_table query tables c.args.item).rows + 1 = omega (arith, known) in
-    rows_all query tables c.args.item c.loop-row.row c.loop-row.rows.items all c.loop-row.invariant.rows
+pub returns : goal.returns
+returns c = record {
+  rows = let tables = c.args.tables.now in
+        let query = c.args.query.now.query in
+        let known : c.len-count.result ≡ length (item_table query tables c.args.item).rows =
+        c.len-count.ensures.rows ∙ ap (λ (t : ℕ). length (table_at tables t).rows) c.table_of.ensures in
+        let all : c.loop-row.row ≡ length (item_table query tables c.args.item).rows + 1 = omega (arith, known) in
+        rows_all query tables c.args.item c.loop-row.row c.loop-row.rows.items all c.loop-row.invariant.rows;
+  few = let known : c.len-count.result ≡ length (item_table c.args.query.now.query c.args.tables.now c.args.item).rows =
+        c.len-count.ensures.rows ∙ ap (λ (t : ℕ). length (table_at c.args.tables.now t).rows) c.table_of.ensures in
+        omega (arith, known);
+  limit = omega (arith, c.len-count.ensures.limit);
+}
 
 pub returns-in_err-rows : goal.returns-in_err-rows
 returns-in_err-rows c =
@@ -42,23 +47,12 @@ returns-in_err-push c =
     let e = c.from_residual-in_err-push.ensures.0 in
     record { rows = IfOk-from_err r _ e; few = IfOk-from_err r _ e; limit = IfOk-from_err r _ e }
 
-pub returns-clause-few : goal.returns-clause-few
-returns-clause-few c =
-    let known : c.len-count.result ≡ length (item_table c.args.query.now.query c.args.tables.now c.args.item).rows =
-    c.len-count.ensures.rows ∙ ap (λ (t : ℕ). length (table_at c.args.tables.now t).rows) c.table_of.ensures in
-    omega (arith, known)
-
-pub passes-requires-clause-row : goal.passes-requires-clause-row
-passes-requires-clause-row c =
-    let known : c.len-count.result ≡ length (item_table c.args.query.now.query c.args.tables.now c.args.item).rows =
-    c.len-count.ensures.rows ∙ ap (λ (t : ℕ). length (table_at c.args.tables.now t).rows) c.table_of.ensures in
-    omega (arith, known)
-
-pub returns-clause-limit : goal.returns-clause-limit
-returns-clause-limit c = omega (arith, c.len-count.ensures.limit)
-
-pub passes-requires-clause-fits : goal.passes-requires-clause-fits
-passes-requires-clause-fits c = c.requires.fits
-
-pub passes-requires-clause-item : goal.passes-requires-clause-item
-passes-requires-clause-item c = c.requires.item
+pub passes-requires : goal.passes-requires
+passes-requires c = record {
+  fits = c.requires.fits;
+  item = c.requires.item;
+  first = omega arith;
+  row = let known : c.len-count.result ≡ length (item_table c.args.query.now.query c.args.tables.now c.args.item).rows =
+        c.len-count.ensures.rows ∙ ap (λ (t : ℕ). length (table_at c.args.tables.now t).rows) c.table_of.ensures in
+        omega (arith, known);
+}
