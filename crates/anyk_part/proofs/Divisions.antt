@@ -17,7 +17,7 @@ use Rattle.anyk_part.specs.declared.candidate.Choice.{Choice}
 use Rattle.anyk_part.specs.declared.candidate.Walk.{Walk}
 use Rattle.anyk_part.specs.Chains.{chain}
 use Rattle.anyk_part.specs.Regions.{followers, Reached, region_of, region_at, held_by, IsEntry}
-use Rattle.anyk_part.specs.Walks.{best_from, divided_from, IsAt, IsChoice, IsDivision, row_at, start_region}
+use Rattle.anyk_part.specs.Walks.{IsDivided, best_from, divided_from, IsAt, IsChoice, IsDivision, row_at, start_region}
 use Rattle.anyk_part.proofs.ChainLemmas.{chain_length}
 use Rattle.anyk_part.proofs.Sites.{sum_by_first}
 use Rattle.anyk_part.proofs.Steps.{link_of, at_after, chain_after, entries_after, held_after, held_kept, top_after}
@@ -175,14 +175,6 @@ module _ {R : Type 0} (d : ℕ) (key : R → KeyOf d 16) (t : List (NodeView R))
           (h.stands e).1 s,
         )
 
-  -- what a division leaves: the rows are those of the region's best solution, and the entries hold what else was held
-  pub record IsDivided (start : Walk) (old_links : List (Linked Link)) (before : List (Entry R Candidate)) (rows : List ℕ) (links : List (Linked Link)) (entries : List (Entry R Candidate)) : Type 0 where
-    pub best : take (length t) rows ≡ best_of (followers t) (start_region d key t old_links start)
-    pub reached : Reached t 0 (take (length t) rows)
-    pub held : (s : List ℕ) → in_regions (followers t) (divided (followers t) (start_region d key t old_links start)) s + held_by t old_links before s ≡ held_by t old_links (take 1 before) s + held_by t links entries s
-    pub each : All (IsEntry d key t links) entries
-    pub few : length entries ≤ length before + 2 * length t
-
   -- # The choice at the last node, as one more step over the links that its own link would join
 
   module _ (whole : R) (start : Walk) (old_links : List (Linked Link)) (before : List (Entry R Candidate)) (w : Walk) (links : List (Linked Link)) (chosen : List ℕ)
@@ -235,17 +227,17 @@ module _ {R : Type 0} (d : ℕ) (key : R → KeyOf d 16) (t : List (NodeView R))
         ∙ ap (λ n. held_by t old_links (take 1 before) s + n) (held_kept d key t links made rest (choice_entries top rest p) s)
 
     -- where the region is no longer at the queue's top,
-    pub choice_stays : c.top_stands ≡ false → (grown : List (Linked Link)) → grown ≡ links → IsDivided start old_links before rows grown new
+    pub choice_stays : c.top_stands ≡ false → (grown : List (Linked Link)) → grown ≡ links → IsDivided d key t start old_links before rows grown new
     choice_stays e grown same =
-        subst (λ ls. IsDivided start old_links before rows ls new) (sym same)
+        subst (λ ls. IsDivided d key t start old_links before rows ls new) (sym same)
         (record { best = choice_best; reached = choice_reached; held = choice_gone e; each = k.each; few = choice_few })
 
     -- and where it is taken from there
     pub choice_taken : c.top_stands ≡ true → 0 < length before → (grown : List (Linked Link)) → grown ≡ links → (top : Option (Entry R Candidate)) (rest : List (Entry R Candidate))
-        → IsSome top ↔ (0 < length new) → IfSome top (λ e. e ≡ get_or new 0 e) → IfSome top (λ e. IsPermutation new (e ∷ rest)) → IsDivided start old_links before rows grown rest
+        → IsSome top ↔ (0 < length new) → IfSome top (λ e. e ≡ get_or new 0 e) → IfSome top (λ e. IsPermutation new (e ∷ rest)) → IsDivided d key t start old_links before rows grown rest
     choice_taken e some grown same None rest any first p = absurd (false≢true (any.1 (choice_full e some)))
     choice_taken e some grown same (Some x) rest any first p =
-        subst (λ ls. IsDivided start old_links before rows ls rest) (sym same)
+        subst (λ ls. IsDivided d key t start old_links before rows ls rest) (sym same)
         (record {
           best = choice_best;
           reached = choice_reached;

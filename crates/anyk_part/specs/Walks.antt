@@ -112,3 +112,48 @@ module _ {R : Type 0} (d : ℕ) (key : R → KeyOf d 16) (t : List (NodeView R))
         × ((s : List ℕ) → held_by t links (take 1 entries) s
         ≡ held_by t old_links (take 1 before) s)
     pub few : length entries ≤ length before + 2 * (w.node - start.node)
+
+  -- what the choice at a walk's node finds
+  pub record CanChoose (whole : R) (w : Walk) (chosen : List ℕ) (links : List (Linked Link))
+      (entries : List (Entry R Candidate)) : Type 0 where
+    pub at : IsAt whole w chosen links
+    pub node : w.node < length t
+    pub each : All (IsEntry d key t links) entries
+    pub top : w.top_stands ≡ true → 0 < length entries
+
+  -- The walk `next` is one node further than w: the row of w's node is chosen and linked to those
+  -- before it, and the candidates that deviate from it are beside the entries that were there
+  -- before.
+  pub record IsAdvanced (whole : R) (w : Walk) (links : List (Linked Link))
+      (before : List (Entry R Candidate)) (next : Walk) (chosen : List ℕ)
+      (more : List (Linked Link)) (entries : List (Entry R Candidate)) : Type 0 where
+    pub node : next.node ≡ w.node + 1
+    pub place : next.place ≡ 0
+    pub at : IsAt whole next chosen more
+    pub chain_is : chain more next.node next.before
+        ≡ chain links w.node w.before ++ (row_at w links ∷ [])
+    pub each : All (IsEntry d key t more) entries
+    pub held : (s : List ℕ)
+        → in_region (followers t) (region_at t (chain links w.node w.before) (2 * w.place + 1)) s
+        + (in_region (followers t) (region_at t (chain links w.node w.before) (2 * w.place + 2)) s
+        + held_by t links before s)
+        ≡ gone w.top_stands next.top_stands (held_by t links (take 1 before) s)
+        + held_by t more entries s
+    pub stands : next.top_stands ≡ true → (w.top_stands ≡ true) × (entries ≡ before)
+    pub top : next.top_stands ≡ true
+        → (s : List ℕ) → held_by t more (take 1 entries) s ≡ held_by t links (take 1 before) s
+    pub few : length entries ≤ length before + 2
+
+  -- What a division leaves: the rows are those of the region's best solution, and the entries hold
+  -- what else was held.
+  pub record IsDivided (start : Walk) (old_links : List (Linked Link))
+      (before : List (Entry R Candidate)) (rows : List ℕ) (links : List (Linked Link))
+      (entries : List (Entry R Candidate)) : Type 0 where
+    pub best : take (length t) rows ≡ best_of (followers t) (start_region old_links start)
+    pub reached : Reached t 0 (take (length t) rows)
+    pub held : (s : List ℕ)
+        → in_regions (followers t) (divided (followers t) (start_region old_links start)) s
+        + held_by t old_links before s
+        ≡ held_by t old_links (take 1 before) s + held_by t links entries s
+    pub each : All (IsEntry d key t links) entries
+    pub few : length entries ≤ length before + 2 * length t

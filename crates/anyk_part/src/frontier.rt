@@ -1,15 +1,15 @@
 //! The queue of candidates, and the division of the region at its top by that region's best answer.
-ghost use Rattle.std.specs.Prelude.{◌≡◌, ℕ, ◌+◌, ◌-◌, ◌*◌, ◌^◌, ◌<◌, ◌≤◌, Bool, true, false, List, [], ◌∷◌, cond, ◌++◌, length, take, slice_index_or, OnOk, OnErr, IsSome, IfSome, ◌↔◌};
+ghost use Rattle.std.specs.Prelude.{◌≡◌, ℕ, ◌+◌, ◌-◌, ◌*◌, ◌^◌, ◌<◌, ◌≤◌, true, false, List, ◌∷◌, cond, length, take, slice_index_or, OnOk, IsSome, IfSome, ◌↔◌};
 ghost use Rattle.std.specs.List.{All};
 ghost use Rattle.std.specs.List.Sorted.{IsPermutation};
 ghost use Rattle.take2_heap.specs.Order.{IsLeast};
 ghost use Rattle.rank_key.specs.Bits.{bit_length};
-ghost use Rattle.rankings.specs.Regions.{in_region, in_regions, best_of, divided};
+ghost use Rattle.rankings.specs.Regions.{in_region};
 ghost use Rattle.tdp_core.specs.TreeView.{members};
 ghost use Rattle.anyk_part.specs.Chains.{chain, IsChain};
 ghost use Rattle.anyk_part.specs.Places.{ArePlaces};
-ghost use Rattle.anyk_part.specs.Regions.{followers, Reached, region_at, held_by, IsEntry};
-ghost use Rattle.anyk_part.specs.Walks.{IsSite, IsAt, IsChoice, gone, row_at, start_region};
+ghost use Rattle.anyk_part.specs.Regions.{followers, region_at, held_by, IsEntry};
+ghost use Rattle.anyk_part.specs.Walks.{CanChoose, IsAdvanced, IsDivided, IsSite, IsAt, IsChoice, gone};
 
 use crate::candidate::{Candidate, Choice, Link, Site, Walk};
 use crate::paths::group_at;
@@ -166,12 +166,8 @@ impl<R: Rank, A: Allocator + Clone> Frontier<R, A> {
         steps: &mut Steps<L>,
     ) -> Choice
         requires places { ArePlaces tree.now places.now }
-        requires at { IsAt R.KEYS R.key tree.now total.now walk.now chosen.old
-            self.old.links.entries }
-        requires node { walk.now.node < length tree.now }
-        requires entries { All
-            (IsEntry R.KEYS R.key tree.now self.old.links.entries) self.old.queue.entries }
-        requires top { walk.now.top_stands ≡ true → 0 < length self.old.queue.entries }
+        requires ready { CanChoose R.KEYS R.key tree.now total.now walk.now chosen.old
+            self.old.links.entries self.old.queue.entries }
         requires room { 2 ≤ self.old.queue.spare }
         ensures choice { IsChoice R.KEYS R.key tree.now walk.now self.old.links.entries chosen.old
             self.old.queue.entries result chosen.new self.new.queue.entries }
@@ -218,40 +214,15 @@ impl<R: Rank, A: Allocator + Clone> Frontier<R, A> {
         steps: &mut Steps<L>,
     ) -> Walk
         requires places { ArePlaces tree.now places.now }
-        requires at { IsAt R.KEYS R.key tree.now total.now walk chosen.old self.old.links.entries }
-        requires node { walk.node < length tree.now }
-        requires entries { All
-            (IsEntry R.KEYS R.key tree.now self.old.links.entries) self.old.queue.entries }
-        requires top { walk.top_stands ≡ true → 0 < length self.old.queue.entries }
+        requires ready { CanChoose R.KEYS R.key tree.now total.now walk chosen.old
+            self.old.links.entries self.old.queue.entries }
         requires room { 2 ≤ self.old.queue.spare }
         requires link_room { 1 ≤ self.old.links.spare }
-        ensures node { result.node ≡ walk.node + 1 }
-        ensures place { result.place ≡ 0 }
-        ensures at { IsAt R.KEYS R.key tree.now total.now result chosen.new self.new.links.entries }
-        ensures chain { chain self.new.links.entries result.node result.before
-            ≡ chain self.old.links.entries walk.node walk.before
-            ++ (row_at R.KEYS R.key tree.now walk self.old.links.entries ∷ []) }
-        ensures entries { All
-            (IsEntry R.KEYS R.key tree.now self.new.links.entries) self.new.queue.entries }
-        ensures held { (s : List ℕ) →
-            in_region (followers tree.now)
-            (region_at tree.now (chain self.old.links.entries walk.node walk.before)
-            (2 * walk.place + 1)) s
-            + (in_region (followers tree.now)
-            (region_at tree.now (chain self.old.links.entries walk.node walk.before)
-            (2 * walk.place + 2)) s
-            + held_by tree.now self.old.links.entries self.old.queue.entries s)
-            ≡ gone walk.top_stands result.top_stands
-            (held_by tree.now self.old.links.entries (take 1 self.old.queue.entries) s)
-            + held_by tree.now self.new.links.entries self.new.queue.entries s }
-        ensures stands { result.top_stands ≡ true
-            → (walk.top_stands ≡ true) × (self.new.queue.entries ≡ self.old.queue.entries) }
-        ensures top { result.top_stands ≡ true → (s : List ℕ) →
-            held_by tree.now self.new.links.entries (take 1 self.new.queue.entries) s
-            ≡ held_by tree.now self.old.links.entries (take 1 self.old.queue.entries) s }
+        ensures advanced { IsAdvanced R.KEYS R.key tree.now total.now walk self.old.links.entries
+            self.old.queue.entries result chosen.new self.new.links.entries
+            self.new.queue.entries }
         ensures room { self.old.queue.spare ≤ self.new.queue.spare + 2 }
         ensures link_room { self.old.links.spare ≤ self.new.links.spare + 1 }
-        ensures length { length self.new.queue.entries ≤ length self.old.queue.entries + 2 }
         ensures cost { steps.new
             ≤ steps.old + 10 + 4 * bit_length (length self.old.queue.entries + 2) }
     {
@@ -289,21 +260,8 @@ impl<R: Rank, A: Allocator + Clone> Frontier<R, A> {
         requires some { 0 < length self.old.queue.entries }
         requires room { 2 * length tree.now ≤ self.old.queue.spare }
         requires link_room { length tree.now ≤ self.old.links.spare }
-        ensures best { take (length tree.now) chosen.new
-            ≡ best_of (followers tree.now)
-            (start_region R.KEYS R.key tree.now self.old.links.entries start) }
-        ensures reached { Reached tree.now 0 (take (length tree.now) chosen.new) }
-        ensures held { (s : List ℕ) →
-            in_regions (followers tree.now)
-            (divided (followers tree.now)
-            (start_region R.KEYS R.key tree.now self.old.links.entries start)) s
-            + held_by tree.now self.old.links.entries self.old.queue.entries s
-            ≡ held_by tree.now self.old.links.entries (take 1 self.old.queue.entries) s
-            + held_by tree.now self.new.links.entries self.new.queue.entries s }
-        ensures entries { All
-            (IsEntry R.KEYS R.key tree.now self.new.links.entries) self.new.queue.entries }
-        ensures length { length self.new.queue.entries
-            ≤ length self.old.queue.entries + 2 * length tree.now }
+        ensures divided { IsDivided R.KEYS R.key tree.now start self.old.links.entries
+            self.old.queue.entries chosen.new self.new.links.entries self.new.queue.entries }
         ensures cost { steps.new
             ≤ steps.old + length tree.now
             * (10 + 4 * bit_length (length self.old.queue.entries + 2 * length tree.now))

@@ -5,7 +5,8 @@ use Rattle.stream_store.specs.Entries.{Entries}
 use Rattle.take2_heap.specs.declared.entry.Entry.{Entry}
 use Rattle.anyk_part.specs.declared.candidate.Candidate.{Candidate}
 use Rattle.anyk_part.specs.declared.candidate.Link.{Link}
-use Rattle.anyk_part.proofs.Divisions.{IsDivided, division_init, division_next, choice_few, choice_stays, choice_taken, times_next, times_within}
+use Rattle.anyk_part.specs.Walks.{IsDivided}
+use Rattle.anyk_part.proofs.Divisions.{division_init, division_next, choice_few, choice_stays, choice_taken, times_next, times_within}
 use Rattle.anyk_part.proofs.frontier.Frontier.divide.Given.{Over}
 use Rattle.anyk_part.proofs.frontier.Frontier.divide.Goals.{After-pop, Else-choice}
 use Rattle.anyk_part.proofs.frontier.Frontier.divide.Goals as goal
@@ -24,16 +25,11 @@ loop-walk-init g c =
       cost = omega arith;
     }
 
-pub advance-walk-requires-clause-top : goal.advance-walk-requires-clause-top
-advance-walk-requires-clause-top g c = λ e. subst (λ (es : List (Entry g.row.R.Denot Candidate)). 0 < length es) (sym (c.loop-walk.invariant.division.stands e).0) c.requires.some
-
-pub choose-choice-requires-clause-top : goal.choose-choice-requires-clause-top
-choose-choice-requires-clause-top g c = λ e. subst (λ (es : List (Entry g.row.R.Denot Candidate)). 0 < length es) (sym (c.loop-walk.invariant.division.stands e).0) c.requires.some
-
 pub loop-walk-preserved : goal.loop-walk-preserved
 loop-walk-preserved g c =
     let l = c.loop-walk.invariant in
-    let e = c.advance-walk.ensures in
+    let more = c.advance-walk.ensures in
+    let e = more.advanced in
     let below = l.below in
     let n = length c.args.self.now.queue.entries in
     let m = length c.args.tree.now in
@@ -41,13 +37,13 @@ loop-walk-preserved g c =
     record {
       at = e.at;
       division = division_next g.R.Rank.KEYS g.R.Rank.key c.args.tree.now c.args.total.now c.args.start c.args.self.now.links.entries c.args.self.now.queue.entries c.loop-walk.walk c.advance-walk.result
-          c.loop-walk.self.links.entries c.advance-walk.new.self.links.entries c.loop-walk.chosen c.loop-walk.self.queue.entries c.advance-walk.new.self.queue.entries l.at below l.division e.node e.place e.chain e.entries e.held e.stands e.top e.length;
+          c.loop-walk.self.links.entries c.advance-walk.new.self.links.entries c.loop-walk.chosen c.loop-walk.self.queue.entries c.advance-walk.new.self.queue.entries l.at below l.division e.node e.place e.chain_is e.each e.held e.stands e.top e.few;
       below = omega (arith, e.node, c.loop-walk-test.true, l.count);
       count = l.count;
-      room = omega (arith, l.room, e.room, e.node, c.loop-walk-test.true);
-      link_room = omega (arith, l.link_room, e.link_room, e.node, c.loop-walk-test.true);
+      room = omega (arith, l.room, more.room, e.node, c.loop-walk-test.true);
+      link_room = omega (arith, l.link_room, more.link_room, e.node, c.loop-walk-test.true);
       cost = times_next (c.advance-walk.result.node - c.args.start.node) (c.loop-walk.walk.node - c.args.start.node) (10 + 4 * bit_length (n + 2 * m)) c.args.steps.now c.loop-walk.steps c.advance-walk.new.steps
-          (omega (arith, e.node, l.division.from)) l.cost (omega (arith, e.cost, digits));
+          (omega (arith, e.node, l.division.from)) l.cost (omega (arith, more.cost, digits));
     }
 
 module _ (g : Over) where
@@ -67,94 +63,52 @@ module _ (g : Over) where
       l.at l.division l.below (omega (arith, c.loop-walk-test.false, l.count)) c.choose-choice.result c.choose-choice.new.chosen c.choose-choice.new.self.queue.entries c.choose-choice.ensures.choice c.if-choice.false
       c.choose-choice.new.self.links.entries (ap (λ (k : Entries Link). k.entries) c.choose-choice.ensures.links)
 
-pub returns-then-choice-clause-best : goal.returns-then-choice-clause-best
-returns-then-choice-clause-best g c = (taken g c).best
+pub returns-then-choice : goal.returns-then-choice
+returns-then-choice g c = record {
+  divided = taken g c;
+  cost = let l = c.loop-walk.invariant in
+        let n = length c.args.self.now.queue.entries in
+        let m = length c.args.tree.now in
+        let u = 10 + 4 * bit_length (n + 2 * m) in
+        let few = choice_few g.R.Rank.KEYS g.R.Rank.key c.args.tree.now c.args.total.now c.args.start c.args.self.now.links.entries c.args.self.now.queue.entries c.loop-walk.walk c.loop-walk.self.links.entries c.loop-walk.chosen c.loop-walk.self.queue.entries
+        l.at l.division l.below (omega (arith, c.loop-walk-test.false, l.count)) c.choose-choice.result c.choose-choice.new.chosen c.choose-choice.new.self.queue.entries c.choose-choice.ensures.choice in
+        let digits = bit_length_rises (length c.loop-walk.self.queue.entries + 2) (n + 2 * m) (omega (arith, l.division.few, l.below)) in
+        let popped = bit_length_rises (length c.choose-choice.new.self.queue.entries) (n + 2 * m) (omega (arith, few)) in
+        let end = times_next (c.loop-walk.walk.node + 1 - c.args.start.node) (c.loop-walk.walk.node - c.args.start.node) u c.args.steps.now c.loop-walk.steps c.choose-choice.new.steps
+        (omega (arith, l.division.from)) l.cost (omega (arith, c.choose-choice.ensures.cost, digits)) in
+        times_within (c.loop-walk.walk.node + 1 - c.args.start.node) m u c.args.steps.now c.choose-choice.new.steps c.pop.new.steps (2 * bit_length (n + 2 * m))
+        (omega (arith, l.below)) end (omega (arith, c.pop.ensures.cost, popped));
+}
 
-pub returns-then-choice-clause-reached : goal.returns-then-choice-clause-reached
-returns-then-choice-clause-reached g c = (taken g c).reached
+pub returns-else-choice : goal.returns-else-choice
+returns-else-choice g c = record {
+  divided = stays g c;
+  cost = let l = c.loop-walk.invariant in
+        let n = length c.args.self.now.queue.entries in
+        let m = length c.args.tree.now in
+        let u = 10 + 4 * bit_length (n + 2 * m) in
+        let few = choice_few g.R.Rank.KEYS g.R.Rank.key c.args.tree.now c.args.total.now c.args.start c.args.self.now.links.entries c.args.self.now.queue.entries c.loop-walk.walk c.loop-walk.self.links.entries c.loop-walk.chosen c.loop-walk.self.queue.entries
+        l.at l.division l.below (omega (arith, c.loop-walk-test.false, l.count)) c.choose-choice.result c.choose-choice.new.chosen c.choose-choice.new.self.queue.entries c.choose-choice.ensures.choice in
+        let digits = bit_length_rises (length c.loop-walk.self.queue.entries + 2) (n + 2 * m) (omega (arith, l.division.few, l.below)) in
+        let end = times_next (c.loop-walk.walk.node + 1 - c.args.start.node) (c.loop-walk.walk.node - c.args.start.node) u c.args.steps.now c.loop-walk.steps c.choose-choice.new.steps
+        (omega (arith, l.division.from)) l.cost (omega (arith, c.choose-choice.ensures.cost, digits)) in
+        times_within (c.loop-walk.walk.node + 1 - c.args.start.node) m u c.args.steps.now c.choose-choice.new.steps c.choose-choice.new.steps (2 * bit_length (n + 2 * m))
+        (omega (arith, l.below)) end (omega arith);
+}
 
-pub returns-then-choice-clause-held : goal.returns-then-choice-clause-held
-returns-then-choice-clause-held g c = (taken g c).held
+pub advance-walk-requires : goal.advance-walk-requires
+advance-walk-requires g c = record {
+  places = c.requires.places;
+  ready = let l = c.loop-walk.invariant in
+    record { at = l.at; node = l.below; each = l.division.each; top = λ e. subst (λ (es : List (Entry g.row.R.Denot Candidate)). 0 < length es) (sym (c.loop-walk.invariant.division.stands e).0) c.requires.some };
+  room = omega (arith, c.loop-walk.invariant.room, c.loop-walk-test.true);
+  link_room = omega (arith, c.loop-walk.invariant.link_room, c.loop-walk-test.true);
+}
 
-pub returns-then-choice-clause-entries : goal.returns-then-choice-clause-entries
-returns-then-choice-clause-entries g c = (taken g c).each
-
-pub returns-then-choice-clause-length : goal.returns-then-choice-clause-length
-returns-then-choice-clause-length g c = (taken g c).few
-
-pub returns-then-choice-clause-cost : goal.returns-then-choice-clause-cost
-returns-then-choice-clause-cost g c =
-    let l = c.loop-walk.invariant in
-    let n = length c.args.self.now.queue.entries in
-    let m = length c.args.tree.now in
-    let u = 10 + 4 * bit_length (n + 2 * m) in
-    let few = choice_few g.R.Rank.KEYS g.R.Rank.key c.args.tree.now c.args.total.now c.args.start c.args.self.now.links.entries c.args.self.now.queue.entries c.loop-walk.walk c.loop-walk.self.links.entries c.loop-walk.chosen c.loop-walk.self.queue.entries
-    l.at l.division l.below (omega (arith, c.loop-walk-test.false, l.count)) c.choose-choice.result c.choose-choice.new.chosen c.choose-choice.new.self.queue.entries c.choose-choice.ensures.choice in
-    let digits = bit_length_rises (length c.loop-walk.self.queue.entries + 2) (n + 2 * m) (omega (arith, l.division.few, l.below)) in
-    let popped = bit_length_rises (length c.choose-choice.new.self.queue.entries) (n + 2 * m) (omega (arith, few)) in
-    let end = times_next (c.loop-walk.walk.node + 1 - c.args.start.node) (c.loop-walk.walk.node - c.args.start.node) u c.args.steps.now c.loop-walk.steps c.choose-choice.new.steps
-    (omega (arith, l.division.from)) l.cost (omega (arith, c.choose-choice.ensures.cost, digits)) in
-    times_within (c.loop-walk.walk.node + 1 - c.args.start.node) m u c.args.steps.now c.choose-choice.new.steps c.pop.new.steps (2 * bit_length (n + 2 * m))
-    (omega (arith, l.below)) end (omega (arith, c.pop.ensures.cost, popped))
-
-pub returns-else-choice-clause-best : goal.returns-else-choice-clause-best
-returns-else-choice-clause-best g c = (stays g c).best
-
-pub returns-else-choice-clause-reached : goal.returns-else-choice-clause-reached
-returns-else-choice-clause-reached g c = (stays g c).reached
-
-pub returns-else-choice-clause-held : goal.returns-else-choice-clause-held
-returns-else-choice-clause-held g c = (stays g c).held
-
-pub returns-else-choice-clause-entries : goal.returns-else-choice-clause-entries
-returns-else-choice-clause-entries g c = (stays g c).each
-
-pub returns-else-choice-clause-length : goal.returns-else-choice-clause-length
-returns-else-choice-clause-length g c = (stays g c).few
-
-pub returns-else-choice-clause-cost : goal.returns-else-choice-clause-cost
-returns-else-choice-clause-cost g c =
-    let l = c.loop-walk.invariant in
-    let n = length c.args.self.now.queue.entries in
-    let m = length c.args.tree.now in
-    let u = 10 + 4 * bit_length (n + 2 * m) in
-    let few = choice_few g.R.Rank.KEYS g.R.Rank.key c.args.tree.now c.args.total.now c.args.start c.args.self.now.links.entries c.args.self.now.queue.entries c.loop-walk.walk c.loop-walk.self.links.entries c.loop-walk.chosen c.loop-walk.self.queue.entries
-    l.at l.division l.below (omega (arith, c.loop-walk-test.false, l.count)) c.choose-choice.result c.choose-choice.new.chosen c.choose-choice.new.self.queue.entries c.choose-choice.ensures.choice in
-    let digits = bit_length_rises (length c.loop-walk.self.queue.entries + 2) (n + 2 * m) (omega (arith, l.division.few, l.below)) in
-    let end = times_next (c.loop-walk.walk.node + 1 - c.args.start.node) (c.loop-walk.walk.node - c.args.start.node) u c.args.steps.now c.loop-walk.steps c.choose-choice.new.steps
-    (omega (arith, l.division.from)) l.cost (omega (arith, c.choose-choice.ensures.cost, digits)) in
-    times_within (c.loop-walk.walk.node + 1 - c.args.start.node) m u c.args.steps.now c.choose-choice.new.steps c.choose-choice.new.steps (2 * bit_length (n + 2 * m))
-    (omega (arith, l.below)) end (omega arith)
-
-pub advance-walk-requires-clause-places : goal.advance-walk-requires-clause-places
-advance-walk-requires-clause-places g c = c.requires.places
-
-pub advance-walk-requires-clause-at : goal.advance-walk-requires-clause-at
-advance-walk-requires-clause-at g c = c.loop-walk.invariant.at
-
-pub advance-walk-requires-clause-node : goal.advance-walk-requires-clause-node
-advance-walk-requires-clause-node g c = c.loop-walk.invariant.below
-
-pub advance-walk-requires-clause-entries : goal.advance-walk-requires-clause-entries
-advance-walk-requires-clause-entries g c = c.loop-walk.invariant.division.each
-
-pub advance-walk-requires-clause-room : goal.advance-walk-requires-clause-room
-advance-walk-requires-clause-room g c = omega (arith, c.loop-walk.invariant.room, c.loop-walk-test.true)
-
-pub advance-walk-requires-clause-link_room : goal.advance-walk-requires-clause-link_room
-advance-walk-requires-clause-link_room g c = omega (arith, c.loop-walk.invariant.link_room, c.loop-walk-test.true)
-
-pub choose-choice-requires-clause-places : goal.choose-choice-requires-clause-places
-choose-choice-requires-clause-places g c = c.requires.places
-
-pub choose-choice-requires-clause-at : goal.choose-choice-requires-clause-at
-choose-choice-requires-clause-at g c = c.loop-walk.invariant.at
-
-pub choose-choice-requires-clause-node : goal.choose-choice-requires-clause-node
-choose-choice-requires-clause-node g c = c.loop-walk.invariant.below
-
-pub choose-choice-requires-clause-entries : goal.choose-choice-requires-clause-entries
-choose-choice-requires-clause-entries g c = c.loop-walk.invariant.division.each
-
-pub choose-choice-requires-clause-room : goal.choose-choice-requires-clause-room
-choose-choice-requires-clause-room g c = omega (arith, c.loop-walk.invariant.room, c.loop-walk.invariant.below, c.loop-walk.invariant.count)
+pub choose-choice-requires : goal.choose-choice-requires
+choose-choice-requires g c = record {
+  places = c.requires.places;
+  ready = let l = c.loop-walk.invariant in
+    record { at = l.at; node = l.below; each = l.division.each; top = λ e. subst (λ (es : List (Entry g.row.R.Denot Candidate)). 0 < length es) (sym (c.loop-walk.invariant.division.stands e).0) c.requires.some };
+  room = omega (arith, c.loop-walk.invariant.room, c.loop-walk.invariant.below, c.loop-walk.invariant.count);
+}

@@ -16,20 +16,20 @@ invariant_of-self g c =
     let empty : length c.self.inside.frontier.queue.entries ≤ 0 = search rules in
     (part_empty g.R.Rank.KEYS g.R.Rank.key c.self.inside.tree.now c.self.inside.frontier.links.entries c.self.inside.frontier.links.entries c.self.inside.frontier.queue.entries c.self.inside.frontier.queue.entries refl refl c.self.inside.calls c.saturating_add-self-inside.result c.self.invariant.0 empty, c.self.invariant.1)
 
-pub returns-in_default-clause-end : goal.returns-in_default-clause-end
-returns-in_default-clause-end g c =
-    let t = c.self.inside.tree.now in
-    let links : List (Linked Link) = c.self.inside.frontier.links.entries in
-    let entries : List (Entry g.row.R.Denot Candidate) = c.self.inside.frontier.queue.entries in
-    let empty : length entries ≤ 0 = search rules in
-    let none : rest_of g.R.Rank.KEYS g.R.Rank.key t (candidates_of links (length t) entries) ≡ [] = answers_end g.R.Rank.KEYS g.R.Rank.key t links entries empty in
-    (ap (λ (s : PartView g.row.R.Denot). rest_of g.R.Rank.KEYS g.R.Rank.key s.tree s.candidates) (sym c.self.view_is) ∙ none, none)
-
-pub returns-in_default-clause-counted : goal.returns-in_default-clause-counted
-returns-in_default-clause-counted g c = c.saturating_add-self-inside.ensures ∙ ap (λ (s : PartView g.row.R.Denot). counted s.calls) c.self.view_is
-
-pub returns-in_default-clause-size : goal.returns-in_default-clause-size
-returns-in_default-clause-size g c = ap (λ (s : PartView g.row.R.Denot). size_of s.tree) c.self.view_is
+pub returns-in_default : goal.returns-in_default
+returns-in_default g c = record {
+  found = tt;
+  end = let t = c.self.inside.tree.now in
+        let links : List (Linked Link) = c.self.inside.frontier.links.entries in
+        let entries : List (Entry g.row.R.Denot Candidate) = c.self.inside.frontier.queue.entries in
+        let empty : length entries ≤ 0 = search rules in
+        let none : rest_of g.R.Rank.KEYS g.R.Rank.key t (candidates_of links (length t) entries) ≡ [] = answers_end g.R.Rank.KEYS g.R.Rank.key t links entries empty in
+        (ap (λ (s : PartView g.row.R.Denot). rest_of g.R.Rank.KEYS g.R.Rank.key s.tree s.candidates) (sym c.self.view_is) ∙ none, none);
+  refused = tt;
+  counted = c.saturating_add-self-inside.ensures ∙ ap (λ (s : PartView g.row.R.Denot). counted s.calls) c.self.view_is;
+  size = ap (λ (s : PartView g.row.R.Denot). size_of s.tree) c.self.view_is;
+  cost = omega arith;
+}
 
 pub invariant_of-self-in_err-make_room : goal.invariant_of-self-in_err-make_room
 invariant_of-self-in_err-make_room g c =
@@ -41,15 +41,14 @@ returns-in_err-make_room-clause-counted g c = c.saturating_add-self-inside.ensur
 pub returns-in_err-make_room-clause-size : goal.returns-in_err-make_room-clause-size
 returns-in_err-make_room-clause-size g c = ap (λ (s : PartView g.row.R.Denot). size_of s.tree) c.self.view_is
 
-pub prefix-chosen-requires-clause-count : goal.prefix-chosen-requires-clause-count
-prefix-chosen-requires-clause-count g c =
-    let entry = top_entry g.R.Rank.KEYS g.R.Rank.key c.self.inside.tree.now c.self.inside.frontier.links.entries c.make_room.new.self.links.entries c.self.inside.frontier.queue.entries c.make_room.new.self.queue.entries c.self.inside.calls _ _
-    c.make_room.ensures.links c.make_room.ensures.entries c.self.invariant.0 (c.in-Some.ensures.variant.0 refl) c.in-Some.ensures.top in
-    omega (arith, entry.position, c.self.invariant.0.formed.shaped.few_nodes)
-
-pub prefix-chosen-requires-clause-chained : goal.prefix-chosen-requires-clause-chained
-prefix-chosen-requires-clause-chained g c = (top_entry g.R.Rank.KEYS g.R.Rank.key c.self.inside.tree.now c.self.inside.frontier.links.entries c.make_room.new.self.links.entries c.self.inside.frontier.queue.entries c.make_room.new.self.queue.entries c.self.inside.calls _ _
-    c.make_room.ensures.links c.make_room.ensures.entries c.self.invariant.0 (c.in-Some.ensures.variant.0 refl) c.in-Some.ensures.top).chained
+pub prefix-chosen-requires : goal.prefix-chosen-requires
+prefix-chosen-requires g c = record {
+  count = let entry = top_entry g.R.Rank.KEYS g.R.Rank.key c.self.inside.tree.now c.self.inside.frontier.links.entries c.make_room.new.self.links.entries c.self.inside.frontier.queue.entries c.make_room.new.self.queue.entries c.self.inside.calls _ _
+        c.make_room.ensures.links c.make_room.ensures.entries c.self.invariant.0 (c.in-Some.ensures.variant.0 refl) c.in-Some.ensures.top in
+        omega (arith, entry.position, c.self.invariant.0.formed.shaped.few_nodes);
+  chained = (top_entry g.R.Rank.KEYS g.R.Rank.key c.self.inside.tree.now c.self.inside.frontier.links.entries c.make_room.new.self.links.entries c.self.inside.frontier.queue.entries c.make_room.new.self.queue.entries c.self.inside.calls _ _
+        c.make_room.ensures.links c.make_room.ensures.entries c.self.invariant.0 (c.in-Some.ensures.variant.0 refl) c.in-Some.ensures.top).chained;
+}
 
 pub divide-requires-clause-at : goal.divide-requires-clause-at
 divide-requires-clause-at g c =
@@ -60,15 +59,18 @@ divide-requires-clause-at g c =
     long c.prefix-chosen.ensures.rows
 
 pub divide-requires-clause-node : goal.divide-requires-clause-node
-divide-requires-clause-node g c = (top_entry g.R.Rank.KEYS g.R.Rank.key c.self.inside.tree.now c.self.inside.frontier.links.entries c.make_room.new.self.links.entries c.self.inside.frontier.queue.entries c.make_room.new.self.queue.entries c.self.inside.calls _ _
+divide-requires-clause-node g c =
+    (top_entry g.R.Rank.KEYS g.R.Rank.key c.self.inside.tree.now c.self.inside.frontier.links.entries c.make_room.new.self.links.entries c.self.inside.frontier.queue.entries c.make_room.new.self.queue.entries c.self.inside.calls _ _
     c.make_room.ensures.links c.make_room.ensures.entries c.self.invariant.0 (c.in-Some.ensures.variant.0 refl) c.in-Some.ensures.top).position
 
 pub divide-requires-clause-entries : goal.divide-requires-clause-entries
-divide-requires-clause-entries g c = top_each g.R.Rank.KEYS g.R.Rank.key c.self.inside.tree.now c.self.inside.frontier.links.entries c.make_room.new.self.links.entries c.self.inside.frontier.queue.entries c.make_room.new.self.queue.entries c.self.inside.calls _ _
+divide-requires-clause-entries g c =
+    top_each g.R.Rank.KEYS g.R.Rank.key c.self.inside.tree.now c.self.inside.frontier.links.entries c.make_room.new.self.links.entries c.self.inside.frontier.queue.entries c.make_room.new.self.queue.entries c.self.inside.calls _ _
     c.make_room.ensures.links c.make_room.ensures.entries c.self.invariant.0 (c.in-Some.ensures.variant.0 refl) c.in-Some.ensures.top
 
 pub divide-requires-clause-some : goal.divide-requires-clause-some
-divide-requires-clause-some g c = top_some g.R.Rank.KEYS g.R.Rank.key c.self.inside.tree.now c.self.inside.frontier.links.entries c.make_room.new.self.links.entries c.self.inside.frontier.queue.entries c.make_room.new.self.queue.entries c.self.inside.calls _ _
+divide-requires-clause-some g c =
+    top_some g.R.Rank.KEYS g.R.Rank.key c.self.inside.tree.now c.self.inside.frontier.links.entries c.make_room.new.self.links.entries c.self.inside.frontier.queue.entries c.make_room.new.self.queue.entries c.self.inside.calls _ _
     c.make_room.ensures.links c.make_room.ensures.entries c.self.invariant.0 (c.in-Some.ensures.variant.0 refl) c.in-Some.ensures.top
 
 pub divide-requires-clause-room : goal.divide-requires-clause-room
@@ -78,44 +80,40 @@ pub divide-requires-clause-link_room : goal.divide-requires-clause-link_room
 divide-requires-clause-link_room g c = let count = c.nodes.ensures.count in omega (arith, count, c.in_ok-make_room.ensures.link_room)
 
 pub row_numbers-rows-requires-clause-rows : goal.row_numbers-rows-requires-clause-rows
-row_numbers-rows-requires-clause-rows g c = rows_in c.self.inside.tree.now c.divide.new.chosen c.divide.ensures.reached
+row_numbers-rows-requires-clause-rows g c = rows_in c.self.inside.tree.now c.divide.new.chosen c.divide.ensures.divided.reached
 
 pub invariant_of-self-2 : goal.invariant_of-self-2
 invariant_of-self-2 g c = (
   (top_next g.R.Rank.KEYS g.R.Rank.key c.self.inside.tree.now c.self.inside.frontier.links.entries c.make_room.new.self.links.entries c.self.inside.frontier.queue.entries c.make_room.new.self.queue.entries c.self.inside.calls _ _
       c.make_room.ensures.links c.make_room.ensures.entries c.self.invariant.0 (c.in-Some.ensures.variant.0 refl) c.in-Some.ensures.top
-      c.divide.new.self.links.entries c.divide.new.self.queue.entries c.saturating_add-self-inside.result c.in-Some.ensures.least c.divide.ensures.held c.divide.ensures.entries c.in-Some.ensures.limit c.divide.ensures.length c.saturating_add-self-inside.ensures).1,
+      c.divide.new.self.links.entries c.divide.new.self.queue.entries c.saturating_add-self-inside.result c.in-Some.ensures.least c.divide.ensures.divided.held c.divide.ensures.divided.each c.in-Some.ensures.limit c.divide.ensures.divided.few c.saturating_add-self-inside.ensures).1,
   c.self.invariant.1,
 )
 
-pub returns-clause-found : goal.returns-clause-found
-returns-clause-found g c =
-    let t = c.self.inside.tree.now in
-    let links : List (Linked Link) = c.self.inside.frontier.links.entries in
-    let entries : List (Entry g.row.R.Denot Candidate) = c.self.inside.frontier.queue.entries in
-    ap (λ (s : PartView g.row.R.Denot). rest_of g.R.Rank.KEYS g.R.Rank.key s.tree s.candidates) (sym c.self.view_is)
-    ∙ answer_found g.R.Rank.KEYS g.R.Rank.key t links c.divide.new.self.links.entries entries c.divide.new.self.queue.entries _ c.row_numbers-rows.result
-    (top_next g.R.Rank.KEYS g.R.Rank.key t links c.make_room.new.self.links.entries entries c.make_room.new.self.queue.entries c.self.inside.calls _ _
-    c.make_room.ensures.links c.make_room.ensures.entries c.self.invariant.0 (c.in-Some.ensures.variant.0 refl) c.in-Some.ensures.top
-    c.divide.new.self.links.entries c.divide.new.self.queue.entries c.saturating_add-self-inside.result c.in-Some.ensures.least c.divide.ensures.held c.divide.ensures.entries c.in-Some.ensures.limit c.divide.ensures.length c.saturating_add-self-inside.ensures).0
-    (c.row_numbers-rows.ensures.numbers ∙ ap (λ k. rows_of_key g.R.Rank.KEYS 16 k)
-    (top_key g.R.Rank.KEYS g.R.Rank.key t links c.make_room.new.self.links.entries entries c.make_room.new.self.queue.entries c.self.inside.calls _ _
-    c.make_room.ensures.links c.make_room.ensures.entries c.self.invariant.0 (c.in-Some.ensures.variant.0 refl) c.in-Some.ensures.top c.divide.new.chosen c.divide.ensures.best))
-
-pub returns-clause-counted : goal.returns-clause-counted
-returns-clause-counted g c = c.saturating_add-self-inside.ensures ∙ ap (λ (s : PartView g.row.R.Denot). counted s.calls) c.self.view_is
-
-pub returns-clause-size : goal.returns-clause-size
-returns-clause-size g c = ap (λ (s : PartView g.row.R.Denot). size_of s.tree) c.self.view_is
-
-pub returns-clause-cost : goal.returns-clause-cost
-returns-clause-cost g c =
-    let t = c.self.inside.tree.now in
-    let entry = top_entry g.R.Rank.KEYS g.R.Rank.key t c.self.inside.frontier.links.entries c.make_room.new.self.links.entries c.self.inside.frontier.queue.entries c.make_room.new.self.queue.entries c.self.inside.calls _ _
-    c.make_room.ensures.links c.make_room.ensures.entries c.self.invariant.0 (c.in-Some.ensures.variant.0 refl) c.in-Some.ensures.top in
-    let few = c.self.invariant.0.few in
-    let same : length c.make_room.new.self.queue.entries ≡ length c.self.inside.frontier.queue.entries = ap (λ (es : List (Entry g.row.R.Denot Candidate)). length es) c.make_room.ensures.entries in
-    let all : c.row_numbers-rows.new.steps ≤ c.args.steps.now + most_steps (length t) (row_count t) (group_count t 0) c.self.inside.calls =
-    steps_within (length t) (row_count t) (group_count t 0) c.self.inside.calls (length c.make_room.new.self.queue.entries) _ c.args.steps.now c.prefix-chosen.new.steps c.divide.new.steps c.row_numbers-rows.new.steps
-    c.self.invariant.0.formed.shaped.some_node (c.self.invariant.0.live (c.in-Some.ensures.variant.0 refl)) (omega (arith, few, same)) (omega (arith, entry.position)) c.prefix-chosen.ensures.cost c.divide.ensures.cost c.row_numbers-rows.ensures.cost in
-    subst (λ (s : PartView g.row.R.Denot). c.row_numbers-rows.new.steps ≤ c.args.steps.now + most_steps (length s.tree) (row_count s.tree) (group_count s.tree 0) s.calls) c.self.view_is all
+pub returns : goal.returns
+returns g c = record {
+  found = let t = c.self.inside.tree.now in
+        let links : List (Linked Link) = c.self.inside.frontier.links.entries in
+        let entries : List (Entry g.row.R.Denot Candidate) = c.self.inside.frontier.queue.entries in
+        ap (λ (s : PartView g.row.R.Denot). rest_of g.R.Rank.KEYS g.R.Rank.key s.tree s.candidates) (sym c.self.view_is)
+        ∙ answer_found g.R.Rank.KEYS g.R.Rank.key t links c.divide.new.self.links.entries entries c.divide.new.self.queue.entries _ c.row_numbers-rows.result
+        (top_next g.R.Rank.KEYS g.R.Rank.key t links c.make_room.new.self.links.entries entries c.make_room.new.self.queue.entries c.self.inside.calls _ _
+        c.make_room.ensures.links c.make_room.ensures.entries c.self.invariant.0 (c.in-Some.ensures.variant.0 refl) c.in-Some.ensures.top
+        c.divide.new.self.links.entries c.divide.new.self.queue.entries c.saturating_add-self-inside.result c.in-Some.ensures.least c.divide.ensures.divided.held c.divide.ensures.divided.each c.in-Some.ensures.limit c.divide.ensures.divided.few c.saturating_add-self-inside.ensures).0
+        (c.row_numbers-rows.ensures.numbers ∙ ap (λ k. rows_of_key g.R.Rank.KEYS 16 k)
+        (top_key g.R.Rank.KEYS g.R.Rank.key t links c.make_room.new.self.links.entries entries c.make_room.new.self.queue.entries c.self.inside.calls _ _
+        c.make_room.ensures.links c.make_room.ensures.entries c.self.invariant.0 (c.in-Some.ensures.variant.0 refl) c.in-Some.ensures.top c.divide.new.chosen c.divide.ensures.divided.best));
+  end = tt;
+  refused = tt;
+  counted = c.saturating_add-self-inside.ensures ∙ ap (λ (s : PartView g.row.R.Denot). counted s.calls) c.self.view_is;
+  size = ap (λ (s : PartView g.row.R.Denot). size_of s.tree) c.self.view_is;
+  cost = let t = c.self.inside.tree.now in
+        let entry = top_entry g.R.Rank.KEYS g.R.Rank.key t c.self.inside.frontier.links.entries c.make_room.new.self.links.entries c.self.inside.frontier.queue.entries c.make_room.new.self.queue.entries c.self.inside.calls _ _
+        c.make_room.ensures.links c.make_room.ensures.entries c.self.invariant.0 (c.in-Some.ensures.variant.0 refl) c.in-Some.ensures.top in
+        let few = c.self.invariant.0.few in
+        let same : length c.make_room.new.self.queue.entries ≡ length c.self.inside.frontier.queue.entries = ap (λ (es : List (Entry g.row.R.Denot Candidate)). length es) c.make_room.ensures.entries in
+        let all : c.row_numbers-rows.new.steps ≤ c.args.steps.now + most_steps (length t) (row_count t) (group_count t 0) c.self.inside.calls =
+        steps_within (length t) (row_count t) (group_count t 0) c.self.inside.calls (length c.make_room.new.self.queue.entries) _ c.args.steps.now c.prefix-chosen.new.steps c.divide.new.steps c.row_numbers-rows.new.steps
+        c.self.invariant.0.formed.shaped.some_node (c.self.invariant.0.live (c.in-Some.ensures.variant.0 refl)) (omega (arith, few, same)) (omega (arith, entry.position)) c.prefix-chosen.ensures.cost c.divide.ensures.cost c.row_numbers-rows.ensures.cost in
+        subst (λ (s : PartView g.row.R.Denot). c.row_numbers-rows.new.steps ≤ c.args.steps.now + most_steps (length s.tree) (row_count s.tree) (group_count s.tree 0) s.calls) c.self.view_is all;
+}
