@@ -2,9 +2,10 @@
 use Rattle.std.proofs.Common.{◌≡◌, ℕ, suc, ◌+◌, ◌-◌, ◌*◌, ◌<◌, ◌≤◌, true, false, cond, nat_eq, List, [], ◌∷◌, ◌++◌, map, length, get_or, refl, sym, ap, subst, ◌∙◌, arith, add-one, length-append, Some, None, Option, IfNone}
 use Rattle.std.proofs.Math.Nat.{mul-le-mul_left}
 use Rattle.indexmap.specs.IndexSet.{insert_key, insert_all}
-use Rattle.tdp_core.specs.RawView.{RawView, raw_row_at, shape_parent}
+use Rattle.rankings.specs.NodeRows.{most_node_rows}
+use Rattle.tdp_core.specs.RawView.{RawView, raw_len, raw_row_at, shape_parent}
 use Rattle.tdp_core.specs.declared.parts.NodeRow.{NodeRow}
-use Rattle.semi_join.specs.Reduction.{EndsInPlaceOf, IsNumbering, has_partners, groups_named, group_link, child_nodes}
+use Rattle.semi_join.specs.Reduction.{AreKept, EndsInPlaceOf, IsNumbering, has_partners, groups_named, group_link, child_nodes}
 use Rattle.semi_join.proofs.FirstOnes.{kept_first, kept_more}
 use Rattle.semi_join.proofs.Kids.{kids_few}
 use Rattle.semi_join.proofs.Rows.{length-map}
@@ -110,3 +111,11 @@ module _ {R : Type 0} (raw : RawView R) (v : ℕ) (later : List (List ℕ)) wher
 
   pub missing_row : {X : Type 0} (o : Option X) (i : ℕ) → o ≡ None → IfNone o (has_partners raw v later i ≡ false) → has_partners raw v later i ≡ false
   missing_row o i e h = subst (λ x. IfNone x (has_partners raw v later i ≡ false)) e h
+
+  -- all rows that stay, after the last one
+  pub all_kept : (i : ℕ) (rows : List (NodeRow R)) (named : List (List ℕ)) (links numbers : List ℕ) → i ≡ raw_len raw v → i ≤ most_node_rows
+      → IsSoFar i rows named links numbers → AreKept raw v later rows named links numbers
+  all_kept i rows named links numbers all low s =
+      let few = few_numbers i rows named links numbers s in
+      let whole = subst (λ n. IsSoFar n rows named links numbers) all s in
+      record { rows_are = whole.rows; to_child = whole.to_child; links_are = whole.names; numbering = whole.numbering; few_numbers = omega (arith, few, low) }

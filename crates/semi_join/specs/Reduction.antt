@@ -1,9 +1,11 @@
 -- What the bottom-up reduction of a raw tree computes, node by node.
-use Rattle.std.specs.Prelude.{◌≡◌, ℕ, suc, ◌-◌, ◌<◌, ◌≤◌, Bool, cond, nat_eq, List, [], ◌∷◌, ◌++◌, map, length, slice_index, slice_index_or, Some, IsPermutation, All}
+use Rattle.std.specs.Prelude.{◌≡◌, ℕ, suc, ◌+◌, ◌-◌, ◌<◌, ◌≤◌, Bool, cond, nat_eq, List, [], ◌∷◌, ◌++◌, map, length, slice_index, slice_index_or, Some, IsPermutation, All}
 use Rattle.rankings.specs.NodeRows.{most_node_rows}
 use Rattle.std.specs.List.{Contains, filter, list_any, list_all, position_or_len, range_with_len, concat}
 use Rattle.indexmap.specs.IndexSet.{insert_all}
-use Rattle.tdp_core.specs.RawView.{RawView, shape_at, shape_parent, raw_len, raw_row_at, own_link, child_link}
+use Rattle.tdp_core.specs.declared.parts.NodeRow.{NodeRow}
+use Rattle.tdp_core.specs.NamedRows.{NamedView}
+use Rattle.tdp_core.specs.RawView.{AreShapes, RawView, shape_at, shape_parent, raw_len, raw_row_at, row_total, own_link, child_link}
 use Rattle.tdp_core.specs.TreeView.{NodeView}
 use Rattle.semi_join.specs.declared.group_links.GroupLinks.{GroupLinks}
 use Rattle.semi_join.specs.declared.group_links.GroupLinks.TheVariants.{Direct, Hashed}
@@ -18,6 +20,21 @@ links_of (Direct links) = links
 -- no node has more groups than a tree has rows
 abbrev pub AreFew : List (List ℕ) → Type 0
 AreFew = All (λ links. length links ≤ most_node_rows)
+
+-- the nodes after node v are done, and have groups with these links
+pub record AreLater {R : Type 0} (raw : RawView R) (v : ℕ) (later : List GroupLinks) : Type 0 where
+  pub shaped : AreShapes raw.shapes
+  pub few_rows : row_total raw ≤ most_node_rows
+  pub count : v + 1 + length later ≡ length raw.shapes
+  pub few : AreFew (map links_of later)
+
+-- no rows, of a node with this many children, and no groups
+pub record AreNone {R : Type 0} (children : ℕ) (rows : List (NodeRow R)) (named : NamedView)
+    (links numbers : List ℕ) : Type 0 where
+  pub no_rows : rows ≡ []
+  pub no_children : named ≡ record { width = children; rows = [] }
+  pub no_links : links ≡ []
+  pub no_numbers : numbers ≡ []
 
 -- The rows with one own link make one group, and each row is in its group once. `owns` has the own
 -- link of each row, and `links` that of each group.
@@ -93,3 +110,13 @@ module _ {R : Type 0} (raw : RawView R) (v : ℕ) (later : List (List ℕ)) wher
     pub to_child : part.to_child ≡ map groups_named kept_rows
     pub grouping : IsGrouping (map (group_link raw v) kept_rows) group_links part.groups
     pub best : part.best ≡ []
+
+  -- The rows of v that are kept, before they are put into groups: the groups of the children that
+  -- they name, the links of their own groups, and for each row the number of its group.
+  pub record AreKept (rows : List (NodeRow R)) (named : List (List ℕ))
+      (links numbers : List ℕ) : Type 0 where
+    pub rows_are : map Some rows ≡ map (raw_row_at raw v) kept_rows
+    pub to_child : named ≡ map groups_named kept_rows
+    pub links_are : links ≡ group_links
+    pub numbering : IsNumbering (map (group_link raw v) kept_rows) links numbers
+    pub few_numbers : length numbers ≤ most_node_rows

@@ -2,9 +2,9 @@
 ghost use Rattle.std.specs.Prelude.{◌≡◌, ◌+◌, ◌*◌, ◌<◌, ◌≤◌, [], ◌∷◌, ◌++◌, true, false, map, length, IfOk, IfSome, IfNone, OnOk, Some, nat_eq};
 ghost use Rattle.rankings.specs.NodeRows.{most_node_rows};
 ghost use Rattle.indexmap.specs.IndexSet.{insert_key};
-ghost use Rattle.tdp_core.specs.RawView.{AreShapes, raw_len, raw_row_at, row_total};
+ghost use Rattle.tdp_core.specs.RawView.{raw_len};
 ghost use Rattle.tdp_core.specs.TreeView.{node_view};
-ghost use Rattle.semi_join.specs.Reduction.{AreFew, EndsInPlaceOf, IsNumbering, IsReducedNode, child_nodes, group_link, group_links, groups_named, has_partners, kept_rows, links_of};
+ghost use Rattle.semi_join.specs.Reduction.{AreKept, AreLater, AreNone, EndsInPlaceOf, IsReducedNode, child_nodes, group_link, group_links, groups_named, has_partners, links_of};
 
 use crate::group_links::GroupLinks;
 use rank_key::Rank;
@@ -44,10 +44,7 @@ pub(crate) fn reduce_node<R: Rank, L: Ledger>(
     steps: &mut Steps<L>,
 ) -> Result<GroupedNode<R>, NoMemory>
     requires node { node < length raw.now.shapes }
-    requires shaped { AreShapes raw.now.shapes }
-    requires few_rows { row_total raw.now ≤ most_node_rows }
-    requires later { node + 1 + length later.now ≡ length raw.now.shapes }
-    requires few { AreFew (map links_of later.now) }
+    requires later { AreLater raw.now node later.now }
     ensures reduced { IfOk result
         (λ r. IsReducedNode raw.now node (map links_of later.now) (node_view r.parts)) }
     ensures links { IfOk result
@@ -105,24 +102,10 @@ fn keep_rows<R: Rank, L: Ledger>(
     steps: &mut Steps<L>,
 ) -> Result<KeptRows<R>, NoMemory>
     requires node { node < length raw.now.shapes }
-    requires shaped { AreShapes raw.now.shapes }
-    requires few_rows { row_total raw.now ≤ most_node_rows }
-    requires later { node + 1 + length later.now ≡ length raw.now.shapes }
-    requires few { AreFew (map links_of later.now) }
-    ensures rows { IfOk result
-        (λ kept. map Some kept.rows
-        ≡ map (raw_row_at raw.now node) (kept_rows raw.now node (map links_of later.now))) }
-    ensures to_child { IfOk result
-        (λ kept. kept.to_child.rows
-        ≡ map (groups_named raw.now node (map links_of later.now))
-        (kept_rows raw.now node (map links_of later.now))) }
-    ensures links { IfOk result
-        (λ kept. links_of kept.links ≡ group_links raw.now node (map links_of later.now)) }
-    ensures numbers { IfOk result
-        (λ kept. IsNumbering
-        (map (group_link raw.now node) (kept_rows raw.now node (map links_of later.now)))
+    requires later { AreLater raw.now node later.now }
+    ensures kept { IfOk result
+        (λ kept. AreKept raw.now node (map links_of later.now) kept.rows kept.to_child.rows
         (links_of kept.links) kept.numbers.items) }
-    ensures few { IfOk result (λ kept. length kept.numbers.items ≤ most_node_rows) }
     ensures cost { steps.new ≤ steps.old + raw_len raw.now node * length raw.now.shapes }
 {
     let children = children_of(alloc, raw, node)?;
@@ -143,30 +126,13 @@ fn add_rows<R: Rank, L: Ledger>(
     steps: &mut Steps<L>,
 ) -> Result<(), NoMemory>
     requires node { node < length raw.now.shapes }
-    requires shaped { AreShapes raw.now.shapes }
-    requires few_rows { row_total raw.now ≤ most_node_rows }
-    requires later { node + 1 + length later.now ≡ length raw.now.shapes }
-    requires few { AreFew (map links_of later.now) }
+    requires later { AreLater raw.now node later.now }
     requires children { children.now ≡ child_nodes raw.now node }
-    requires no_rows { kept.old.rows ≡ [] }
-    requires no_children { kept.old.to_child
-        ≡ record { width = length children.now; rows = [] } }
-    requires no_links { links_of kept.old.links ≡ [] }
-    requires no_numbers { kept.old.numbers.items ≡ [] }
-    ensures rows { OnOk result
-        (map Some kept.new.rows
-        ≡ map (raw_row_at raw.now node) (kept_rows raw.now node (map links_of later.now))) }
-    ensures to_child { OnOk result
-        (kept.new.to_child.rows
-        ≡ map (groups_named raw.now node (map links_of later.now))
-        (kept_rows raw.now node (map links_of later.now))) }
-    ensures links { OnOk result
-        (links_of kept.new.links ≡ group_links raw.now node (map links_of later.now)) }
-    ensures numbers { OnOk result
-        (IsNumbering
-        (map (group_link raw.now node) (kept_rows raw.now node (map links_of later.now)))
+    requires none { AreNone (length children.now) kept.old.rows kept.old.to_child
+        (links_of kept.old.links) kept.old.numbers.items }
+    ensures kept { OnOk result
+        (AreKept raw.now node (map links_of later.now) kept.new.rows kept.new.to_child.rows
         (links_of kept.new.links) kept.new.numbers.items) }
-    ensures few { OnOk result (length kept.new.numbers.items ≤ most_node_rows) }
     ensures cost { steps.new ≤ steps.old + raw_len raw.now node * length raw.now.shapes }
 {
     for i in 0..raw.len(node) {
@@ -186,11 +152,9 @@ fn no_rows<R: Rank>(
     children: usize,
 ) -> Result<KeptRows<R>, NoMemory>
     requires { node < length raw.now.shapes }
-    ensures rows { IfOk result (λ kept. kept.rows ≡ []) }
-    ensures to_child { IfOk result
-        (λ kept. kept.to_child ≡ record { width = children; rows = [] }) }
-    ensures numbers { IfOk result (λ kept. kept.numbers.items ≡ []) }
-    ensures links { IfOk result (λ kept. links_of kept.links ≡ []) }
+    ensures { IfOk result
+        (λ kept. AreNone children kept.rows kept.to_child (links_of kept.links)
+        kept.numbers.items) }
 {
     let count = raw.len(node);
     let greatest = greatest_link(raw, node);
@@ -285,10 +249,8 @@ fn child_groups<R: Rank, L: Ledger>(
 ) -> Result<Option<SmallVec<u32, 4>>, NoMemory>
     requires node { node < length raw.now.shapes }
     requires row { i < raw_len raw.now node }
-    requires shaped { AreShapes raw.now.shapes }
     requires children { children.now ≡ child_nodes raw.now node }
-    requires later { node + 1 + length later.now ≡ length raw.now.shapes }
-    requires few { AreFew (map links_of later.now) }
+    requires later { AreLater raw.now node later.now }
     ensures found { IfOk result
         (λ o. IfSome o (λ _. has_partners raw.now node (map links_of later.now) i ≡ true)) }
     ensures named { IfOk result

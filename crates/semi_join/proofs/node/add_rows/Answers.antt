@@ -1,20 +1,15 @@
-use Rattle.std.proofs.Common.{Result, OnOk, ◌≡◌, ◌<◌, ◌+◌, ◌≤◌, ◌++◌, ◌∷◌, [], map, length, sym, ap, subst, ◌∙◌, arith, true, nat_eq, IfSome}
-use Rattle.std.specs.Result.{IsErr}
-use Rattle.std.proofs.lemmas.Result.{IfOk-from_err}
-use Rattle.tdp_core.specs.RawView.{raw_len, raw_row_at}
+use Rattle.std.proofs.Common.{◌≡◌, ◌<◌, ◌+◌, ◌≤◌, ◌++◌, ◌∷◌, [], map, length, sym, ap, subst, ◌∙◌, arith, true, nat_eq, IfSome}
+use Rattle.tdp_core.specs.RawView.{raw_len}
 use Rattle.tdp_core.proofs.RawReads.{length_within}
-use Rattle.semi_join.specs.Reduction.{links_of, child_nodes, has_partners, group_link, groups_named, EndsInPlaceOf, IsNumbering}
-use Rattle.indexmap.specs.IndexSet.{insert_all, insert_key}
+use Rattle.semi_join.specs.Reduction.{links_of, child_nodes, has_partners, groups_named, EndsInPlaceOf}
+use Rattle.indexmap.specs.IndexSet.{insert_key}
 use Rattle.semi_join.proofs.FirstOnes.{kept_first}
 use Rattle.semi_join.proofs.Rows.{length-map}
 use Rattle.semi_join.proofs.NamedGroups.{named_count}
-use Rattle.semi_join.proofs.SoFar.{IsSoFar, room, room_all, kids_below_lem, none_so_far, few_links, few_numbers, missing_row, drop_row, keep_row_lem}
+use Rattle.semi_join.proofs.SoFar.{IsSoFar, room, room_all, kids_below_lem, none_so_far, all_kept, few_links, missing_row, drop_row, keep_row_lem}
+use Rattle.semi_join.proofs.Handed.{failed}
 use Rattle.semi_join.proofs.node.add_rows.Goals as goal
 use Rattle.semi_join.proofs.node.add_rows.Goals.{in-Some+in_ok-keep_row+in-Heap-1, in-Some+in_ok-keep_row+in-Inline-1, in_default}
-
--- nothing is asked after an error
-failed : {T E : Type 0} (r : Result T E) (X : Type 0) → IsErr r → OnOk r X
-failed r X e = IfOk-from_err r (λ _. X) e
 
 pub returns-in_err-named : goal.returns-in_err-named
 returns-in_err-named g c =
@@ -24,36 +19,27 @@ returns-in_err-named g c =
     let within : c.loop-i.i < raw_len c.args.raw.now c.args.node = omega (arith, c.len-i-end.ensures) in
     let steps = room c.loop-i.i (length (child_nodes c.args.raw.now c.args.node)) (raw_len c.args.raw.now c.args.node) (length c.args.raw.now.shapes) within (kids_below_lem c.args.raw.now c.args.node [] c.requires.node) in
     record {
-      rows = failed r _ e;
-      to_child = failed r _ e;
-      links = failed r _ e;
-      numbers = failed r _ e;
-      few = failed r _ e;
+      kept = failed r _ e;
       cost = omega (arith, all, steps, c.child_groups.ensures.cost, c.loop-i.invariant.counted);
     }
 
-pub keep_row-requires-clause-width : goal.keep_row-requires-clause-width
-keep_row-requires-clause-width g c =
-    let raw = c.args.raw.now in
-    let node = c.args.node in
-    let later = map links_of c.args.later.now in
-    let i = c.loop-i.i in
-    let named = subst (λ o. IfSome o (λ n. n.items ≡ groups_named raw node later i)) c.in-Some.is c.in_ok-named.ensures.named in
-    ap length c.deref.ensures ∙ ap length named ∙ named_count raw node later (length (child_nodes raw node)) i ∙ sym c.loop-i.invariant.width
-
-pub keep_row-requires-clause-few_rows : goal.keep_row-requires-clause-few_rows
-keep_row-requires-clause-few_rows g c =
-    let so_far = c.loop-i.invariant.so_far in
-    let most = length_within c.args.raw.now.rows c.args.node in
-    let long = ap length so_far.to_child ∙ length-map (groups_named c.args.raw.now c.args.node (map links_of c.args.later.now)) (kept_first c.args.raw.now c.args.node (map links_of c.args.later.now) c.loop-i.i) in
-    omega (arith, long, so_far.few, most, c.requires.few_rows, c.len-i-end.ensures)
-
-pub keep_row-requires-clause-few : goal.keep_row-requires-clause-few
-keep_row-requires-clause-few g c =
-    let now = c.loop-i.kept in
-    let few = few_links c.args.raw.now c.args.node (map links_of c.args.later.now) c.loop-i.i now.rows now.to_child.rows (links_of now.links) now.numbers.items c.loop-i.invariant.so_far in
-    let most = length_within c.args.raw.now.rows c.args.node in
-    omega (arith, few, most, c.requires.few_rows, c.len-i-end.ensures)
+pub keep_row-requires : goal.keep_row-requires
+keep_row-requires g c = record {
+  few = let now = c.loop-i.kept in
+        let few = few_links c.args.raw.now c.args.node (map links_of c.args.later.now) c.loop-i.i now.rows now.to_child.rows (links_of now.links) now.numbers.items c.loop-i.invariant.so_far in
+        let most = length_within c.args.raw.now.rows c.args.node in
+        omega (arith, few, most, c.requires.later.few_rows, c.len-i-end.ensures);
+  width = let raw = c.args.raw.now in
+        let node = c.args.node in
+        let later = map links_of c.args.later.now in
+        let i = c.loop-i.i in
+        let named = subst (λ o. IfSome o (λ n. n.items ≡ groups_named raw node later i)) c.in-Some.is c.in_ok-named.ensures.named in
+        ap length c.deref.ensures ∙ ap length named ∙ named_count raw node later (length (child_nodes raw node)) i ∙ sym c.loop-i.invariant.width;
+  few_rows = let so_far = c.loop-i.invariant.so_far in
+        let most = length_within c.args.raw.now.rows c.args.node in
+        let long = ap length so_far.to_child ∙ length-map (groups_named c.args.raw.now c.args.node (map links_of c.args.later.now)) (kept_first c.args.raw.now c.args.node (map links_of c.args.later.now) c.loop-i.i) in
+        omega (arith, long, so_far.few, most, c.requires.later.few_rows, c.len-i-end.ensures);
+}
 
 pub returns-in_err-keep_row : goal.returns-in_err-keep_row
 returns-in_err-keep_row g c =
@@ -63,11 +49,7 @@ returns-in_err-keep_row g c =
     let within : c.loop-i.i < raw_len c.args.raw.now c.args.node = omega (arith, c.len-i-end.ensures) in
     let steps = room c.loop-i.i (length (child_nodes c.args.raw.now c.args.node)) (raw_len c.args.raw.now c.args.node) (length c.args.raw.now.shapes) within (kids_below_lem c.args.raw.now c.args.node [] c.requires.node) in
     record {
-      rows = failed r _ e;
-      to_child = failed r _ e;
-      links = failed r _ e;
-      numbers = failed r _ e;
-      few = failed r _ e;
+      kept = failed r _ e;
       cost = omega (arith, all, steps, c.child_groups.ensures.cost, c.keep_row.ensures.cost, c.loop-i.invariant.counted);
     }
 
@@ -116,33 +98,25 @@ loop-i-preserved g c =
           }
     ]
 
-pub returns-clause-few : goal.returns-clause-few
-returns-clause-few g c =
-    let now = c.loop-i.kept in
-    let few = few_numbers c.args.raw.now c.args.node (map links_of c.args.later.now) c.loop-i.i now.rows now.to_child.rows (links_of now.links) now.numbers.items c.loop-i.invariant.so_far in
+pub returns : goal.returns
+returns g c = record {
+  kept = let now = c.loop-i.kept in
     let most = length_within c.args.raw.now.rows c.args.node in
-    omega (arith, few, most, c.requires.few_rows, c.len-i-end.ensures)
-
-pub returns-clause-cost : goal.returns-clause-cost
-returns-clause-cost g c =
-    let within : c.loop-i.i ≤ raw_len c.args.raw.now c.args.node = omega (arith, c.len-i-end.ensures) in
-    let steps = room_all c.loop-i.i (length (child_nodes c.args.raw.now c.args.node)) (raw_len c.args.raw.now c.args.node) (length c.args.raw.now.shapes) within (kids_below_lem c.args.raw.now c.args.node [] c.requires.node) in
-    omega (arith, steps, c.loop-i.invariant.counted)
-
-pub returns-clause-numbers : goal.returns-clause-numbers
-returns-clause-numbers g c =
-    let now = c.loop-i.kept in
-    let all : c.loop-i.i ≡ raw_len c.args.raw.now c.args.node = omega (arith, c.len-i-end.ensures) in
-    subst (λ n. IsNumbering (map (group_link c.args.raw.now c.args.node) (kept_first c.args.raw.now c.args.node (map links_of c.args.later.now) n)) (links_of now.links) now.numbers.items) all c.loop-i.invariant.so_far.numbering
+    all_kept c.args.raw.now c.args.node (map links_of c.args.later.now) c.loop-i.i now.rows now.to_child.rows (links_of now.links) now.numbers.items
+        (omega (arith, c.len-i-end.ensures)) (omega (arith, most, c.requires.later.few_rows, c.len-i-end.ensures)) c.loop-i.invariant.so_far;
+  cost = let within : c.loop-i.i ≤ raw_len c.args.raw.now c.args.node = omega (arith, c.len-i-end.ensures) in
+        let steps = room_all c.loop-i.i (length (child_nodes c.args.raw.now c.args.node)) (raw_len c.args.raw.now c.args.node) (length c.args.raw.now.shapes) within (kids_below_lem c.args.raw.now c.args.node [] c.requires.node) in
+        omega (arith, steps, c.loop-i.invariant.counted);
+}
 
 pub loop-i-init : goal.loop-i-init
 loop-i-init g c =
     let now = c.args.kept.now in
-    let none = c.requires in
+    let none = c.requires.none in
     record {
       so_far = none_so_far c.args.raw.now c.args.node (map links_of c.args.later.now) now.rows now.to_child.rows (links_of now.links) now.numbers.items
           none.no_rows (ap (λ v. v.rows) none.no_children) none.no_links none.no_numbers;
-      width = ap (λ v. v.width) none.no_children ∙ ap length none.children;
+      width = ap (λ v. v.width) none.no_children ∙ ap length c.requires.children;
       counted = omega arith;
     }
 
@@ -151,20 +125,3 @@ child_groups-requires-clause-row g c = omega (arith, c.len-i-end.ensures)
 
 pub group_link_of-own-requires-clause-row : goal.group_link_of-own-requires-clause-row
 group_link_of-own-requires-clause-row g c = omega (arith, c.len-i-end.ensures)
-
-pub returns-clause-rows : goal.returns-clause-rows
-returns-clause-rows g c =
-    let all : c.loop-i.i ≡ raw_len c.args.raw.now c.args.node = omega (arith, c.len-i-end.ensures) in
-    c.loop-i.invariant.so_far.rows ∙ ap (λ n. map (raw_row_at c.args.raw.now c.args.node) (kept_first c.args.raw.now c.args.node (map links_of c.args.later.now) n)) all
-
-pub returns-clause-to_child : goal.returns-clause-to_child
-returns-clause-to_child g c =
-    let all : c.loop-i.i ≡ raw_len c.args.raw.now c.args.node = omega (arith, c.len-i-end.ensures) in
-    c.loop-i.invariant.so_far.to_child
-    ∙ ap (λ n. map (groups_named c.args.raw.now c.args.node (map links_of c.args.later.now)) (kept_first c.args.raw.now c.args.node (map links_of c.args.later.now) n)) all
-
-pub returns-clause-links : goal.returns-clause-links
-returns-clause-links g c =
-    let all : c.loop-i.i ≡ raw_len c.args.raw.now c.args.node = omega (arith, c.len-i-end.ensures) in
-    c.loop-i.invariant.so_far.names
-    ∙ ap (λ n. insert_all nat_eq [] (map (group_link c.args.raw.now c.args.node) (kept_first c.args.raw.now c.args.node (map links_of c.args.later.now) n))) all

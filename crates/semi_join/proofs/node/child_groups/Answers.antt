@@ -10,11 +10,11 @@ pub overflow_cast-place : goal.overflow_cast-place
 overflow_cast-place g c =
     let few = kids_few (shape_parent c.args.raw.now.shapes) c.args.node (length c.args.raw.now.shapes - suc c.args.node) in
     let count = ap length c.requires.children in
-    omega (arith, few, count, c.requires.shaped.few_nodes)
+    omega (arith, few, count, c.requires.later.shaped.few_nodes)
 
 pub link-link-requires-clause-child : goal.link-link-requires-clause-child
 link-link-requires-clause-child g c =
-    let count = ap length c.requires.children ∙ children_count c.args.raw.now c.requires.shaped c.args.node c.requires.node in
+    let count = ap length c.requires.children ∙ children_count c.args.raw.now c.requires.later.shaped c.args.node c.requires.node in
     omega (arith, count, c.loop-place-test.true)
 
 pub overflow_sub-child : goal.overflow_sub-child
@@ -26,20 +26,20 @@ overflow_sub-child-in-loop-place g c =
     let after = child_after c.args.raw.now c.args.node c.args.children.now c.requires.children c.loop-place.place c.loop-place-test.true in omega (arith, after.0)
 
 pub bounds-later-child : goal.bounds-later-child
-bounds-later-child g c = child_index c.args.raw.now c.args.node c.args.children.now c.requires.children c.loop-place.place c.loop-place-test.true (length c.args.later.now) c.requires.later
+bounds-later-child g c = child_index c.args.raw.now c.args.node c.args.children.now c.requires.children c.loop-place.place c.loop-place-test.true (length c.args.later.now) c.requires.later.count
 
 pub overflow_cast-number : goal.overflow_cast-number
 overflow_cast-number g c =
     let at = get_or c.args.children.now c.loop-place.place 0 - c.args.node - 1 in
-    let inside = child_index c.args.raw.now c.args.node c.args.children.now c.requires.children c.loop-place.place c.loop-place-test.true (length c.args.later.now) c.requires.later in
-    let few = few_read (map links_of c.args.later.now) at c.requires.few (subst (λ n. at < n) (sym (length-map links_of c.args.later.now)) inside) in
+    let inside = child_index c.args.raw.now c.args.node c.args.children.now c.requires.children c.loop-place.place c.loop-place-test.true (length c.args.later.now) c.requires.later.count in
+    let few = few_read (map links_of c.args.later.now) at c.requires.later.few (subst (λ n. at < n) (sym (length-map links_of c.args.later.now)) inside) in
     let is = ap length (links_read c.args.later.now at c.index-later-child.result inside c.index-later-child.is) in
     let here = found_any (nat_eq c.link-link.result) (links_of c.index-later-child.result) c.in-Some.number c.in-Some.ensures.number in
     omega (arith, few, is, here.0)
 
 pub returns-in-None-clause-missing : goal.returns-in-None-clause-missing
 returns-in-None-clause-missing g c =
-    let inside = child_index c.args.raw.now c.args.node c.args.children.now c.requires.children c.loop-place.place c.loop-place-test.true (length c.args.later.now) c.requires.later in
+    let inside = child_index c.args.raw.now c.args.node c.args.children.now c.requires.children c.loop-place.place c.loop-place-test.true (length c.args.later.now) c.requires.later.count in
     let names = child_links_at c.args.raw.now c.args.node (map links_of c.args.later.now) c.args.later.now c.args.children.now c.loop-place.place c.index-later-child.result refl c.requires.children inside c.index-later-child.is in
     let less = subst (λ ks. c.loop-place.place < length ks) c.requires.children c.loop-place-test.true in
     missed c.args.raw.now c.args.node (map links_of c.args.later.now) c.loop-place.place _ c.args.i (links_of c.index-later-child.result) less names
@@ -47,7 +47,7 @@ returns-in-None-clause-missing g c =
 
 pub loop-place-preserved : goal.loop-place-preserved
 loop-place-preserved g c =
-    let inside = child_index c.args.raw.now c.args.node c.args.children.now c.requires.children c.loop-place.place c.loop-place-test.true (length c.args.later.now) c.requires.later in
+    let inside = child_index c.args.raw.now c.args.node c.args.children.now c.requires.children c.loop-place.place c.loop-place-test.true (length c.args.later.now) c.requires.later.count in
     let names = child_links_at c.args.raw.now c.args.node (map links_of c.args.later.now) c.args.later.now c.args.children.now c.loop-place.place c.index-later-child.result refl c.requires.children inside c.index-later-child.is in
     let here = found_any (nat_eq c.link-link.result) (links_of c.index-later-child.result) c.in-Some.number c.in-Some.ensures.number in
     record {

@@ -1,11 +1,6 @@
-use Rattle.std.proofs.Common.{arith, Result, OnOk}
-use Rattle.std.specs.Result.{IsErr}
-use Rattle.std.proofs.lemmas.Result.{IfOk-from_err}
+use Rattle.std.proofs.Common.{arith}
+use Rattle.semi_join.proofs.Handed.{failed}
 use Rattle.semi_join.proofs.node.keep_row.Goals as goal
-
--- nothing is asked after an error
-failed : {T E : Type 0} (r : Result T E) (X : Type 0) → IsErr r → OnOk r X
-failed r X e = IfOk-from_err r (λ _. X) e
 
 pub returns-in_err-push : goal.returns-in_err-push
 returns-in_err-push g c =

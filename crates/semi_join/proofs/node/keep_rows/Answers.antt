@@ -1,5 +1,6 @@
-use Rattle.std.proofs.Common.{arith}
+use Rattle.std.proofs.Common.{◌≡◌, ◌∙◌, length, sym, ap, subst, arith}
 use Rattle.std.proofs.lemmas.Result.{IfOk-from_err}
+use Rattle.semi_join.specs.Reduction.{AreNone, links_of}
 use Rattle.semi_join.proofs.Handed.{handed}
 use Rattle.semi_join.proofs.node.keep_rows.Goals as goal
 
@@ -7,27 +8,13 @@ pub returns-in_err-children : goal.returns-in_err-children
 returns-in_err-children g c =
     let r = c.from_residual.result in
     let e = c.from_residual.ensures.0 in
-    record {
-      rows = IfOk-from_err r _ e;
-      to_child = IfOk-from_err r _ e;
-      links = IfOk-from_err r _ e;
-      numbers = IfOk-from_err r _ e;
-      few = IfOk-from_err r _ e;
-      cost = omega arith;
-    }
+    record { kept = IfOk-from_err r _ e; cost = omega arith }
 
 pub returns-in_err-kept : goal.returns-in_err-kept
 returns-in_err-kept g c =
     let r = c.from_residual-in_err-kept.result in
     let e = c.from_residual-in_err-kept.ensures.0 in
-    record {
-      rows = IfOk-from_err r _ e;
-      to_child = IfOk-from_err r _ e;
-      links = IfOk-from_err r _ e;
-      numbers = IfOk-from_err r _ e;
-      few = IfOk-from_err r _ e;
-      cost = omega arith;
-    }
+    record { kept = IfOk-from_err r _ e; cost = omega arith }
 
 pub returns : goal.returns
 returns g c =
@@ -35,11 +22,15 @@ returns g c =
     let kept = c.add_rows-added.new.kept in
     let made = c.add_rows-added.ensures in
     let e = c.and.ensures in
+    record { kept = handed c.and.result r kept _ e made.kept; cost = made.cost }
+
+pub add_rows-added-requires : goal.add_rows-added-requires
+add_rows-added-requires g c =
+    let kept = c.in_ok-kept.kept in
+    let width : c.len.result ≡ length c.deref.result.now = c.len.ensures ∙ c.in_ok-children.children.ok.0 ∙ ap length (sym c.deref.ensures.value) in
     record {
-      rows = handed c.and.result r kept _ e made.rows;
-      to_child = handed c.and.result r kept _ e made.to_child;
-      links = handed c.and.result r kept _ e made.links;
-      numbers = handed c.and.result r kept _ e made.numbers;
-      few = handed c.and.result r kept _ e made.few;
-      cost = made.cost;
+      node = c.requires.node;
+      later = c.requires.later;
+      children = c.deref.ensures.value ∙ c.in_ok-children.ensures;
+      none = subst (λ n. AreNone n kept.rows kept.to_child (links_of kept.links) kept.numbers.items) width c.in_ok-kept.ensures;
     }

@@ -8,37 +8,44 @@ use Rattle.semi_join.proofs.FromLast.{links_last, AreReducedLast}
 use Rattle.semi_join.proofs.FromLast.{steps_more, steps_few, few_more, few_none, from_more, from_none, links_more, links_none}
 use Rattle.semi_join.proofs.SameRows.{links_same, reduced_same, steps_same}
 use Rattle.semi_join.proofs.WholeReduction.{whole_reduction}
+use Rattle.semi_join.proofs.Handed.{failed}
 use Rattle.semi_join.proofs.reduction.reduce_nodes.Goals as goal
 
-pub returns-in_err-grouped-clause-cost : goal.returns-in_err-grouped-clause-cost
-returns-in_err-grouped-clause-cost g c =
-    let raw = c.args.tree.now in
-    let v = c.loop-node.node - 1 in
-    let less : v < length raw.rows = omega (arith, c.loop-node.invariant.count, c.nodes-node.ensures.formed.each_node) in
-    let is : c.loop-node.node ≡ suc v = omega arith in
-    let one = steps_same v [] c.loop-node.tree raw c.loop-node.invariant.shapes (c.loop-node.invariant.rows v (omega arith)) c.loop-node.steps c.reduce_node.new.steps c.reduce_node.ensures.cost in
-    steps_few raw.rows v (length raw.shapes) c.args.steps.now c.reduce_node.new.steps
-    (steps_more raw.rows v c.loop-node.node (length raw.shapes) c.args.steps.now c.loop-node.steps c.reduce_node.new.steps less is c.loop-node.invariant.counted one)
+pub returns-in_err-grouped : goal.returns-in_err-grouped
+returns-in_err-grouped g c = record {
+  reduced = failed c.from_residual.result _ c.from_residual.ensures.0;
+  cost = let raw = c.args.tree.now in
+        let v = c.loop-node.node - 1 in
+        let less : v < length raw.rows = omega (arith, c.loop-node.invariant.count, c.nodes-node.ensures.formed.each_node) in
+        let is : c.loop-node.node ≡ suc v = omega arith in
+        let one = steps_same v [] c.loop-node.tree raw c.loop-node.invariant.shapes (c.loop-node.invariant.rows v (omega arith)) c.loop-node.steps c.reduce_node.new.steps c.reduce_node.ensures.cost in
+        steps_few raw.rows v (length raw.shapes) c.args.steps.now c.reduce_node.new.steps
+        (steps_more raw.rows v c.loop-node.node (length raw.shapes) c.args.steps.now c.loop-node.steps c.reduce_node.new.steps less is c.loop-node.invariant.counted one);
+}
 
-pub returns-in_err-insert-clause-cost : goal.returns-in_err-insert-clause-cost
-returns-in_err-insert-clause-cost g c =
-    let raw = c.args.tree.now in
-    let v = c.loop-node.node - 1 in
-    let less : v < length raw.rows = omega (arith, c.loop-node.invariant.count, c.nodes-node.ensures.formed.each_node) in
-    let is : c.loop-node.node ≡ suc v = omega arith in
-    let one = steps_same v [] c.loop-node.tree raw c.loop-node.invariant.shapes (c.loop-node.invariant.rows v (omega arith)) c.loop-node.steps c.reduce_node.new.steps c.reduce_node.ensures.cost in
-    steps_few raw.rows v (length raw.shapes) c.args.steps.now c.reduce_node.new.steps
-    (steps_more raw.rows v c.loop-node.node (length raw.shapes) c.args.steps.now c.loop-node.steps c.reduce_node.new.steps less is c.loop-node.invariant.counted one)
+pub returns-in_err-insert : goal.returns-in_err-insert
+returns-in_err-insert g c = record {
+  reduced = failed c.from_residual-in_err-insert.result _ c.from_residual-in_err-insert.ensures.0;
+  cost = let raw = c.args.tree.now in
+        let v = c.loop-node.node - 1 in
+        let less : v < length raw.rows = omega (arith, c.loop-node.invariant.count, c.nodes-node.ensures.formed.each_node) in
+        let is : c.loop-node.node ≡ suc v = omega arith in
+        let one = steps_same v [] c.loop-node.tree raw c.loop-node.invariant.shapes (c.loop-node.invariant.rows v (omega arith)) c.loop-node.steps c.reduce_node.new.steps c.reduce_node.ensures.cost in
+        steps_few raw.rows v (length raw.shapes) c.args.steps.now c.reduce_node.new.steps
+        (steps_more raw.rows v c.loop-node.node (length raw.shapes) c.args.steps.now c.loop-node.steps c.reduce_node.new.steps less is c.loop-node.invariant.counted one);
+}
 
-pub returns-in_err-insert-2-clause-cost : goal.returns-in_err-insert-2-clause-cost
-returns-in_err-insert-2-clause-cost g c =
-    let raw = c.args.tree.now in
-    let v = c.loop-node.node - 1 in
-    let less : v < length raw.rows = omega (arith, c.loop-node.invariant.count, c.nodes-node.ensures.formed.each_node) in
-    let is : c.loop-node.node ≡ suc v = omega arith in
-    let one = steps_same v [] c.loop-node.tree raw c.loop-node.invariant.shapes (c.loop-node.invariant.rows v (omega arith)) c.loop-node.steps c.reduce_node.new.steps c.reduce_node.ensures.cost in
-    steps_few raw.rows v (length raw.shapes) c.args.steps.now c.reduce_node.new.steps
-    (steps_more raw.rows v c.loop-node.node (length raw.shapes) c.args.steps.now c.loop-node.steps c.reduce_node.new.steps less is c.loop-node.invariant.counted one)
+pub returns-in_err-insert-2 : goal.returns-in_err-insert-2
+returns-in_err-insert-2 g c = record {
+  reduced = failed c.from_residual-in_err-insert-2.result _ c.from_residual-in_err-insert-2.ensures.0;
+  cost = let raw = c.args.tree.now in
+        let v = c.loop-node.node - 1 in
+        let less : v < length raw.rows = omega (arith, c.loop-node.invariant.count, c.nodes-node.ensures.formed.each_node) in
+        let is : c.loop-node.node ≡ suc v = omega arith in
+        let one = steps_same v [] c.loop-node.tree raw c.loop-node.invariant.shapes (c.loop-node.invariant.rows v (omega arith)) c.loop-node.steps c.reduce_node.new.steps c.reduce_node.ensures.cost in
+        steps_few raw.rows v (length raw.shapes) c.args.steps.now c.reduce_node.new.steps
+        (steps_more raw.rows v c.loop-node.node (length raw.shapes) c.args.steps.now c.loop-node.steps c.reduce_node.new.steps less is c.loop-node.invariant.counted one);
+}
 
 pub loop-node-preserved : goal.loop-node-preserved
 loop-node-preserved g c =
@@ -79,11 +86,14 @@ loop-node-preserved g c =
       counted = steps_more raw.rows v c.loop-node.node (length raw.shapes) c.args.steps.now c.loop-node.steps c.reduce_node.new.steps less is before.counted one;
     }
 
-pub returns-clause-reduced : goal.returns-clause-reduced
-returns-clause-reduced g c =
-    let all : length c.args.tree.now.shapes - c.loop-node.node ≡ length c.args.tree.now.shapes = omega arith in
-    whole_reduction g.R.Rank.KEYS g.R.Rank.key c.args.tree.now (map node_view c.loop-node.nodes.items) c.nodes-node.ensures.formed
-    (subst (λ n. AreReducedLast c.args.tree.now n (map node_view c.loop-node.nodes.items)) all c.loop-node.invariant.reduced)
+pub returns : goal.returns
+returns g c = record {
+  reduced = let all : length c.args.tree.now.shapes - c.loop-node.node ≡ length c.args.tree.now.shapes = omega arith in
+        whole_reduction g.R.Rank.KEYS g.R.Rank.key c.args.tree.now (map node_view c.loop-node.nodes.items) c.nodes-node.ensures.formed
+        (subst (λ n. AreReducedLast c.args.tree.now n (map node_view c.loop-node.nodes.items)) all c.loop-node.invariant.reduced);
+  cost = let raw = c.args.tree.now in
+        steps_few raw.rows c.loop-node.node (length raw.shapes) c.args.steps.now c.loop-node.steps c.loop-node.invariant.counted;
+}
 
 pub loop-node-init : goal.loop-node-init
 loop-node-init g c =
@@ -101,22 +111,16 @@ loop-node-init g c =
       counted = omega arith;
     }
 
-pub reduce_node-requires-clause-node : goal.reduce_node-requires-clause-node
-reduce_node-requires-clause-node g c = omega (arith, c.loop-node.invariant.count, ap length c.loop-node.invariant.shapes)
-
-pub reduce_node-requires-clause-shaped : goal.reduce_node-requires-clause-shaped
-reduce_node-requires-clause-shaped g c = c.loop-node.invariant.formed.shaped
-
-pub reduce_node-requires-clause-few_rows : goal.reduce_node-requires-clause-few_rows
-reduce_node-requires-clause-few_rows g c = c.loop-node.invariant.formed.few_rows
-
-pub reduce_node-requires-clause-later : goal.reduce_node-requires-clause-later
-reduce_node-requires-clause-later g c = omega (arith, c.loop-node.invariant.count, ap length c.loop-node.invariant.shapes, ap length c.deref.ensures.value)
-
-pub reduce_node-requires-clause-few : goal.reduce_node-requires-clause-few
-reduce_node-requires-clause-few g c = subst (λ ls. AreFew (map links_of ls)) (sym c.deref.ensures.value) c.loop-node.invariant.few
-
-pub returns-clause-cost : goal.returns-clause-cost
-returns-clause-cost g c =
-    let raw = c.args.tree.now in
-    steps_few raw.rows c.loop-node.node (length raw.shapes) c.args.steps.now c.loop-node.steps c.loop-node.invariant.counted
+pub reduce_node-requires : goal.reduce_node-requires
+reduce_node-requires g c =
+    let formed = c.loop-node.invariant.formed in
+    let nodes = ap length c.loop-node.invariant.shapes in
+    record {
+      node = omega (arith, c.loop-node.invariant.count, nodes);
+      later = record {
+        shaped = formed.shaped;
+        few_rows = formed.few_rows;
+        count = omega (arith, c.loop-node.invariant.count, nodes, ap length c.deref.ensures.value);
+        few = subst (λ ls. AreFew (map links_of ls)) (sym c.deref.ensures.value) c.loop-node.invariant.few;
+      };
+    }
