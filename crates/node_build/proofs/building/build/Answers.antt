@@ -30,15 +30,19 @@ returns-then-used-budget g c = record {
   cost = omega arith;
 }
 
-pub filled_tree-requires : goal.filled_tree-requires
-filled_tree-requires g c = record {
-  ready = record { fits = c.requires.fits; keys = c.requires.keys; slots = c.requires.slots; limit = c.requires.limit; tree = c.requires.tree };
-  rows = let join = c.args.join.now in
-        subst (λ (vs : List (Vec ℕ Global)). HaveRows c.args.query.now.query c.args.tables.now join join.count (lists_of vs)) (sym c.as_slice-3.ensures.value) c.in_ok-rows.ensures.rows;
-  room = let total = counts_sum c.as_slice-3.result.now c.as_slice.result.now c.in_ok-rows_of.rows_of.items c.as_slice-2.result.now
-        (c.as_slice.ensures.value ∙ sym c.as_slice-3.ensures.value) c.in_ok-rows_of.ensures c.as_slice-2.ensures.value in
-        omega (arith, total, c.sum_of-used.ensures, c.if-used-budget.false, c.requires.budget);
-}
+pub filled_tree-requires-clause-ready : goal.filled_tree-requires-clause-ready
+filled_tree-requires-clause-ready g c = record { fits = c.requires.fits; keys = c.requires.keys; slots = c.requires.slots; limit = c.requires.limit; tree = c.requires.tree }
+
+pub filled_tree-requires-clause-rows : goal.filled_tree-requires-clause-rows
+filled_tree-requires-clause-rows g c =
+    let join = c.args.join.now in
+    subst (λ (vs : List (Vec ℕ Global)). HaveRows c.args.query.now.query c.args.tables.now join join.count (lists_of vs)) (sym c.as_slice-3.ensures.value) c.in_ok-rows.ensures.rows
+
+pub filled_tree-requires-clause-room : goal.filled_tree-requires-clause-room
+filled_tree-requires-clause-room g c =
+    let total = counts_sum c.as_slice-3.result.now c.as_slice.result.now c.in_ok-rows_of.rows_of.items c.as_slice-2.result.now
+    (c.as_slice.ensures.value ∙ sym c.as_slice-3.ensures.value) c.in_ok-rows_of.ensures c.as_slice-2.ensures.value in
+    omega (arith, total, c.sum_of-used.ensures, c.if-used-budget.false, c.requires.budget)
 
 pub returns-in_err-tree : goal.returns-in_err-tree
 returns-in_err-tree g c =

@@ -18,29 +18,30 @@ bounds-rows-node g c = omega (arith, c.requires.rows.count, lists_length c.args.
 pub loop-node-init : goal.loop-node-init
 loop-node-init g c = record { shapes = refl; count = c.requires.links; numbers = c.requires.numbers; filled = c.requires.none; cost = omega arith }
 
-pub add_rows-requires : goal.add_rows-requires
-add_rows-requires g c = record {
-  ready = c.requires.ready;
-  columns = c.requires.columns;
-  node = c.loop-node-test.true;
-  rows = λ row m. let vs = c.args.rows.now in
-        let node = c.loop-node.node in
-        let inside : node < length vs = omega (arith, c.requires.rows.count, lists_length vs, c.loop-node-test.true) in
-        let list : c.as_slice-list.result.now ≡ get_or (lists_of vs) node [] = c.as_slice-list.ensures.value ∙ sym (list_at vs node c.index-rows-node.result inside c.index-rows-node.is) in
-        let h = ((c.requires.rows.each node (omega arith)).members row).0 (subst (λ (xs : List ℕ). IsMember row xs) list m) in
-        (h.0, h.1);
-  links = c.loop-node.invariant.count;
-  shapes = subst (AreShapesOf c.args.query.now c.args.tables.now c.args.join.now c.args.join.now.count) (sym c.loop-node.invariant.shapes) c.requires.shapes;
-  each_node = c.loop-node.invariant.filled.each_node;
-  empty = c.loop-node.invariant.filled.empty c.loop-node.node (omega arith);
-  room = let vs = c.args.rows.now in
-        let node = c.loop-node.node in
-        let inside : node < length vs = omega (arith, c.requires.rows.count, lists_length vs, c.loop-node-test.true) in
-        let list : c.as_slice-list.result.now ≡ get_or (lists_of vs) node [] = c.as_slice-list.ensures.value ∙ sym (list_at vs node c.index-rows-node.result inside c.index-rows-node.is) in
-        let size = ap (λ (xs : List ℕ). length xs) list in
-        let more = sum_by_more_le (λ (xs : List ℕ). length xs) (lists_of vs) node [] (omega (arith, inside, lists_length vs)) in
-        omega (arith, size, more, c.loop-node.invariant.filled.total, c.requires.room);
-}
+pub add_rows-requires-clause-rows : goal.add_rows-requires-clause-rows
+add_rows-requires-clause-rows g c row m =
+    let vs = c.args.rows.now in
+    let node = c.loop-node.node in
+    let inside : node < length vs = omega (arith, c.requires.rows.count, lists_length vs, c.loop-node-test.true) in
+    let list : c.as_slice-list.result.now ≡ get_or (lists_of vs) node [] = c.as_slice-list.ensures.value ∙ sym (list_at vs node c.index-rows-node.result inside c.index-rows-node.is) in
+    let h = ((c.requires.rows.each node (omega arith)).members row).0 (subst (λ (xs : List ℕ). IsMember row xs) list m) in
+    (h.0, h.1)
+
+pub add_rows-requires-clause-shapes : goal.add_rows-requires-clause-shapes
+add_rows-requires-clause-shapes g c = subst (AreShapesOf c.args.query.now c.args.tables.now c.args.join.now c.args.join.now.count) (sym c.loop-node.invariant.shapes) c.requires.shapes
+
+pub add_rows-requires-clause-empty : goal.add_rows-requires-clause-empty
+add_rows-requires-clause-empty g c = c.loop-node.invariant.filled.empty c.loop-node.node (omega arith)
+
+pub add_rows-requires-clause-room : goal.add_rows-requires-clause-room
+add_rows-requires-clause-room g c =
+    let vs = c.args.rows.now in
+    let node = c.loop-node.node in
+    let inside : node < length vs = omega (arith, c.requires.rows.count, lists_length vs, c.loop-node-test.true) in
+    let list : c.as_slice-list.result.now ≡ get_or (lists_of vs) node [] = c.as_slice-list.ensures.value ∙ sym (list_at vs node c.index-rows-node.result inside c.index-rows-node.is) in
+    let size = ap (λ (xs : List ℕ). length xs) list in
+    let more = sum_by_more_le (λ (xs : List ℕ). length xs) (lists_of vs) node [] (omega (arith, inside, lists_length vs)) in
+    omega (arith, size, more, c.loop-node.invariant.filled.total, c.requires.room)
 
 pub returns : goal.returns
 returns g c = record {

@@ -9,32 +9,36 @@ use Rattle.node_build.proofs.Held.{shapes_held}
 use Rattle.node_build.proofs.Shaped.{shapes_are}
 use Rattle.node_build.proofs.filling.filled_tree.Goals as goal
 
-pub with_keys-requires : goal.with_keys-requires
-with_keys-requires g c = record {
-  shapes = subst AreShapes (sym c.as_slice.ensures.value)
-        (shapes_are c.args.query.now c.args.tables.now c.requires.ready.fits c.args.join.now c.in_ok-shapes.shapes.items c.requires.ready.tree (c.in_ok-shapes.ensures c.args.tables.now c.requires.ready.fits));
-  held = subst (AreShapesHeld g.R.Rank.KEYS g.R.Rank.key) (sym c.as_slice.ensures.value)
-        (shapes_held c.args.query.now c.args.tables.now c.args.join.now c.requires.ready.tree c.in_ok-shapes.shapes.items (c.in_ok-shapes.ensures c.args.tables.now c.requires.ready.fits)
-        g.R.Rank.KEYS g.R.Rank.key g.R.Rank.ITEMS g.R.Rank.LIMIT g.R.Rank.ROWS g.met.R.Rank.holds g.met.R.Rank.rows_held c.requires.ready.slots c.requires.ready.limit);
-}
+pub with_keys-requires-clause-shapes : goal.with_keys-requires-clause-shapes
+with_keys-requires-clause-shapes g c =
+    subst AreShapes (sym c.as_slice.ensures.value)
+    (shapes_are c.args.query.now c.args.tables.now c.requires.ready.fits c.args.join.now c.in_ok-shapes.shapes.items c.requires.ready.tree (c.in_ok-shapes.ensures c.args.tables.now c.requires.ready.fits))
 
-pub add_nodes-added-requires : goal.add_nodes-added-requires
-add_nodes-added-requires g c = record {
-  ready = c.requires.ready;
-  columns = c.in_ok-columns.ensures;
-  rows = c.requires.rows;
-  room = c.requires.room;
-  links = names_count c.in_ok-links.links c.args.join.now.count c.in_ok-links.ensures;
-  numbers = no_numbers c.in_ok-links.links c.args.join.now.count c.in_ok-links.ensures;
-  shapes = shapes_kept c.args.query.now c.args.tables.now c.args.join.now c.in_ok-shapes.shapes.items c.as_slice.result.now c.in_ok-tree.tree c.in_ok-tree.tree
-        (c.in_ok-shapes.ensures c.args.tables.now c.requires.ready.fits) c.as_slice.ensures.value c.in_ok-tree.ensures refl;
-  none = let join = c.args.join.now in
-        let own = lists_of c.in_ok-columns.columns.own.items in
-        let above = lists_of c.in_ok-columns.columns.above.items in
-        let of_join = c.in_ok-shapes.ensures c.args.tables.now c.requires.ready.fits in
-        let count : length c.as_slice.result.now ≡ join.count = ap (λ (xs : List NodeShape). length xs) c.as_slice.ensures.value ∙ of_join.count in
-        no_rows_yet c.args.query.now c.args.tables.now join own above g.R.Rank.KEYS g.R.Rank.key c.in_ok-links.links (lists_of c.args.rows.now) c.as_slice.result.now c.in_ok-tree.tree count c.in_ok-tree.ensures;
-}
+pub with_keys-requires-clause-held : goal.with_keys-requires-clause-held
+with_keys-requires-clause-held g c =
+    subst (AreShapesHeld g.R.Rank.KEYS g.R.Rank.key) (sym c.as_slice.ensures.value)
+    (shapes_held c.args.query.now c.args.tables.now c.args.join.now c.requires.ready.tree c.in_ok-shapes.shapes.items (c.in_ok-shapes.ensures c.args.tables.now c.requires.ready.fits)
+    g.R.Rank.KEYS g.R.Rank.key g.R.Rank.ITEMS g.R.Rank.LIMIT g.R.Rank.ROWS g.met.R.Rank.holds g.met.R.Rank.rows_held c.requires.ready.slots c.requires.ready.limit)
+
+pub add_nodes-added-requires-clause-links : goal.add_nodes-added-requires-clause-links
+add_nodes-added-requires-clause-links g c = names_count c.in_ok-links.links c.args.join.now.count c.in_ok-links.ensures
+
+pub add_nodes-added-requires-clause-numbers : goal.add_nodes-added-requires-clause-numbers
+add_nodes-added-requires-clause-numbers g c = no_numbers c.in_ok-links.links c.args.join.now.count c.in_ok-links.ensures
+
+pub add_nodes-added-requires-clause-shapes : goal.add_nodes-added-requires-clause-shapes
+add_nodes-added-requires-clause-shapes g c =
+    shapes_kept c.args.query.now c.args.tables.now c.args.join.now c.in_ok-shapes.shapes.items c.as_slice.result.now c.in_ok-tree.tree c.in_ok-tree.tree
+    (c.in_ok-shapes.ensures c.args.tables.now c.requires.ready.fits) c.as_slice.ensures.value c.in_ok-tree.ensures refl
+
+pub add_nodes-added-requires-clause-none : goal.add_nodes-added-requires-clause-none
+add_nodes-added-requires-clause-none g c =
+    let join = c.args.join.now in
+    let own = lists_of c.in_ok-columns.columns.own.items in
+    let above = lists_of c.in_ok-columns.columns.above.items in
+    let of_join = c.in_ok-shapes.ensures c.args.tables.now c.requires.ready.fits in
+    let count : length c.as_slice.result.now ≡ join.count = ap (λ (xs : List NodeShape). length xs) c.as_slice.ensures.value ∙ of_join.count in
+    no_rows_yet c.args.query.now c.args.tables.now join own above g.R.Rank.KEYS g.R.Rank.key c.in_ok-links.links (lists_of c.args.rows.now) c.as_slice.result.now c.in_ok-tree.tree count c.in_ok-tree.ensures
 
 pub returns : goal.returns
 returns g c =

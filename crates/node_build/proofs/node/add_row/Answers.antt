@@ -23,20 +23,28 @@ len-rows-requires g c =
 pub index-requires : goal.index-requires
 index-requires g c = omega (arith, c.requires.columns.own_count, lists_length c.args.columns.now.own.items, c.requires.at.node)
 
-pub link-requires : goal.link-requires
-link-requires g c = record {
-  table = let known = item_known c.args.query.now.query c.args.join.now c.requires.ready.tree c.args.node c.requires.at.node in
-        table_there c.args.query.now c.args.tables.now c.requires.ready.fits (item_of c.args.join.now c.args.node) c.table_of-table.result known c.table_of-table.ensures;
-  first = c.requires.at.first;
-  row = rw c.table_of-table.ensures c.requires.at.row_there;
-  columns = let vs = c.args.columns.now.own.items in
-        let node = c.args.node in
-        let inside : node < length vs = omega (arith, c.requires.columns.own_count, lists_length vs, c.requires.at.node) in
-        let list : c.as_slice-own.result.now ≡ get_or (lists_of vs) node [] = c.as_slice-own.ensures.value ∙ sym (list_at vs node c.index.result.now inside c.index.ensures) in
-        own_there c.args.query.now c.args.tables.now c.requires.ready.fits c.args.join.now (lists_of vs) (lists_of c.args.columns.now.above.items) c.requires.columns
-        node c.table_of-table.result c.as_slice-own.result.now c.requires.at.node list c.table_of-table.ensures;
-  node = omega (arith, c.requires.links, c.requires.at.node);
-}
+pub link-requires-clause-table : goal.link-requires-clause-table
+link-requires-clause-table g c =
+    let known = item_known c.args.query.now.query c.args.join.now c.requires.ready.tree c.args.node c.requires.at.node in
+    table_there c.args.query.now c.args.tables.now c.requires.ready.fits (item_of c.args.join.now c.args.node) c.table_of-table.result known c.table_of-table.ensures
+
+pub link-requires-clause-first : goal.link-requires-clause-first
+link-requires-clause-first g c = c.requires.at.first
+
+pub link-requires-clause-row : goal.link-requires-clause-row
+link-requires-clause-row g c = rw c.table_of-table.ensures c.requires.at.row_there
+
+pub link-requires-clause-columns : goal.link-requires-clause-columns
+link-requires-clause-columns g c =
+    let vs = c.args.columns.now.own.items in
+    let node = c.args.node in
+    let inside : node < length vs = omega (arith, c.requires.columns.own_count, lists_length vs, c.requires.at.node) in
+    let list : c.as_slice-own.result.now ≡ get_or (lists_of vs) node [] = c.as_slice-own.ensures.value ∙ sym (list_at vs node c.index.result.now inside c.index.ensures) in
+    own_there c.args.query.now c.args.tables.now c.requires.ready.fits c.args.join.now (lists_of vs) (lists_of c.args.columns.now.above.items) c.requires.columns
+    node c.table_of-table.result c.as_slice-own.result.now c.requires.at.node list c.table_of-table.ensures
+
+pub link-requires-clause-node : goal.link-requires-clause-node
+link-requires-clause-node g c = omega (arith, c.requires.links, c.requires.at.node)
 
 pub returns-in_err-child_links : goal.returns-in_err-child_links
 returns-in_err-child_links g c = record {
@@ -46,22 +54,25 @@ returns-in_err-child_links g c = record {
   added = failed c.from_residual-in_err-child_links.result _ c.from_residual-in_err-child_links.ensures.0;
 }
 
-pub add_row-requires : goal.add_row-requires
-add_row-requires g c = record {
-  node = rw c.requires.shapes.count c.requires.at.node;
-  fits = let query = c.args.query.now in
-        let tables = c.args.tables.now in
-        let join = c.args.join.now in
-        let node = c.args.node in
-        let shapes = c.args.tree.now.shapes in
-        let low = row_below tables query.query.items (item_of join node) c.table_of-table.result c.len-rows.result c.args.row (2 ^ 21)
-        c.table_of-table.ensures c.len-rows.ensures.rows c.len-rows.ensures.limit c.requires.at.row_there (omega arith) in (
-          row_fits query tables join shapes c.requires.shapes node c.requires.at.node g.R.Rank.KEYS c.args.row (g.R.Rank.key c.rank_of-rank.result)
-              (item_below_16 query.query join c.requires.ready.tree node c.requires.at.node) low c.rank_of-rank.ensures,
-          ap length c.as_slice.ensures.value ∙ c.in_ok-child_links.ensures.count ∙ children_are query tables join shapes c.requires.shapes node c.requires.at.node,
-        );
-  room = c.requires.room;
-}
+pub add_row-requires-clause-node : goal.add_row-requires-clause-node
+add_row-requires-clause-node g c = rw c.requires.shapes.count c.requires.at.node
+
+pub add_row-requires-clause-fits : goal.add_row-requires-clause-fits
+add_row-requires-clause-fits g c =
+    let query = c.args.query.now in
+    let tables = c.args.tables.now in
+    let join = c.args.join.now in
+    let node = c.args.node in
+    let shapes = c.args.tree.now.shapes in
+    let low = row_below tables query.query.items (item_of join node) c.table_of-table.result c.len-rows.result c.args.row (2 ^ 21)
+    c.table_of-table.ensures c.len-rows.ensures.rows c.len-rows.ensures.limit c.requires.at.row_there (omega arith) in (
+      row_fits query tables join shapes c.requires.shapes node c.requires.at.node g.R.Rank.KEYS c.args.row (g.R.Rank.key c.rank_of-rank.result)
+          (item_below_16 query.query join c.requires.ready.tree node c.requires.at.node) low c.rank_of-rank.ensures,
+      ap length c.as_slice.ensures.value ∙ c.in_ok-child_links.ensures.count ∙ children_are query tables join shapes c.requires.shapes node c.requires.at.node,
+    )
+
+pub add_row-requires-clause-room : goal.add_row-requires-clause-room
+add_row-requires-clause-room g c = c.requires.room
 
 pub returns : goal.returns
 returns g c = record {
@@ -102,14 +113,11 @@ returns-in_err-own_link g c =
     let e = c.from_residual.ensures.0 in
     record { more = failed r _ e; added = failed r _ e; cost = omega (arith, c.requires.at.node) }
 
-pub child_links-requires : goal.child_links-requires
-child_links-requires g c = record {
-  fits = c.requires.ready.fits;
-  tree = c.requires.ready.tree;
-  columns = c.requires.columns;
-  at = c.requires.at;
-  links = c.in_ok-own_link.ensures.more.count ∙ c.requires.links;
-}
+pub child_links-requires-clause-fits : goal.child_links-requires-clause-fits
+child_links-requires-clause-fits g c = c.requires.ready.fits
 
-pub rank_of-rank-requires : goal.rank_of-rank-requires
-rank_of-rank-requires g c = record { ready = c.requires.ready; at = c.requires.at }
+pub child_links-requires-clause-tree : goal.child_links-requires-clause-tree
+child_links-requires-clause-tree g c = c.requires.ready.tree
+
+pub child_links-requires-clause-links : goal.child_links-requires-clause-links
+child_links-requires-clause-links g c = c.in_ok-own_link.ensures.more.count ∙ c.requires.links

@@ -23,19 +23,24 @@ loop-row-init g c =
       cost = omega arith;
     }
 
-pub add_row-requires : goal.add_row-requires
-add_row-requires g c = record {
-  ready = c.requires.ready;
-  columns = c.requires.columns;
-  at = let there = c.requires.rows (get_or c.args.rows.now c.loop-row.row-index 0) (get_member c.args.rows.now c.loop-row.row-index 0 (omega arith)) in
-    record { node = c.requires.node; first = there.0; row_there = there.1 };
-  links = c.loop-row.invariant.more.count ∙ c.requires.links;
-  shapes = let same = c.loop-row.invariant.others.shapes ∙ ap (λ (t : RawView g.row.R.Denot). t.shapes) c.reserve.ensures in
-        subst (AreShapesOf c.args.query.now c.args.tables.now c.args.join.now c.args.join.now.count) (sym same) c.requires.shapes;
-  room = let same = ap (λ (t : RawView g.row.R.Denot). row_total t) c.reserve.ensures in
-        let total = c.loop-row.invariant.others.total in
-        omega (arith, same, total, c.requires.room);
-}
+pub add_row-requires-clause-at : goal.add_row-requires-clause-at
+add_row-requires-clause-at g c =
+    let there = c.requires.rows (get_or c.args.rows.now c.loop-row.row-index 0) (get_member c.args.rows.now c.loop-row.row-index 0 (omega arith)) in
+    record { node = c.requires.node; first = there.0; row_there = there.1 }
+
+pub add_row-requires-clause-links : goal.add_row-requires-clause-links
+add_row-requires-clause-links g c = c.loop-row.invariant.more.count ∙ c.requires.links
+
+pub add_row-requires-clause-shapes : goal.add_row-requires-clause-shapes
+add_row-requires-clause-shapes g c =
+    let same = c.loop-row.invariant.others.shapes ∙ ap (λ (t : RawView g.row.R.Denot). t.shapes) c.reserve.ensures in
+    subst (AreShapesOf c.args.query.now c.args.tables.now c.args.join.now c.args.join.now.count) (sym same) c.requires.shapes
+
+pub add_row-requires-clause-room : goal.add_row-requires-clause-room
+add_row-requires-clause-room g c =
+    let same = ap (λ (t : RawView g.row.R.Denot). row_total t) c.reserve.ensures in
+    let total = c.loop-row.invariant.others.total in
+    omega (arith, same, total, c.requires.room)
 
 pub returns-in_err-add_row : goal.returns-in_err-add_row
 returns-in_err-add_row g c =

@@ -42,20 +42,28 @@ table_of-table-requires g c = item_known c.args.query.now.query c.args.join.now 
 pub index-requires : goal.index-requires
 index-requires g c = omega (arith, c.requires.columns.above_count, lists_length c.args.columns.now.above.items, c.loop-child-test.true)
 
-pub link-requires : goal.link-requires
-link-requires g c = record {
-  table = let known = item_known c.args.query.now.query c.args.join.now c.requires.tree c.args.node c.requires.at.node in
-        table_there c.args.query.now c.args.tables.now c.requires.fits (item_of c.args.join.now c.args.node) c.table_of-table.result known c.table_of-table.ensures;
-  first = c.requires.at.first;
-  row = rw c.table_of-table.ensures c.requires.at.row_there;
-  columns = let vs = c.args.columns.now.above.items in
-        let child = c.loop-child.child in
-        let inside : child < length vs = omega (arith, c.requires.columns.above_count, lists_length vs, c.loop-child-test.true) in
-        let list : c.as_slice-above.result.now ≡ get_or (lists_of vs) child [] = c.as_slice-above.ensures.value ∙ sym (list_at vs child c.index.result.now inside c.index.ensures) in
-        above_there c.args.query.now c.args.tables.now c.requires.fits c.args.join.now (lists_of c.args.columns.now.own.items) (lists_of vs) c.requires.columns
-        child c.args.node c.table_of-table.result c.as_slice-above.result.now (omega arith) (omega arith) c.if-join-child.false list c.table_of-table.ensures;
-  node = omega (arith, c.loop-child.invariant.more.count, c.requires.links, c.loop-child-test.true);
-}
+pub link-requires-clause-table : goal.link-requires-clause-table
+link-requires-clause-table g c =
+    let known = item_known c.args.query.now.query c.args.join.now c.requires.tree c.args.node c.requires.at.node in
+    table_there c.args.query.now c.args.tables.now c.requires.fits (item_of c.args.join.now c.args.node) c.table_of-table.result known c.table_of-table.ensures
+
+pub link-requires-clause-first : goal.link-requires-clause-first
+link-requires-clause-first g c = c.requires.at.first
+
+pub link-requires-clause-row : goal.link-requires-clause-row
+link-requires-clause-row g c = rw c.table_of-table.ensures c.requires.at.row_there
+
+pub link-requires-clause-columns : goal.link-requires-clause-columns
+link-requires-clause-columns g c =
+    let vs = c.args.columns.now.above.items in
+    let child = c.loop-child.child in
+    let inside : child < length vs = omega (arith, c.requires.columns.above_count, lists_length vs, c.loop-child-test.true) in
+    let list : c.as_slice-above.result.now ≡ get_or (lists_of vs) child [] = c.as_slice-above.ensures.value ∙ sym (list_at vs child c.index.result.now inside c.index.ensures) in
+    above_there c.args.query.now c.args.tables.now c.requires.fits c.args.join.now (lists_of c.args.columns.now.own.items) (lists_of vs) c.requires.columns
+    child c.args.node c.table_of-table.result c.as_slice-above.result.now (omega arith) (omega arith) c.if-join-child.false list c.table_of-table.ensures
+
+pub link-requires-clause-node : goal.link-requires-clause-node
+link-requires-clause-node g c = omega (arith, c.loop-child.invariant.more.count, c.requires.links, c.loop-child-test.true)
 
 pub returns-in_err-number : goal.returns-in_err-number
 returns-in_err-number g c =
