@@ -15,6 +15,7 @@ use Rattle.query_shape.specs.Shape.{Shape}
 use Rattle.node_build.specs.Nodes.{IsJoinTreeOf, item_of, parent_of}
 use Rattle.plan_build.proofs.Witnesses.{items_ordered}
 use Rattle.plan_build.specs.declared.fault.PlanFault.{PlanFault}
+use Rattle.plan_build.specs.Making.{IsPlanOver}
 use Rattle.plan_build.specs.Plan.{IsPlan, IsPlanAt, IsPlanFor, IsPlanOf, PlanView, nodes_in, shape_view}
 
 -- ---- trees that are equal node by node
@@ -151,17 +152,12 @@ whole_of d key bound tables (Some item) plan is = is.whole
 -- ---- the same of a result
 
 module _ {R : Type 0} (d : ℕ) (key : R → KeyOf d 16) (bound : BoundQuery) (tables : List Table) (join over : JoinTree) (joined : IsJoinTreeOf bound.query over) where
-  pub plan_given : (result : Result (PlanView R) PlanFault) → IfOk result (IsPlanFor d key bound tables) → IfOk result (λ plan. plan.join ≡ join)
-      → IfOk result (λ plan. (v : ℕ) → v < length plan.tree → item plan.tree v ≡ item_of over v)
-      → IfOk result (λ plan. (v : ℕ) → v < length plan.tree → parent plan.tree v ≡ parent_of over v)
-      → over ≡ join → IfOk result (IsPlan d key bound tables)
-  plan_given (Ok plan) whole kept items parents same = plan_of d key bound tables plan join over whole kept joined items parents same
-  plan_given (Err fault) whole kept items parents same = tt
+  pub plan_given : (result : Result (PlanView R) PlanFault) → IfOk result (IsPlanOver d key bound tables join over) → over ≡ join → IfOk result (IsPlan d key bound tables)
+  plan_given (Ok plan) made same = plan_of d key bound tables plan join over made.whole made.kept joined made.items made.parents same
+  plan_given (Err fault) made same = tt
 
-  pub plan_at_given : (result : Result (PlanView R) PlanFault) → IfOk result (IsPlanFor d key bound tables) → IfOk result (λ plan. plan.join ≡ join)
-      → IfOk result (λ plan. (v : ℕ) → v < length plan.tree → item plan.tree v ≡ item_of over v)
-      → IfOk result (λ plan. (v : ℕ) → v < length plan.tree → parent plan.tree v ≡ parent_of over v)
+  pub plan_at_given : (result : Result (PlanView R) PlanFault) → IfOk result (IsPlanOver d key bound tables join over)
       → (at : ℕ) → 0 < length bound.query.items → item_of over 0 ≡ at → over.count ≡ join.count
       → IsSameTree join.count join.atom join.parent over.atom over.parent → IfOk result (IsPlanAt d key bound tables at)
-  plan_at_given (Ok plan) whole kept items parents at some root alike same = plan_at d key bound tables plan join over whole kept joined items parents at some root alike same
-  plan_at_given (Err fault) whole kept items parents at some root alike same = tt
+  plan_at_given (Ok plan) made at some root alike same = plan_at d key bound tables plan join over made.whole made.kept joined made.items made.parents at some root alike same
+  plan_at_given (Err fault) made at some root alike same = tt

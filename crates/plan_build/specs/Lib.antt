@@ -1,4 +1,5 @@
-pub mod Faults
-pub mod RankedPlan
-pub mod Plan
 pub mod Plans
+pub mod Making
+pub mod Plan
+pub mod RankedPlan
+pub mod Faults

@@ -1,18 +1,15 @@
 //! The plan of a query.
-ghost use Rattle.std.specs.Prelude.{◌≡◌, ◌≤◌, ◌+◌, ◌*◌, ◌<◌, ◌^◌, List, length, map, IfErr, IfOk, Ok, ℕ};
-ghost use Rattle.rankings.specs.NodeRows.{most_node_rows};
+ghost use Rattle.std.specs.Prelude.{◌≡◌, ◌≤◌, ◌+◌, ◌*◌, ◌<◌, List, length, IfErr, IfOk, Ok};
 ghost use Rattle.anyk_model.specs.Query.{row_counts};
 ghost use Rattle.anyk_model.specs.Table.{Table};
 ghost use Rattle.bound_query.specs.Parts.{sum_of_all};
 ghost use Rattle.bound_query.specs.WeighedQuery.{Fits};
 ghost use Rattle.join_tree.specs.Rerooting.{IsTree};
-ghost use Rattle.query_shape.specs.JoinTreeView.{HasItems, HasStoredTree};
-ghost use Rattle.tdp_core.specs.RawView.{IsRawFormed, row_total};
-ghost use Rattle.tdp_core.specs.Solutions.{IsTieFreeRaw};
-ghost use Rattle.tdp_core.specs.TreeView.{item, parent};
-ghost use Rattle.node_build.specs.Nodes.{CapsBelow, IsBuilt, IsJoinTreeOf, item_of, parent_of};
+ghost use Rattle.query_shape.specs.JoinTreeView.{HasStoredTree};
+ghost use Rattle.node_build.specs.Nodes.{CapsBelow, IsJoinTreeOf};
 ghost use Rattle.step_bounds.specs.RunBounds.{IsPrepared};
-ghost use Rattle.plan_build.specs.Plan.{IsPlan, IsPlanAt, IsPlanFor};
+ghost use Rattle.plan_build.specs.Making.{AreNodes, FitsRanks, IsPlanOver, IsStored};
+ghost use Rattle.plan_build.specs.Plan.{IsPlan, IsPlanAt};
 ghost use Rattle.plan_build.specs.Faults.{TellsFlaw};
 
 use crate::fault::PlanFault;
@@ -125,22 +122,12 @@ fn plan_over<R: Rank, L: Ledger>(
     over: &JoinTree,
     steps: &mut Steps<L>,
 ) -> Result<Plan<R>, PlanFault>
-    requires fits { Fits query.now tables.now }
-    requires keys { length query.now.query.order ≤ R.KEYS }
-    requires slots { length query.now.query.items ≤ R.ITEMS }
-    requires limit { CapsBelow R.LIMIT query.now tables.now }
-    requires stored { HasStoredTree query.now.query join.now }
-    requires count { join.now.count ≡ length query.now.query.items }
-    requires ordered { IsTree join.now.count join.now.atom join.now.parent }
-    requires atoms { HasItems join.now.count join.now.atom (length query.now.query.items) }
+    requires ranks { FitsRanks R.KEYS R.ITEMS R.LIMIT query.now tables.now }
+    requires stored { IsStored query.now.query join.now }
     requires over { IsJoinTreeOf query.now.query over.now }
     requires over_ordered { IsTree over.now.count over.now.atom over.now.parent }
-    ensures plan { IfOk result (IsPlanFor R.KEYS R.key query.now tables.now) }
-    ensures join { IfOk result (λ plan. plan.join ≡ join.now) }
-    ensures items { IfOk result
-        (λ plan. (v : ℕ) → v < length plan.tree → item plan.tree v ≡ item_of over.now v) }
-    ensures parents { IfOk result
-        (λ plan. (v : ℕ) → v < length plan.tree → parent plan.tree v ≡ parent_of over.now v) }
+    ensures plan { IfOk result
+        (IsPlanOver R.KEYS R.key query.now tables.now join.now over.now) }
     ensures refusal { IfErr result (TellsFlaw query.now.query tables.now) }
     ensures cost { IsPrepared query.now.query tables.now steps.old steps.new }
 {
@@ -161,12 +148,7 @@ fn plan_over<R: Rank, L: Ledger>(
 /// The join tree of the query. `Cyclic` if there is none.
 fn join_tree_of(query: &Query) -> Result<JoinTree, PlanFault>
     requires fits { (tables : List Table) × Fits query.now tables }
-    ensures tree { IfOk result (HasStoredTree query.now.query) }
-    ensures ordered { IfOk result (λ tree. IsTree tree.count tree.atom tree.parent) }
-    ensures items { IfOk result
-        (λ tree. HasItems tree.count tree.atom (length query.now.query.items)) }
-    ensures count { IfOk result (λ tree. tree.count ≡ length query.now.query.items) }
-    ensures joined { IfOk result (IsJoinTreeOf query.now.query) }
+    ensures tree { IfOk result (IsStored query.now.query) }
     ensures refusal { IfErr result
         (λ fault. (tables : List Table) → TellsFlaw query.now.query tables fault) }
 {
@@ -186,22 +168,13 @@ fn nodes_of<R: Rank, L: Ledger>(
     join: &JoinTree,
     steps: &mut Steps<L>,
 ) -> Result<Built<R>, PlanFault>
-    requires fits { Fits query.now tables.now }
-    requires keys { length query.now.query.order ≤ R.KEYS }
-    requires slots { length query.now.query.items ≤ R.ITEMS }
-    requires limit { CapsBelow R.LIMIT query.now tables.now }
+    requires ranks { FitsRanks R.KEYS R.ITEMS R.LIMIT query.now tables.now }
     requires tree { IsJoinTreeOf query.now.query join.now }
     requires acyclic { (other : JoinTree) × HasStoredTree query.now.query other
         × (other.count ≡ length query.now.query.items) }
-    ensures built { IfOk result
-        (λ built. IsBuilt query.now tables.now R.KEYS R.key join.now built.tree) }
-    ensures formed { IfOk result (λ built. IsRawFormed R.KEYS R.key built.tree) }
-    ensures tie_free { IfOk result (λ built. IsTieFreeRaw built.tree) }
-    ensures rows_of { IfOk result (λ built. built.rows_of.items ≡ map length built.tree.rows) }
-    ensures used { IfOk result (λ built. built.used ≡ row_total built.tree) }
-    ensures within { IfOk result (λ built. built.used ≤ most_node_rows) }
-    ensures fewer { IfOk result
-        (λ built. built.used ≤ sum_of_all (row_counts query.now.query.items tables.now)) }
+    ensures nodes { IfOk result
+        (λ built. AreNodes R.KEYS R.key query.now tables.now join.now built.tree
+        built.rows_of.items built.used) }
     ensures refusal { IfErr result (TellsFlaw query.now.query tables.now) }
     ensures cost { steps.new
         ≤ steps.old + length query.now.query.items

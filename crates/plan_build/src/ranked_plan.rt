@@ -4,6 +4,7 @@ ghost use Rattle.anyk_model.specs.Table.{Table};
 ghost use Rattle.bound_query.specs.WeighedQuery.{Fits};
 ghost use Rattle.node_build.specs.Nodes.{CapsBelow};
 ghost use Rattle.step_bounds.specs.RunBounds.{IsPrepared};
+ghost use Rattle.plan_build.specs.Making.{FitsRanks};
 ghost use Rattle.plan_build.specs.Plan.{IsPlanOf};
 ghost use Rattle.plan_build.specs.Faults.{TellsFlaw};
 ghost use Rattle.plan_build.specs.RankedPlan.{HasLeastRoom, HasRoom, IsRankedPlan, packed_room};
@@ -118,10 +119,7 @@ fn prepare_of<R: Rank, L: Ledger>(
     item: Option<u32>,
     steps: &mut Steps<L>,
 ) -> Result<Plan<R>, PlanFault>
-    requires fits { Fits query.now tables.now }
-    requires keys { length query.now.query.order ≤ R.KEYS }
-    requires slots { length query.now.query.items ≤ R.ITEMS }
-    requires limit { CapsBelow R.LIMIT query.now tables.now }
+    requires ranks { FitsRanks R.KEYS R.ITEMS R.LIMIT query.now tables.now }
     requires item { IfSome item (λ i. i < length query.now.query.items) }
     ensures plan { IfOk result (IsPlanOf R.KEYS R.key query.now tables.now item) }
     ensures refusal { IfErr result (TellsFlaw query.now.query tables.now) }

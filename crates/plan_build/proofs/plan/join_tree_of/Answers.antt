@@ -4,13 +4,15 @@ pub returns-in-Ok : goal.returns-in-Ok
 returns-in-Ok c =
     let made = c.in-Ok.ensures in
     record {
-      tree = made.tree;
-      ordered = made.ordered;
-      items = made.items;
-      count = made.count;
-      joined = record { count = made.count; graph = made.tree.graph; of_query = made.tree.of_query; tree = made.tree.join_tree };
+      tree = record {
+        stored = made.tree;
+        ordered = made.ordered;
+        atoms = made.items;
+        count = made.count;
+        joined = record { count = made.count; graph = made.tree.graph; of_query = made.tree.of_query; tree = made.tree.join_tree };
+      };
       refusal = tt;
     }
 
 pub returns-in-Err-NoMemory : goal.returns-in-Err-NoMemory
-returns-in-Err-NoMemory c = record { tree = tt; ordered = tt; items = tt; count = tt; joined = tt; refusal = λ tables. tt }
+returns-in-Err-NoMemory c = record { tree = tt; refusal = λ tables. tt }

@@ -14,14 +14,17 @@ passed bound tables join budget told (inr (same, past)) = (let e : told ≡ budg
 
 pub returns-in-Ok : goal.returns-in-Ok
 returns-in-Ok g c =
+    let made = c.in-Ok.ensures in
     record {
-      built = c.in-Ok.ensures.built;
-      formed = c.nodes-nodes.ensures.formed;
-      tie_free = c.in-Ok.ensures.tie_free;
-      rows_of = c.in-Ok.ensures.rows_of;
-      used = c.in-Ok.ensures.used;
-      within = c.in-Ok.ensures.within;
-      fewer = c.in-Ok.ensures.fewer;
+      nodes = record {
+        built = made.built;
+        formed = c.nodes-nodes.ensures.formed;
+        tie_free = made.tie_free;
+        counts = made.rows_of;
+        all = made.used;
+        within = made.within;
+        fewer = made.fewer;
+      };
       refusal = tt;
       cost = c.build.ensures.cost;
     }
@@ -31,13 +34,7 @@ returns-in-Err-TooManyRows g c =
     let past = passed c.args.query.now c.args.tables.now c.args.join.now 4194304 c.in-Err-TooManyRows.budget (rw c.in-Err-TooManyRows.field-0-is at c.in-Err-TooManyRows.ensures.refusal) in
     let other = c.requires.acyclic in
     record {
-      built = tt;
-      formed = tt;
-      tie_free = tt;
-      rows_of = tt;
-      used = tt;
-      within = tt;
-      fewer = tt;
+      nodes = tt;
       refusal = (past.0, too_many c.args.query.now c.args.tables.now other.0 other.1 other.2 c.args.join.now c.requires.tree 4194304 refl past.1);
       cost = c.build.ensures.cost;
     }
@@ -45,13 +42,7 @@ returns-in-Err-TooManyRows g c =
 pub returns-in-Err-NoMemory : goal.returns-in-Err-NoMemory
 returns-in-Err-NoMemory g c =
     record {
-      built = tt;
-      formed = tt;
-      tie_free = tt;
-      rows_of = tt;
-      used = tt;
-      within = tt;
-      fewer = tt;
+      nodes = tt;
       refusal = tt;
       cost = c.build.ensures.cost;
     }

@@ -5,15 +5,6 @@ use Rattle.plan_build.proofs.Refusals.{handed_on}
 use Rattle.plan_build.proofs.Rooted.{plan_given}
 use Rattle.plan_build.proofs.plan.prepare.Goals as goal
 
-pub plan_over-requires-clause-ordered : goal.plan_over-requires-clause-ordered
-plan_over-requires-clause-ordered g c = c.in_ok-join.ensures.ordered
-
-pub plan_over-requires-clause-over_ordered : goal.plan_over-requires-clause-over_ordered
-plan_over-requires-clause-over_ordered g c = c.in_ok-join.ensures.ordered
-
-pub plan_over-requires-clause-atoms : goal.plan_over-requires-clause-atoms
-plan_over-requires-clause-atoms g c = c.in_ok-join.ensures.items
-
 pub returns-in_err-join : goal.returns-in_err-join
 returns-in_err-join g c =
     record {
@@ -25,10 +16,28 @@ returns-in_err-join g c =
 pub returns : goal.returns
 returns g c =
     let join = c.in_ok-join.join in
-    let made = c.plan_over.ensures in
+    let made = c.plan_over.ensures.plan in
     record {
-      plan = plan_given g.R.Rank.KEYS g.R.Rank.key c.args.query.now c.args.tables.now join join c.in_ok-join.ensures.joined
-          c.plan_over.result made.plan made.join made.items made.parents refl;
+      plan = plan_given g.R.Rank.KEYS g.R.Rank.key c.args.query.now c.args.tables.now join join c.in_ok-join.ensures.tree.joined
+          c.plan_over.result made refl;
       refusal = c.plan_over.ensures.refusal;
       cost = c.plan_over.ensures.cost;
     }
+
+pub plan_over-requires-clause-ranks : goal.plan_over-requires-clause-ranks
+plan_over-requires-clause-ranks g c = record { fits = c.requires.fits; keys = c.requires.keys; items = c.requires.slots; limit = c.requires.limit }
+
+pub plan_over-requires-clause-stored : goal.plan_over-requires-clause-stored
+plan_over-requires-clause-stored g c =
+    let stored = c.in_ok-join.ensures.tree in
+    stored
+
+pub plan_over-requires-clause-over : goal.plan_over-requires-clause-over
+plan_over-requires-clause-over g c =
+    let stored = c.in_ok-join.ensures.tree in
+    stored.joined
+
+pub plan_over-requires-clause-over_ordered : goal.plan_over-requires-clause-over_ordered
+plan_over-requires-clause-over_ordered g c =
+    let stored = c.in_ok-join.ensures.tree in
+    stored.ordered

@@ -1,4 +1,4 @@
-use Rattle.std.proofs.Common.{arith, refl}
+use Rattle.std.proofs.Common.{arith}
 use Rattle.std.proofs.lemmas.Result.{IfOk-from_err}
 use Rattle.node_build.proofs.Shaped.{caps_small}
 use Rattle.plan_build.specs.Faults.{TellsFlaw}
@@ -6,56 +6,28 @@ use Rattle.plan_build.proofs.Refusals.{handed_on}
 use Rattle.plan_build.proofs.Rooms.{denied, lex_least, middle_least, small_lex_least, sum_least}
 use Rattle.plan_build.proofs.ranked_plan.prepare_ranked.Goals as goal
 
-pub prepare_of-requires-then-has_places-clause-limit : goal.prepare_of-requires-then-has_places-clause-limit
-prepare_of-requires-then-has_places-clause-limit g c = caps_small c.args.query.now c.args.tables.now c.requires.fits
+pub prepare_of-requires-clause-ranks : goal.prepare_of-requires-clause-ranks
+prepare_of-requires-clause-ranks g c =
+    let room = (c.has_packed_room.ensures c.args.tables.now c.requires.fits).0 c.if-has_packed_room.true in
+    record { fits = c.requires.fits; keys = room.keys; items = room.items; limit = room.limit }
 
-pub prepare_of-requires-then-has_places-2-clause-limit : goal.prepare_of-requires-then-has_places-2-clause-limit
-prepare_of-requires-then-has_places-2-clause-limit g c = caps_small c.args.query.now c.args.tables.now c.requires.fits
+pub prepare_of-requires-then-has_places-clause-ranks : goal.prepare_of-requires-then-has_places-clause-ranks
+prepare_of-requires-then-has_places-clause-ranks g c =
+    let places = c.has_places.ensures.0 c.if-has_places.true in
+    record { fits = c.requires.fits; keys = places.0; items = places.1; limit = caps_small c.args.query.now c.args.tables.now c.requires.fits }
 
-pub prepare_of-requires-then-has_places-3-clause-limit : goal.prepare_of-requires-then-has_places-3-clause-limit
-prepare_of-requires-then-has_places-3-clause-limit g c = caps_small c.args.query.now c.args.tables.now c.requires.fits
+pub prepare_of-requires-then-has_places-2-clause-ranks : goal.prepare_of-requires-then-has_places-2-clause-ranks
+prepare_of-requires-then-has_places-2-clause-ranks g c =
+    let places = c.has_places-2.ensures.0 c.if-has_places-2.true in
+    record { fits = c.requires.fits; keys = places.0; items = places.1; limit = caps_small c.args.query.now c.args.tables.now c.requires.fits }
 
-pub prepare_of-requires-2-clause-limit : goal.prepare_of-requires-2-clause-limit
-prepare_of-requires-2-clause-limit g c = caps_small c.args.query.now c.args.tables.now c.requires.fits
+pub prepare_of-requires-then-has_places-3-clause-ranks : goal.prepare_of-requires-then-has_places-3-clause-ranks
+prepare_of-requires-then-has_places-3-clause-ranks g c =
+    let places = c.has_places-3.ensures.0 c.if-has_places-3.true in
+    record { fits = c.requires.fits; keys = places.0; items = places.1; limit = caps_small c.args.query.now c.args.tables.now c.requires.fits }
 
-pub prepare_of-requires-clause-fits : goal.prepare_of-requires-clause-fits
-prepare_of-requires-clause-fits g c = c.requires.fits
-
-pub prepare_of-requires-clause-item : goal.prepare_of-requires-clause-item
-prepare_of-requires-clause-item g c = c.requires.item
-
-pub prepare_of-requires-then-has_places-clause-fits : goal.prepare_of-requires-then-has_places-clause-fits
-prepare_of-requires-then-has_places-clause-fits g c = c.requires.fits
-
-pub prepare_of-requires-then-has_places-clause-item : goal.prepare_of-requires-then-has_places-clause-item
-prepare_of-requires-then-has_places-clause-item g c = c.requires.item
-
-pub prepare_of-requires-then-has_places-2-clause-fits : goal.prepare_of-requires-then-has_places-2-clause-fits
-prepare_of-requires-then-has_places-2-clause-fits g c = c.requires.fits
-
-pub prepare_of-requires-then-has_places-2-clause-item : goal.prepare_of-requires-then-has_places-2-clause-item
-prepare_of-requires-then-has_places-2-clause-item g c = c.requires.item
-
-pub prepare_of-requires-then-has_places-3-clause-fits : goal.prepare_of-requires-then-has_places-3-clause-fits
-prepare_of-requires-then-has_places-3-clause-fits g c = c.requires.fits
-
-pub prepare_of-requires-then-has_places-3-clause-item : goal.prepare_of-requires-then-has_places-3-clause-item
-prepare_of-requires-then-has_places-3-clause-item g c = c.requires.item
-
-pub prepare_of-requires-2-clause-fits : goal.prepare_of-requires-2-clause-fits
-prepare_of-requires-2-clause-fits g c = c.requires.fits
-
-pub prepare_of-requires-2-clause-item : goal.prepare_of-requires-2-clause-item
-prepare_of-requires-2-clause-item g c = c.requires.item
-
-pub prepare_of-requires-then-has_places-2-clause-keys : goal.prepare_of-requires-then-has_places-2-clause-keys
-prepare_of-requires-then-has_places-2-clause-keys g c = (c.if-has_places-2.ensures.0 refl).0
-
-pub prepare_of-requires-then-has_places-2-clause-slots : goal.prepare_of-requires-then-has_places-2-clause-slots
-prepare_of-requires-then-has_places-2-clause-slots g c = (c.if-has_places-2.ensures.0 refl).1
-
-pub prepare_of-requires-then-has_places-3-clause-keys : goal.prepare_of-requires-then-has_places-3-clause-keys
-prepare_of-requires-then-has_places-3-clause-keys g c = (c.if-has_places-3.ensures.0 refl).0
+pub prepare_of-requires-2-clause-ranks : goal.prepare_of-requires-2-clause-ranks
+prepare_of-requires-2-clause-ranks g c = record { fits = c.requires.fits; keys = omega arith; items = omega arith; limit = caps_small c.args.query.now c.args.tables.now c.requires.fits }
 
 pub returns-in_err-plan : goal.returns-in_err-plan
 returns-in_err-plan g c =
