@@ -2,7 +2,7 @@ use Rattle.std.proofs.Common.{◌≡◌, ℕ, List, ◌++◌, ◌∷◌, [], len
 use Rattle.tdp_core.specs.declared.parts.NodeRow.{NodeRow}
 use Rattle.tdp_core.specs.RankedRows.{ranked_rows}
 use Rattle.tdp_core.proofs.RankedRowLists.{row_more}
-use Rattle.tdp_core.proofs.Refusals.{on_err}
+use Rattle.tdp_core.proofs.Refusals.{failed, on_err}
 use Rattle.tdp_core.proofs.node_rows.NodeRows.push.Goals as goal
 
 module _ {R : Type 0} (row : NodeRow R) (ranks ranks_kept ranks_now : List R) (numbers numbers_kept numbers_now : List ℕ) (r : ranks_kept ≡ ranks) (n : numbers_kept ≡ numbers)
@@ -25,24 +25,30 @@ invariant_of-self-2 g c =
     long_now c.args.row t.ranks.items c.reserve.new.self.items c.push_reserved.new.self.items t.numbers.items c.reserve-2.new.self.items c.push_reserved-2.new.self.items
     c.reserve.ensures.items c.reserve-2.ensures.items c.push_reserved.ensures.items c.push_reserved-2.ensures.items c.self.invariant
 
-pub returns-clause-ok : goal.returns-clause-ok
-returns-clause-ok g c =
-    let t = c.self.inside in
-    one_more c.args.row t.ranks.items c.reserve.new.self.items c.push_reserved.new.self.items t.numbers.items c.reserve-2.new.self.items c.push_reserved-2.new.self.items
-    c.reserve.ensures.items c.reserve-2.ensures.items c.push_reserved.ensures.items c.push_reserved-2.ensures.items c.self.invariant
-    ∙ ap (λ l. l ++ c.args.row ∷ []) c.self.view_is
+pub returns : goal.returns
+returns g c = record {
+  ok = let t = c.self.inside in
+        one_more c.args.row t.ranks.items c.reserve.new.self.items c.push_reserved.new.self.items t.numbers.items c.reserve-2.new.self.items c.push_reserved-2.new.self.items
+        c.reserve.ensures.items c.reserve-2.ensures.items c.push_reserved.ensures.items c.push_reserved-2.ensures.items c.self.invariant
+        ∙ ap (λ l. l ++ c.args.row ∷ []) c.self.view_is;
+  err = tt;
+}
 
 pub invariant_of-self : goal.invariant_of-self
 invariant_of-self g c = c.self.invariant ∙ sym (ap length c.reserve.ensures.items)
 
-pub returns-in_err-reserve-clause-err : goal.returns-in_err-reserve-clause-err
-returns-in_err-reserve-clause-err g c =
-    on_err c.from_residual.result (ap (λ l. ranked_rows l c.self.inside.numbers.items) c.reserve.ensures.items ∙ c.self.view_is)
+pub returns-in_err-reserve : goal.returns-in_err-reserve
+returns-in_err-reserve g c = record {
+  ok = failed c.from_residual.result _ c.from_residual.ensures.0;
+  err = on_err c.from_residual.result (ap (λ l. ranked_rows l c.self.inside.numbers.items) c.reserve.ensures.items ∙ c.self.view_is);
+}
 
 pub invariant_of-self-in_err-reserve-2 : goal.invariant_of-self-in_err-reserve-2
 invariant_of-self-in_err-reserve-2 g c = ap length c.reserve-2.ensures.items ∙ c.self.invariant ∙ sym (ap length c.reserve.ensures.items)
 
-pub returns-in_err-reserve-2-clause-err : goal.returns-in_err-reserve-2-clause-err
-returns-in_err-reserve-2-clause-err g c =
-    on_err c.from_residual-in_err-reserve-2.result
-    (ap (λ l. ranked_rows l c.reserve-2.new.self.items) c.reserve.ensures.items ∙ ap (ranked_rows c.self.inside.ranks.items) c.reserve-2.ensures.items ∙ c.self.view_is)
+pub returns-in_err-reserve-2 : goal.returns-in_err-reserve-2
+returns-in_err-reserve-2 g c = record {
+  ok = failed c.from_residual-in_err-reserve-2.result _ c.from_residual-in_err-reserve-2.ensures.0;
+  err = on_err c.from_residual-in_err-reserve-2.result
+        (ap (λ l. ranked_rows l c.reserve-2.new.self.items) c.reserve.ensures.items ∙ ap (ranked_rows c.self.inside.ranks.items) c.reserve-2.ensures.items ∙ c.self.view_is);
+}

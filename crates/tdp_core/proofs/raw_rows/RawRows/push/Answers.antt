@@ -3,7 +3,7 @@ use Rattle.std.specs.List.{All}
 use Rattle.tdp_core.specs.declared.parts.NodeRow.{NodeRow}
 use Rattle.tdp_core.specs.RawRows.{RawRowView, AreRawRows, raw_rows}
 use Rattle.tdp_core.proofs.RawRowLists.{formed_rows, rows_more}
-use Rattle.tdp_core.proofs.Refusals.{on_err, still_formed, still_rows}
+use Rattle.tdp_core.proofs.Refusals.{failed, on_err, still_formed, still_rows}
 use Rattle.tdp_core.proofs.raw_rows.RawRows.push.Goals as goal
 
 module _ {R : Type 0} (row : NodeRow R) (own : ℕ) (more : List ℕ) (w : ℕ) (rows rows_kept rows_now : List (NodeRow R)) (owns owns_kept owns_now named named_kept named_now : List ℕ) (old : List (RawRowView R))
@@ -37,23 +37,27 @@ invariant_of-self-2 g c =
     t.named.items c.reserve-3.new.self.items c.push_each.new.list.items c.args.self.now c.self.view_is c.self.invariant c.requires
     c.reserve.ensures.items c.reserve-2.ensures.items c.reserve-3.ensures.items c.push_reserved.ensures.items c.push_reserved-2.ensures.items c.push_each.ensures
 
-pub returns-clause-ok : goal.returns-clause-ok
-returns-clause-ok g c =
-    let t = c.self.inside in
-    one_more c.args.row c.args.own c.args.children.now t.width t.rows.items c.reserve.new.self.items c.push_reserved.new.self.items t.owns.items c.reserve-2.new.self.items c.push_reserved-2.new.self.items
-    t.named.items c.reserve-3.new.self.items c.push_each.new.list.items c.args.self.now c.self.view_is c.self.invariant c.requires
-    c.reserve.ensures.items c.reserve-2.ensures.items c.reserve-3.ensures.items c.push_reserved.ensures.items c.push_reserved-2.ensures.items c.push_each.ensures
+pub returns : goal.returns
+returns g c = record {
+  ok = let t = c.self.inside in
+        one_more c.args.row c.args.own c.args.children.now t.width t.rows.items c.reserve.new.self.items c.push_reserved.new.self.items t.owns.items c.reserve-2.new.self.items c.push_reserved-2.new.self.items
+        t.named.items c.reserve-3.new.self.items c.push_each.new.list.items c.args.self.now c.self.view_is c.self.invariant c.requires
+        c.reserve.ensures.items c.reserve-2.ensures.items c.reserve-3.ensures.items c.push_reserved.ensures.items c.push_reserved-2.ensures.items c.push_each.ensures;
+  err = tt;
+}
 
 pub invariant_of-self : goal.invariant_of-self
 invariant_of-self g c =
     let t = c.self.inside in
     still_formed t.width t.rows.items c.reserve.new.self.items t.owns.items t.owns.items t.named.items t.named.items c.reserve.ensures.items refl refl c.self.invariant
 
-pub returns-in_err-reserve-clause-err : goal.returns-in_err-reserve-clause-err
-returns-in_err-reserve-clause-err g c =
-    let t = c.self.inside in
-    on_err c.from_residual.result
-    (still_rows t.width t.rows.items c.reserve.new.self.items t.owns.items t.owns.items t.named.items t.named.items c.reserve.ensures.items refl refl ∙ c.self.view_is)
+pub returns-in_err-reserve : goal.returns-in_err-reserve
+returns-in_err-reserve g c = record {
+  ok = failed c.from_residual.result _ c.from_residual.ensures.0;
+  err = let t = c.self.inside in
+        on_err c.from_residual.result
+        (still_rows t.width t.rows.items c.reserve.new.self.items t.owns.items t.owns.items t.named.items t.named.items c.reserve.ensures.items refl refl ∙ c.self.view_is);
+}
 
 pub invariant_of-self-in_err-reserve-2 : goal.invariant_of-self-in_err-reserve-2
 invariant_of-self-in_err-reserve-2 g c =
@@ -61,13 +65,15 @@ invariant_of-self-in_err-reserve-2 g c =
     still_formed t.width t.rows.items c.reserve.new.self.items t.owns.items c.reserve-2.new.self.items t.named.items t.named.items
     c.reserve.ensures.items c.reserve-2.ensures.items refl c.self.invariant
 
-pub returns-in_err-reserve-2-clause-err : goal.returns-in_err-reserve-2-clause-err
-returns-in_err-reserve-2-clause-err g c =
-    let t = c.self.inside in
-    on_err c.from_residual-in_err-reserve-2.result
-    (still_rows t.width t.rows.items c.reserve.new.self.items t.owns.items c.reserve-2.new.self.items t.named.items t.named.items
-    c.reserve.ensures.items c.reserve-2.ensures.items refl
-    ∙ c.self.view_is)
+pub returns-in_err-reserve-2 : goal.returns-in_err-reserve-2
+returns-in_err-reserve-2 g c = record {
+  ok = failed c.from_residual-in_err-reserve-2.result _ c.from_residual-in_err-reserve-2.ensures.0;
+  err = let t = c.self.inside in
+        on_err c.from_residual-in_err-reserve-2.result
+        (still_rows t.width t.rows.items c.reserve.new.self.items t.owns.items c.reserve-2.new.self.items t.named.items t.named.items
+        c.reserve.ensures.items c.reserve-2.ensures.items refl
+        ∙ c.self.view_is);
+}
 
 pub invariant_of-self-in_err-reserve-3 : goal.invariant_of-self-in_err-reserve-3
 invariant_of-self-in_err-reserve-3 g c =
@@ -75,10 +81,12 @@ invariant_of-self-in_err-reserve-3 g c =
     still_formed t.width t.rows.items c.reserve.new.self.items t.owns.items c.reserve-2.new.self.items t.named.items c.reserve-3.new.self.items
     c.reserve.ensures.items c.reserve-2.ensures.items c.reserve-3.ensures.items c.self.invariant
 
-pub returns-in_err-reserve-3-clause-err : goal.returns-in_err-reserve-3-clause-err
-returns-in_err-reserve-3-clause-err g c =
-    let t = c.self.inside in
-    on_err c.from_residual-in_err-reserve-3.result
-    (still_rows t.width t.rows.items c.reserve.new.self.items t.owns.items c.reserve-2.new.self.items t.named.items c.reserve-3.new.self.items
-    c.reserve.ensures.items c.reserve-2.ensures.items c.reserve-3.ensures.items
-    ∙ c.self.view_is)
+pub returns-in_err-reserve-3 : goal.returns-in_err-reserve-3
+returns-in_err-reserve-3 g c = record {
+  ok = failed c.from_residual-in_err-reserve-3.result _ c.from_residual-in_err-reserve-3.ensures.0;
+  err = let t = c.self.inside in
+        on_err c.from_residual-in_err-reserve-3.result
+        (still_rows t.width t.rows.items c.reserve.new.self.items t.owns.items c.reserve-2.new.self.items t.named.items c.reserve-3.new.self.items
+        c.reserve.ensures.items c.reserve-2.ensures.items c.reserve-3.ensures.items
+        ∙ c.self.view_is);
+}
