@@ -23,23 +23,28 @@ returns-in_err-named g c =
       cost = omega (arith, all, steps, c.child_groups.ensures.cost, c.loop-i.invariant.counted);
     }
 
-pub keep_row-requires : goal.keep_row-requires
-keep_row-requires g c = record {
-  few = let now = c.loop-i.kept in
-        let few = few_links c.args.raw.now c.args.node (map links_of c.args.later.now) c.loop-i.i now.rows now.to_child.rows (links_of now.links) now.numbers.items c.loop-i.invariant.so_far in
-        let most = length_within c.args.raw.now.rows c.args.node in
-        omega (arith, few, most, c.requires.later.few_rows, c.len-i-end.ensures);
-  width = let raw = c.args.raw.now in
-        let node = c.args.node in
-        let later = map links_of c.args.later.now in
-        let i = c.loop-i.i in
-        let named = subst (λ o. IfSome o (λ n. n.items ≡ groups_named raw node later i)) c.in-Some.is c.in_ok-named.ensures.named in
-        ap length c.deref.ensures ∙ ap length named ∙ named_count raw node later (length (child_nodes raw node)) i ∙ sym c.loop-i.invariant.width;
-  few_rows = let so_far = c.loop-i.invariant.so_far in
-        let most = length_within c.args.raw.now.rows c.args.node in
-        let long = ap length so_far.to_child ∙ length-map (groups_named c.args.raw.now c.args.node (map links_of c.args.later.now)) (kept_first c.args.raw.now c.args.node (map links_of c.args.later.now) c.loop-i.i) in
-        omega (arith, long, so_far.few, most, c.requires.later.few_rows, c.len-i-end.ensures);
-}
+pub keep_row-requires-clause-few : goal.keep_row-requires-clause-few
+keep_row-requires-clause-few g c =
+    let now = c.loop-i.kept in
+    let few = few_links c.args.raw.now c.args.node (map links_of c.args.later.now) c.loop-i.i now.rows now.to_child.rows (links_of now.links) now.numbers.items c.loop-i.invariant.so_far in
+    let most = length_within c.args.raw.now.rows c.args.node in
+    omega (arith, few, most, c.requires.later.few_rows, c.len-i-end.ensures)
+
+pub keep_row-requires-clause-width : goal.keep_row-requires-clause-width
+keep_row-requires-clause-width g c =
+    let raw = c.args.raw.now in
+    let node = c.args.node in
+    let later = map links_of c.args.later.now in
+    let i = c.loop-i.i in
+    let named = subst (λ o. IfSome o (λ n. n.items ≡ groups_named raw node later i)) c.in-Some.is c.in_ok-named.ensures.named in
+    ap length c.deref.ensures ∙ ap length named ∙ named_count raw node later (length (child_nodes raw node)) i ∙ sym c.loop-i.invariant.width
+
+pub keep_row-requires-clause-few_rows : goal.keep_row-requires-clause-few_rows
+keep_row-requires-clause-few_rows g c =
+    let so_far = c.loop-i.invariant.so_far in
+    let most = length_within c.args.raw.now.rows c.args.node in
+    let long = ap length so_far.to_child ∙ length-map (groups_named c.args.raw.now c.args.node (map links_of c.args.later.now)) (kept_first c.args.raw.now c.args.node (map links_of c.args.later.now) c.loop-i.i) in
+    omega (arith, long, so_far.few, most, c.requires.later.few_rows, c.len-i-end.ensures)
 
 pub returns-in_err-keep_row : goal.returns-in_err-keep_row
 returns-in_err-keep_row g c =

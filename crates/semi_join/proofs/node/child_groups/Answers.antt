@@ -1,5 +1,6 @@
 use Rattle.std.proofs.Common.{◌<◌, ◌∙◌, sym, ap, subst, arith, length, get_or, map, ◌-◌, suc, refl, nat_eq, position}
 use Rattle.std.specs.List.{list_any}
+use Rattle.std.proofs.lemmas.Result.{IfOk-from_err}
 use Rattle.tdp_core.specs.RawView.{shape_parent}
 use Rattle.semi_join.specs.Reduction.{links_of}
 use Rattle.semi_join.proofs.Kids.{kids_few, child_after, child_index, children_count}
@@ -37,13 +38,17 @@ overflow_cast-number g c =
     let here = found_any (nat_eq c.link-link.result) (links_of c.index-later-child.result) c.in-Some.number c.in-Some.ensures.number in
     omega (arith, few, is, here.0)
 
-pub returns-in-None-clause-missing : goal.returns-in-None-clause-missing
-returns-in-None-clause-missing g c =
-    let inside = child_index c.args.raw.now c.args.node c.args.children.now c.requires.children c.loop-place.place c.loop-place-test.true (length c.args.later.now) c.requires.later.count in
-    let names = child_links_at c.args.raw.now c.args.node (map links_of c.args.later.now) c.args.later.now c.args.children.now c.loop-place.place c.index-later-child.result refl c.requires.children inside c.index-later-child.is in
-    let less = subst (λ ks. c.loop-place.place < length ks) c.requires.children c.loop-place-test.true in
-    missed c.args.raw.now c.args.node (map links_of c.args.later.now) c.loop-place.place _ c.args.i (links_of c.index-later-child.result) less names
-    (ap (λ l. list_any (nat_eq l) (links_of c.index-later-child.result)) (sym c.link-link.ensures) ∙ missing_any (nat_eq c.link-link.result) (links_of c.index-later-child.result) c.in-None.ensures.number)
+pub returns-in-None : goal.returns-in-None
+returns-in-None g c = record {
+  found = tt;
+  named = tt;
+  missing = let inside = child_index c.args.raw.now c.args.node c.args.children.now c.requires.children c.loop-place.place c.loop-place-test.true (length c.args.later.now) c.requires.later.count in
+        let names = child_links_at c.args.raw.now c.args.node (map links_of c.args.later.now) c.args.later.now c.args.children.now c.loop-place.place c.index-later-child.result refl c.requires.children inside c.index-later-child.is in
+        let less = subst (λ ks. c.loop-place.place < length ks) c.requires.children c.loop-place-test.true in
+        missed c.args.raw.now c.args.node (map links_of c.args.later.now) c.loop-place.place _ c.args.i (links_of c.index-later-child.result) less names
+        (ap (λ l. list_any (nat_eq l) (links_of c.index-later-child.result)) (sym c.link-link.ensures) ∙ missing_any (nat_eq c.link-link.result) (links_of c.index-later-child.result) c.in-None.ensures.number);
+  cost = omega arith;
+}
 
 pub loop-place-preserved : goal.loop-place-preserved
 loop-place-preserved g c =
@@ -58,3 +63,9 @@ loop-place-preserved g c =
           (c.in-Some.ensures.number ∙ ap (λ l. position (nat_eq l) (links_of c.index-later-child.result)) c.link-link.ensures);
       counted = omega arith;
     }
+
+pub returns-in_err-push-in-Some : goal.returns-in_err-push-in-Some
+returns-in_err-push-in-Some g c =
+    let r = c.from_residual.result in
+    let e = c.from_residual.ensures.0 in
+    record { found = IfOk-from_err r _ e; named = IfOk-from_err r _ e; missing = IfOk-from_err r _ e; cost = omega arith }

@@ -24,13 +24,11 @@ returns g c =
     let e = c.and.ensures in
     record { kept = handed c.and.result r kept _ e made.kept; cost = made.cost }
 
-pub add_rows-added-requires : goal.add_rows-added-requires
-add_rows-added-requires g c =
+pub add_rows-added-requires-clause-children : goal.add_rows-added-requires-clause-children
+add_rows-added-requires-clause-children g c = c.deref.ensures.value ∙ c.in_ok-children.ensures
+
+pub add_rows-added-requires-clause-none : goal.add_rows-added-requires-clause-none
+add_rows-added-requires-clause-none g c =
     let kept = c.in_ok-kept.kept in
     let width : c.len.result ≡ length c.deref.result.now = c.len.ensures ∙ c.in_ok-children.children.ok.0 ∙ ap length (sym c.deref.ensures.value) in
-    record {
-      node = c.requires.node;
-      later = c.requires.later;
-      children = c.deref.ensures.value ∙ c.in_ok-children.ensures;
-      none = subst (λ n. AreNone n kept.rows kept.to_child (links_of kept.links) kept.numbers.items) width c.in_ok-kept.ensures;
-    }
+    subst (λ n. AreNone n kept.rows kept.to_child (links_of kept.links) kept.numbers.items) width c.in_ok-kept.ensures

@@ -111,16 +111,18 @@ loop-node-init g c =
       counted = omega arith;
     }
 
-pub reduce_node-requires : goal.reduce_node-requires
-reduce_node-requires g c =
+pub reduce_node-requires-clause-node : goal.reduce_node-requires-clause-node
+reduce_node-requires-clause-node g c =
+    let nodes = ap length c.loop-node.invariant.shapes in
+    omega (arith, c.loop-node.invariant.count, nodes)
+
+pub reduce_node-requires-clause-later : goal.reduce_node-requires-clause-later
+reduce_node-requires-clause-later g c =
     let formed = c.loop-node.invariant.formed in
     let nodes = ap length c.loop-node.invariant.shapes in
     record {
-      node = omega (arith, c.loop-node.invariant.count, nodes);
-      later = record {
-        shaped = formed.shaped;
-        few_rows = formed.few_rows;
-        count = omega (arith, c.loop-node.invariant.count, nodes, ap length c.deref.ensures.value);
-        few = subst (λ ls. AreFew (map links_of ls)) (sym c.deref.ensures.value) c.loop-node.invariant.few;
-      };
+    shaped = formed.shaped;
+    few_rows = formed.few_rows;
+    count = omega (arith, c.loop-node.invariant.count, nodes, ap length c.deref.ensures.value);
+    few = subst (λ ls. AreFew (map links_of ls)) (sym c.deref.ensures.value) c.loop-node.invariant.few;
     }
