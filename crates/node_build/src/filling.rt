@@ -41,11 +41,9 @@ pub(crate) fn filled_tree<R: Rank, L: Ledger>(
         (λ tree. IsFilledTree query.now tables.now join.now R.KEYS R.key (lists_of rows.now) tree) }
     ensures cost { steps.new ≤ steps.old + sum_by length (lists_of rows.now) * join.now.count }
 {
+    let shapes = shapes_of(alloc, query, join)?;
     let keys = tables.keys();
-    let mut tree = {
-        let shapes = shapes_of(alloc, query, join)?;
-        RawTree::with_keys(alloc, shapes.as_slice(), keys)?
-    };
+    let mut tree = RawTree::with_keys(alloc, shapes.as_slice(), keys)?;
     let columns = columns_of(alloc, query, join)?;
     let mut links = PairIndex::new(alloc, join.count, keys)?;
     let added = add_nodes(

@@ -73,18 +73,18 @@ loop-row-preserved g c =
     }
 
 pub returns : goal.returns
-returns g c = record {
-  more = c.loop-row.invariant.more;
-  others = let all : c.loop-row.row-index ≡ length c.args.rows.now = omega arith in
-        subst (λ n. HasOnlyMore c.args.node n c.args.tree.now c.loop-row.tree) all
-        (subst (λ (t : RawView g.row.R.Denot). HasOnlyMore c.args.node c.loop-row.row-index t c.loop-row.tree) c.reserve.ensures c.loop-row.invariant.others);
-  rows = let all : c.loop-row.row-index ≡ length c.args.rows.now = omega arith in
-        subst (λ (n : ℕ). HasRowsOf c.args.query.now c.args.tables.now c.args.join.now (lists_of c.args.columns.now.own.items) (lists_of c.args.columns.now.above.items) g.R.Rank.KEYS g.R.Rank.key
-        c.loop-row.links c.args.node n c.args.rows.now (rows_at c.loop-row.tree c.args.node)) all c.loop-row.invariant.rows;
-  cost = let all : c.loop-row.row-index ≡ length c.args.rows.now = omega arith in
-        let same = ap (λ (n : ℕ). n * c.args.join.now.count) all in
-        omega (arith, same, c.loop-row.invariant.cost);
-}
+returns g c =
+    let before = c.loop-row.invariant in
+    let node = c.args.node in
+    let all : c.loop-row.row-index ≡ length c.args.rows.now = omega arith in
+    record {
+      more = before.more;
+      others = subst (λ n. HasOnlyMore node n c.args.tree.now c.loop-row.tree) all
+          (subst (λ (t : RawView g.row.R.Denot). HasOnlyMore node c.loop-row.row-index t c.loop-row.tree) c.reserve.ensures before.others);
+      rows = subst (λ (n : ℕ). HasRowsOf c.args.query.now c.args.tables.now c.args.join.now (lists_of c.args.columns.now.own.items) (lists_of c.args.columns.now.above.items) g.R.Rank.KEYS g.R.Rank.key
+          c.loop-row.links node n c.args.rows.now (rows_at c.loop-row.tree node)) all before.rows;
+      cost = subst (λ (n : ℕ). c.loop-row.steps ≤ c.args.steps.now + n * c.args.join.now.count) all before.cost;
+    }
 
 pub returns-in_err-reserve : goal.returns-in_err-reserve
 returns-in_err-reserve g c =

@@ -1,4 +1,4 @@
-use Rattle.std.proofs.Common.{◌≡◌, ◌≢◌, ◌<◌, ◌+◌, ◌∙◌, ◌∷◌, ℕ, List, [], length, get_or, sym, ap, subst, arith, length-append}
+use Rattle.std.proofs.Common.{◌≡◌, ◌≢◌, ◌<◌, ◌≤◌, ◌+◌, ◌∙◌, ◌∷◌, ℕ, List, [], length, get_or, sym, ap, subst, arith, length-append}
 use Rattle.tdp_core.specs.TreeView.{kids_below}
 use Rattle.tdp_core.proofs.Children.{kids_below_child, kids_below_other}
 use Rattle.anyk_model.specs.Table.{table_at}
@@ -6,7 +6,7 @@ use Rattle.bound_query.specs.Weights.{table_in}
 use Rattle.node_build.specs.Nodes.{item_of, parent_of}
 use Rattle.node_build.specs.Rows.{lists_of}
 use Rattle.node_build.proofs.Items.{table_there}
-use Rattle.node_build.proofs.Naming.{above_there, kids_first, kids_rise, list_at, lists_length, names_more, names_none, names_skip}
+use Rattle.node_build.proofs.Naming.{above_there, kids_first, links_cost, list_at, lists_length, names_more, names_none, names_skip}
 use Rattle.node_build.proofs.Numbering.{more_same, more_trans}
 use Rattle.node_build.proofs.Results.{failed}
 use Rattle.node_build.proofs.Shaped.{item_known}
@@ -73,10 +73,8 @@ returns-in_err-number g c =
       more = failed r _ e;
       count = failed r _ e;
       names = failed r _ e;
-      cost = let below : parent_of c.args.join.now c.loop-child.child ≡ c.args.node = c.if-join-child.false in
-            let one = kids_below_child (parent_of c.args.join.now) c.args.node c.loop-child.child (omega arith) below in
-            let rise = kids_rise (parent_of c.args.join.now) c.args.node (c.loop-child.child + 1) c.args.join.now.count (omega arith) in
-            omega (arith, rise, one, c.loop-child.invariant.cost, c.in_err-number.ensures.cost);
+      cost = links_cost (parent_of c.args.join.now) c.args.node c.loop-child.child c.args.join.now.count c.args.steps.now c.loop-child.steps c.link.new.steps
+          (omega arith) c.loop-child-test.true c.if-join-child.false c.loop-child.invariant.cost c.in_err-number.ensures.cost;
     }
 
 pub returns-in_err-push : goal.returns-in_err-push
@@ -87,10 +85,8 @@ returns-in_err-push g c =
       more = failed r _ e;
       count = failed r _ e;
       names = failed r _ e;
-      cost = let below : parent_of c.args.join.now c.loop-child.child ≡ c.args.node = c.if-join-child.false in
-            let one = kids_below_child (parent_of c.args.join.now) c.args.node c.loop-child.child (omega arith) below in
-            let rise = kids_rise (parent_of c.args.join.now) c.args.node (c.loop-child.child + 1) c.args.join.now.count (omega arith) in
-            omega (arith, rise, one, c.loop-child.invariant.cost, c.in_ok-number.ensures.cost);
+      cost = links_cost (parent_of c.args.join.now) c.args.node c.loop-child.child c.args.join.now.count c.args.steps.now c.loop-child.steps c.link.new.steps
+          (omega arith) c.loop-child-test.true c.if-join-child.false c.loop-child.invariant.cost c.in_ok-number.ensures.cost;
     }
 
 pub loop-child-preserved : goal.loop-child-preserved
@@ -121,14 +117,15 @@ loop-child-preserved g c =
     }
 
 pub returns : goal.returns
-returns g c = record {
-  more = c.loop-child.invariant.more;
-  count = let all : c.loop-child.child ≡ c.args.join.now.count = omega arith in
-        c.loop-child.invariant.count ∙ ap (kids_below (parent_of c.args.join.now) c.args.node) all;
-  names = let all : c.loop-child.child ≡ c.args.join.now.count = omega arith in
-        subst (λ (n : ℕ). NamesLinks c.args.query.now c.args.tables.now c.args.join.now (lists_of c.args.columns.now.own.items) (lists_of c.args.columns.now.above.items)
-        c.loop-child.links c.args.node c.args.row n c.loop-child.named.items) all c.loop-child.invariant.names;
-  cost = let all : c.loop-child.child ≡ c.args.join.now.count = omega arith in
-        let same = ap (kids_below (parent_of c.args.join.now) c.args.node) all in
-        omega (arith, same, c.loop-child.invariant.cost);
-}
+returns g c =
+    let join = c.args.join.now in
+    let node = c.args.node in
+    let before = c.loop-child.invariant in
+    let all : c.loop-child.child ≡ join.count = omega arith in
+    record {
+      more = before.more;
+      count = before.count ∙ ap (kids_below (parent_of join) node) all;
+      names = subst (λ (n : ℕ). NamesLinks c.args.query.now c.args.tables.now join (lists_of c.args.columns.now.own.items) (lists_of c.args.columns.now.above.items)
+          c.loop-child.links node c.args.row n c.loop-child.named.items) all before.names;
+      cost = subst (λ (n : ℕ). c.loop-child.steps ≤ c.args.steps.now + kids_below (parent_of join) node n) all before.cost;
+    }

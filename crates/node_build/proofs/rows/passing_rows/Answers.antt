@@ -1,6 +1,7 @@
 use Rattle.std.proofs.Common.{◌≡◌, ◌+◌, ◌∙◌, ap, sym, subst, length, true, arith, ℕ, List}
 use Rattle.anyk_model.specs.Table.{table_at}
 use Rattle.anyk_model.specs.Query.{item_table}
+use Rattle.std.proofs.lemmas.Bool.{false≢true}
 use Rattle.std.proofs.lemmas.Result.{IfOk-from_err}
 use Rattle.node_build.proofs.Passing.{ArePassingBelow, none_more, one_more, rows_all}
 use Rattle.node_build.proofs.rows.passing_rows.Goals as goal
@@ -9,12 +10,12 @@ pub loop-row-preserved-then-not-passes : goal.loop-row-preserved-then-not-passes
 loop-row-preserved-then-not-passes c = record {
   few = omega arith;
   rows = none_more c.args.query.now.query c.args.tables.now c.args.item c.loop-row.row c.loop-row.rows.items c.loop-row.invariant.rows
-      (λ p. let e : c.passes.result ≡ true = c.passes.ensures.1 p in let f = c.if-not-passes.true in cc);
+      (λ p. false≢true (sym c.if-not-passes.true ∙ c.passes.ensures.1 p));
 }
 
 pub loop-row-preserved : goal.loop-row-preserved
 loop-row-preserved c =
-    let passes : c.passes.result ≡ true = let f = c.if-not-passes.false in cc in
+    let passes : c.passes.result ≡ true = c.if-not-passes.false in
     record {
       few = omega arith;
       rows = subst (λ (l : List ℕ). ArePassingBelow c.args.query.now.query c.args.tables.now c.args.item (c.loop-row.row + 1) l) (sym c.in_ok-push.ensures.items)

@@ -41,14 +41,16 @@ returns-in_err-make_room-clause-counted g c = c.saturating_add-self-inside.ensur
 pub returns-in_err-make_room-clause-size : goal.returns-in_err-make_room-clause-size
 returns-in_err-make_room-clause-size g c = ap (λ (s : PartView g.row.R.Denot). size_of s.tree) c.self.view_is
 
-pub prefix-chosen-requires : goal.prefix-chosen-requires
-prefix-chosen-requires g c = record {
-  count = let entry = top_entry g.R.Rank.KEYS g.R.Rank.key c.self.inside.tree.now c.self.inside.frontier.links.entries c.make_room.new.self.links.entries c.self.inside.frontier.queue.entries c.make_room.new.self.queue.entries c.self.inside.calls _ _
-        c.make_room.ensures.links c.make_room.ensures.entries c.self.invariant.0 (c.in-Some.ensures.variant.0 refl) c.in-Some.ensures.top in
-        omega (arith, entry.position, c.self.invariant.0.formed.shaped.few_nodes);
-  chained = (top_entry g.R.Rank.KEYS g.R.Rank.key c.self.inside.tree.now c.self.inside.frontier.links.entries c.make_room.new.self.links.entries c.self.inside.frontier.queue.entries c.make_room.new.self.queue.entries c.self.inside.calls _ _
-        c.make_room.ensures.links c.make_room.ensures.entries c.self.invariant.0 (c.in-Some.ensures.variant.0 refl) c.in-Some.ensures.top).chained;
-}
+pub prefix-chosen-requires-clause-count : goal.prefix-chosen-requires-clause-count
+prefix-chosen-requires-clause-count g c =
+    let entry = top_entry g.R.Rank.KEYS g.R.Rank.key c.self.inside.tree.now c.self.inside.frontier.links.entries c.make_room.new.self.links.entries c.self.inside.frontier.queue.entries c.make_room.new.self.queue.entries c.self.inside.calls _ _
+    c.make_room.ensures.links c.make_room.ensures.entries c.self.invariant.0 (c.in-Some.ensures.variant.0 refl) c.in-Some.ensures.top in
+    omega (arith, entry.position, c.self.invariant.0.formed.shaped.few_nodes)
+
+pub prefix-chosen-requires-clause-chained : goal.prefix-chosen-requires-clause-chained
+prefix-chosen-requires-clause-chained g c =
+    (top_entry g.R.Rank.KEYS g.R.Rank.key c.self.inside.tree.now c.self.inside.frontier.links.entries c.make_room.new.self.links.entries c.self.inside.frontier.queue.entries c.make_room.new.self.queue.entries c.self.inside.calls _ _
+    c.make_room.ensures.links c.make_room.ensures.entries c.self.invariant.0 (c.in-Some.ensures.variant.0 refl) c.in-Some.ensures.top).chained
 
 pub divide-requires-clause-at : goal.divide-requires-clause-at
 divide-requires-clause-at g c =
