@@ -1,6 +1,6 @@
 //! Well-formed trees, which the engines read.
 ghost use Rattle.std.specs.Prelude.{◌≡◌, ℕ, ◌+◌, ◌<◌, Some, length, nat_lt, slice_get, slice_index};
-ghost use Rattle.tdp_core.specs.TreeView.{tree_view, node_at, rows, number, child_count, child_place, parent, group_count, members, group_named, rank, best};
+ghost use Rattle.tdp_core.specs.TreeView.{tree_view, node_view, node_at, rows, number, child_count, child_place, parent, group_count, members, group_named, rank, best};
 ghost use Rattle.tdp_core.specs.WellFormed.{IsFormed};
 ghost use Rattle.tdp_core.specs.Solutions.{IsLeastKey};
 
@@ -46,12 +46,22 @@ impl<R: Rank> Tree<R> {
         self.nodes.len() as u32
     }
 
+    /// A node as it is kept.
+    #[inline(always)]
+    fn parts(&self, node: u32) -> &NodeParts<R>
+        requires { node < length self.now }
+        ensures read { node_at self.now node ≡ node_view result.now }
+        ensures formed { IsFormed R.KEYS R.key self.now }
+    {
+        &self.nodes[node as usize]
+    }
+
     /// The shape of a node.
     pub fn shape(&self, node: u32) -> &NodeShape
         requires { node < length self.now }
         ensures { result.now ≡ (node_at self.now node).shape }
     {
-        &self.nodes[node as usize].shape
+        &self.parts(node).shape
     }
 
     /// The place of a node among the children of its parent, in ascending order from 0.
@@ -61,10 +71,10 @@ impl<R: Rank> Tree<R> {
         ensures place { result ≡ child_place self.now node }
         ensures within { result < child_count self.now (parent self.now node) }
     {
-        let above = self.nodes[node as usize].shape.parent;
+        let above = self.parts(node).shape.parent;
         let mut place = 0;
         for other in 1..node {
-            if self.nodes[other as usize].shape.parent == above {
+            if self.parts(other).shape.parent == above {
                 place += 1;
             }
         }
@@ -76,7 +86,7 @@ impl<R: Rank> Tree<R> {
         requires { node < length self.now }
         ensures { result ≡ rows self.now node }
     {
-        self.nodes[node as usize].rows.len() as u32
+        self.parts(node).rows.len() as u32
     }
 
     /// The number of groups of a node.
@@ -84,7 +94,7 @@ impl<R: Rank> Tree<R> {
         requires { node < length self.now }
         ensures { result ≡ group_count self.now node }
     {
-        self.nodes[node as usize].groups.len() as u32
+        self.parts(node).groups.len() as u32
     }
 
     /// The number of rows of a group.
@@ -93,7 +103,7 @@ impl<R: Rank> Tree<R> {
         requires group { group < group_count self.now node }
         ensures { result ≡ length (members self.now node group) }
     {
-        self.nodes[node as usize].groups.group(group as usize).len() as u32
+        self.parts(node).groups.group(group as usize).len() as u32
     }
 
     /// Whether the tree has a solution.
@@ -114,7 +124,7 @@ impl<R: Rank> Tree<R> {
         ensures counted { steps.new ≡ steps.old + 1 }
     {
         steps.tick();
-        self.nodes[node as usize].rows.get(row as usize)
+        self.parts(node).rows.get(row as usize)
     }
 
     /// The group that a row names for a child of its node. It takes one step.
@@ -126,9 +136,7 @@ impl<R: Rank> Tree<R> {
         ensures counted { steps.new ≡ steps.old + 1 }
     {
         steps.tick();
-        self.nodes[node as usize]
-            .to_child
-            .get(row as usize, child as usize)
+        self.parts(node).to_child.get(row as usize, child as usize)
     }
 
     /// The row at a place of a group. It takes one step.
@@ -140,7 +148,7 @@ impl<R: Rank> Tree<R> {
         ensures counted { steps.new ≡ steps.old + 1 }
     {
         steps.tick();
-        self.nodes[node as usize].groups.group(group as usize)[place as usize]
+        self.parts(node).groups.group(group as usize)[place as usize]
     }
 
     /// The rank of a row's least subtree solution. It takes one step.
@@ -152,6 +160,6 @@ impl<R: Rank> Tree<R> {
         ensures counted { steps.new ≡ steps.old + 1 }
     {
         steps.tick();
-        self.nodes[node as usize].best[row as usize]
+        self.parts(node).best[row as usize]
     }
 }
