@@ -1,5 +1,7 @@
 -- The division of a region, from its start to its end.
 use Rattle.std.proofs.Common.{◌≡◌, ℕ, zero, suc, ◌+◌, ◌-◌, ◌*◌, ◌<◌, ◌≤◌, Bool, true, false, cond, Option, Some, None, IsSome, IfSome, ◌↔◌, List, [], ◌∷◌, ◌++◌, length, take, get_or, refl, sym, ap, ◌∙◌, subst, arith}
+use Rattle.rank_key.specs.Bits.{bit_length}
+use Rattle.rank_key.proofs.BitLemmas.{bit_length_rises}
 use Rattle.std.specs.List.{All}
 use Rattle.std.specs.List.Sorted.{IsPermutation}
 use Rattle.std.proofs.lemmas.Bool.{false≢true}
@@ -246,8 +248,38 @@ module _ {R : Type 0} (d : ℕ) (key : R → KeyOf d 16) (t : List (NodeView R))
           few = omega (arith, choice_few, length_permutation new (x ∷ rest) p);
         })
 
-pub times_next : (a b k x y z : ℕ) → a ≡ b + 1 → y ≤ x + b * k → z ≤ y + k → z ≤ x + a * k
+times_next : (a b k x y z : ℕ) → a ≡ b + 1 → y ≤ x + b * k → z ≤ y + k → z ≤ x + a * k
 times_next a b k x y z e h i = let p : a * k ≡ b * k + k = ap (λ n. n * k) e ∙ omega arith in omega (arith, p, h, i)
 
-pub times_within : (a b k x y z u : ℕ) → a ≤ b → y ≤ x + a * k → z ≤ y + u → z ≤ x + b * k + u
+times_within : (a b k x y z u : ℕ) → a ≤ b → y ≤ x + a * k → z ≤ y + u → z ≤ x + b * k + u
 times_within a b k x y z u l h i = let p : a * k ≤ b * k = grind arith in omega (arith, p, h, i)
+
+-- # One node more, in plain numbers
+
+pub still_below : (last node next m : ℕ) → node < last → next ≡ node + 1 → last + 1 ≡ m → next < m
+still_below last node next m before step count = omega (arith, before, step, count)
+
+pub at_last : (last node m : ℕ) → last ≤ node → last + 1 ≡ m → m ≤ node + 1
+at_last last node m done count = omega (arith, done, count)
+
+pub room_left : (last node next spare left : ℕ) → node < last → next ≡ node + 1 → 2 * (last + 1 - node) ≤ spare → spare ≤ left + 2 → 2 * (last + 1 - next) ≤ left
+room_left last node next spare left before step room used = omega (arith, before, step, room, used)
+
+pub link_room_left : (last node next spare left : ℕ) → node < last → next ≡ node + 1 → last - node ≤ spare → spare ≤ left + 1 → last - next ≤ left
+link_room_left last node next spare left before step room used = omega (arith, before, step, room, used)
+
+pub node_steps : (start node next entries n m old before after : ℕ) → start ≤ node → next ≡ node + 1 → entries ≤ n + 2 * (node - start) → node < m
+    → before ≤ old + (node - start) * (10 + 4 * bit_length (n + 2 * m)) → after ≤ before + 10 + 4 * bit_length (entries + 2)
+    → after ≤ old + (next - start) * (10 + 4 * bit_length (n + 2 * m))
+node_steps start node next entries n m old before after from step few below cost one =
+    let digits = bit_length_rises (entries + 2) (n + 2 * m) (omega (arith, few, below)) in
+    times_next (next - start) (node - start) (10 + 4 * bit_length (n + 2 * m)) old before after (omega (arith, step, from)) cost (omega (arith, one, digits))
+
+-- the steps of all nodes, and of the pop that may come after them
+pub all_steps : (start node entries n m old before after : ℕ) → start ≤ node → entries ≤ n + 2 * (node - start) → node < m
+    → before ≤ old + (node - start) * (10 + 4 * bit_length (n + 2 * m)) → after ≤ before + 9 + 4 * bit_length (entries + 2)
+    → (made last : ℕ) → made ≤ n + 2 * m → last ≤ after + 2 * bit_length made → last ≤ old + m * (10 + 4 * bit_length (n + 2 * m)) + 2 * bit_length (n + 2 * m)
+all_steps start node entries n m old before after from few below cost one made last low pop =
+    let end = node_steps start node (node + 1) entries n m old before after from refl few below cost (omega (arith, one)) in
+    let popped = bit_length_rises made (n + 2 * m) low in
+    times_within (node + 1 - start) m (10 + 4 * bit_length (n + 2 * m)) old after last (2 * bit_length (n + 2 * m)) (omega (arith, below)) end (omega (arith, pop, popped))

@@ -1,12 +1,10 @@
-use Rattle.std.proofs.Common.{◌+◌, ◌-◌, ◌*◌, ◌<◌, List, length, sym, ap, subst, arith}
-use Rattle.rank_key.specs.Bits.{bit_length}
-use Rattle.rank_key.proofs.BitLemmas.{bit_length_rises}
+use Rattle.std.proofs.Common.{◌-◌, ◌<◌, List, length, sym, ap, subst, arith}
 use Rattle.stream_store.specs.Entries.{Entries}
 use Rattle.take2_heap.specs.declared.entry.Entry.{Entry}
 use Rattle.anyk_part.specs.declared.candidate.Candidate.{Candidate}
 use Rattle.anyk_part.specs.declared.candidate.Link.{Link}
 use Rattle.anyk_part.specs.Walks.{IsDivided}
-use Rattle.anyk_part.proofs.Divisions.{division_init, division_next, choice_few, choice_stays, choice_taken, times_next, times_within}
+use Rattle.anyk_part.proofs.Divisions.{all_steps, at_last, choice_few, choice_stays, choice_taken, division_init, division_next, link_room_left, node_steps, room_left, still_below}
 use Rattle.anyk_part.proofs.frontier.Frontier.divide.Given.{Over}
 use Rattle.anyk_part.proofs.frontier.Frontier.divide.Goals.{After-pop, Else-choice}
 use Rattle.anyk_part.proofs.frontier.Frontier.divide.Goals as goal
@@ -31,19 +29,18 @@ loop-walk-preserved g c =
     let more = c.advance-walk.ensures in
     let e = more.advanced in
     let below = l.below in
-    let n = length c.args.self.now.queue.entries in
-    let m = length c.args.tree.now in
-    let digits = bit_length_rises (length c.loop-walk.self.queue.entries + 2) (n + 2 * m) (omega (arith, l.division.few, below)) in
+    let node = c.loop-walk.walk.node in
+    let next = c.advance-walk.result.node in
     record {
       at = e.at;
       division = division_next g.R.Rank.KEYS g.R.Rank.key c.args.tree.now c.args.total.now c.args.start c.args.self.now.links.entries c.args.self.now.queue.entries c.loop-walk.walk c.advance-walk.result
           c.loop-walk.self.links.entries c.advance-walk.new.self.links.entries c.loop-walk.chosen c.loop-walk.self.queue.entries c.advance-walk.new.self.queue.entries l.at below l.division e.node e.place e.chain_is e.each e.held e.stands e.top e.few;
-      below = omega (arith, e.node, c.loop-walk-test.true, l.count);
+      below = still_below _ _ _ _ c.loop-walk-test.true e.node l.count;
       count = l.count;
-      room = omega (arith, l.room, more.room, e.node, c.loop-walk-test.true);
-      link_room = omega (arith, l.link_room, more.link_room, e.node, c.loop-walk-test.true);
-      cost = times_next (c.advance-walk.result.node - c.args.start.node) (c.loop-walk.walk.node - c.args.start.node) (10 + 4 * bit_length (n + 2 * m)) c.args.steps.now c.loop-walk.steps c.advance-walk.new.steps
-          (omega (arith, e.node, l.division.from)) l.cost (omega (arith, more.cost, digits));
+      room = room_left _ _ _ _ _ c.loop-walk-test.true e.node l.room more.room;
+      link_room = link_room_left _ _ _ _ _ c.loop-walk-test.true e.node l.link_room more.link_room;
+      cost = node_steps c.args.start.node node next (length c.loop-walk.self.queue.entries) (length c.args.self.now.queue.entries) (length c.args.tree.now) c.args.steps.now c.loop-walk.steps c.advance-walk.new.steps
+          l.division.from e.node l.division.few below l.cost more.cost;
     }
 
 module _ (g : Over) where
@@ -52,7 +49,7 @@ module _ (g : Over) where
   taken c =
       let l = c.loop-walk.invariant in
       choice_taken g.R.Rank.KEYS g.R.Rank.key c.args.tree.now c.args.total.now c.args.start c.args.self.now.links.entries c.args.self.now.queue.entries c.loop-walk.walk c.loop-walk.self.links.entries c.loop-walk.chosen c.loop-walk.self.queue.entries
-      l.at l.division l.below (omega (arith, c.loop-walk-test.false, l.count)) c.choose-choice.result c.choose-choice.new.chosen c.choose-choice.new.self.queue.entries c.choose-choice.ensures.choice c.if-choice.true c.requires.some
+      l.at l.division l.below (at_last _ _ _ c.loop-walk-test.false l.count) c.choose-choice.result c.choose-choice.new.chosen c.choose-choice.new.self.queue.entries c.choose-choice.ensures.choice c.if-choice.true c.requires.some
       c.choose-choice.new.self.links.entries (ap (λ (k : Entries Link). k.entries) c.choose-choice.ensures.links) c.pop.result c.pop.new.self.entries c.pop.ensures.variant c.pop.ensures.top c.pop.ensures.permutation
 
   -- and where it is no longer there
@@ -60,41 +57,28 @@ module _ (g : Over) where
   stays c =
       let l = c.loop-walk.invariant in
       choice_stays g.R.Rank.KEYS g.R.Rank.key c.args.tree.now c.args.total.now c.args.start c.args.self.now.links.entries c.args.self.now.queue.entries c.loop-walk.walk c.loop-walk.self.links.entries c.loop-walk.chosen c.loop-walk.self.queue.entries
-      l.at l.division l.below (omega (arith, c.loop-walk-test.false, l.count)) c.choose-choice.result c.choose-choice.new.chosen c.choose-choice.new.self.queue.entries c.choose-choice.ensures.choice c.if-choice.false
+      l.at l.division l.below (at_last _ _ _ c.loop-walk-test.false l.count) c.choose-choice.result c.choose-choice.new.chosen c.choose-choice.new.self.queue.entries c.choose-choice.ensures.choice c.if-choice.false
       c.choose-choice.new.self.links.entries (ap (λ (k : Entries Link). k.entries) c.choose-choice.ensures.links)
 
 pub returns-then-choice : goal.returns-then-choice
-returns-then-choice g c = record {
-  divided = taken g c;
-  cost = let l = c.loop-walk.invariant in
-        let n = length c.args.self.now.queue.entries in
-        let m = length c.args.tree.now in
-        let u = 10 + 4 * bit_length (n + 2 * m) in
-        let few = choice_few g.R.Rank.KEYS g.R.Rank.key c.args.tree.now c.args.total.now c.args.start c.args.self.now.links.entries c.args.self.now.queue.entries c.loop-walk.walk c.loop-walk.self.links.entries c.loop-walk.chosen c.loop-walk.self.queue.entries
-        l.at l.division l.below (omega (arith, c.loop-walk-test.false, l.count)) c.choose-choice.result c.choose-choice.new.chosen c.choose-choice.new.self.queue.entries c.choose-choice.ensures.choice in
-        let digits = bit_length_rises (length c.loop-walk.self.queue.entries + 2) (n + 2 * m) (omega (arith, l.division.few, l.below)) in
-        let popped = bit_length_rises (length c.choose-choice.new.self.queue.entries) (n + 2 * m) (omega (arith, few)) in
-        let end = times_next (c.loop-walk.walk.node + 1 - c.args.start.node) (c.loop-walk.walk.node - c.args.start.node) u c.args.steps.now c.loop-walk.steps c.choose-choice.new.steps
-        (omega (arith, l.division.from)) l.cost (omega (arith, c.choose-choice.ensures.cost, digits)) in
-        times_within (c.loop-walk.walk.node + 1 - c.args.start.node) m u c.args.steps.now c.choose-choice.new.steps c.pop.new.steps (2 * bit_length (n + 2 * m))
-        (omega (arith, l.below)) end (omega (arith, c.pop.ensures.cost, popped));
-}
+returns-then-choice g c =
+    let l = c.loop-walk.invariant in
+    let few = choice_few g.R.Rank.KEYS g.R.Rank.key c.args.tree.now c.args.total.now c.args.start c.args.self.now.links.entries c.args.self.now.queue.entries c.loop-walk.walk c.loop-walk.self.links.entries c.loop-walk.chosen c.loop-walk.self.queue.entries
+    l.at l.division l.below (at_last _ _ _ c.loop-walk-test.false l.count) c.choose-choice.result c.choose-choice.new.chosen c.choose-choice.new.self.queue.entries c.choose-choice.ensures.choice in
+    record {
+      divided = taken g c;
+      cost = all_steps c.args.start.node c.loop-walk.walk.node (length c.loop-walk.self.queue.entries) (length c.args.self.now.queue.entries) (length c.args.tree.now) c.args.steps.now c.loop-walk.steps c.choose-choice.new.steps
+          l.division.from l.division.few l.below l.cost c.choose-choice.ensures.cost (length c.choose-choice.new.self.queue.entries) c.pop.new.steps few c.pop.ensures.cost;
+    }
 
 pub returns-else-choice : goal.returns-else-choice
-returns-else-choice g c = record {
-  divided = stays g c;
-  cost = let l = c.loop-walk.invariant in
-        let n = length c.args.self.now.queue.entries in
-        let m = length c.args.tree.now in
-        let u = 10 + 4 * bit_length (n + 2 * m) in
-        let few = choice_few g.R.Rank.KEYS g.R.Rank.key c.args.tree.now c.args.total.now c.args.start c.args.self.now.links.entries c.args.self.now.queue.entries c.loop-walk.walk c.loop-walk.self.links.entries c.loop-walk.chosen c.loop-walk.self.queue.entries
-        l.at l.division l.below (omega (arith, c.loop-walk-test.false, l.count)) c.choose-choice.result c.choose-choice.new.chosen c.choose-choice.new.self.queue.entries c.choose-choice.ensures.choice in
-        let digits = bit_length_rises (length c.loop-walk.self.queue.entries + 2) (n + 2 * m) (omega (arith, l.division.few, l.below)) in
-        let end = times_next (c.loop-walk.walk.node + 1 - c.args.start.node) (c.loop-walk.walk.node - c.args.start.node) u c.args.steps.now c.loop-walk.steps c.choose-choice.new.steps
-        (omega (arith, l.division.from)) l.cost (omega (arith, c.choose-choice.ensures.cost, digits)) in
-        times_within (c.loop-walk.walk.node + 1 - c.args.start.node) m u c.args.steps.now c.choose-choice.new.steps c.choose-choice.new.steps (2 * bit_length (n + 2 * m))
-        (omega (arith, l.below)) end (omega arith);
-}
+returns-else-choice g c =
+    let l = c.loop-walk.invariant in
+    record {
+      divided = stays g c;
+      cost = all_steps c.args.start.node c.loop-walk.walk.node (length c.loop-walk.self.queue.entries) (length c.args.self.now.queue.entries) (length c.args.tree.now) c.args.steps.now c.loop-walk.steps c.choose-choice.new.steps
+          l.division.from l.division.few l.below l.cost c.choose-choice.ensures.cost 0 c.choose-choice.new.steps (omega arith) (omega arith);
+    }
 
 pub advance-walk-requires-clause-places : goal.advance-walk-requires-clause-places
 advance-walk-requires-clause-places g c = c.requires.places
