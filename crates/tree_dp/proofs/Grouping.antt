@@ -1,5 +1,5 @@
 -- Lists of groups of which one is put into another order.
-use Rattle.std.proofs.Common.{◌≡◌, ℕ, zero, suc, ◌+◌, ◌<◌, List, [], ◌∷◌, ◌++◌, length, get_or, drop, take, sym, ap, subst, ◌∙◌, inl, inr, arith, length-append}
+use Rattle.std.proofs.Common.{◌≡◌, ℕ, zero, suc, ◌+◌, ◌*◌, ◌<◌, ◌≤◌, List, [], ◌∷◌, ◌++◌, length, get_or, drop, take, sym, ap, subst, ◌∙◌, inl, inr, arith, length-append}
 use Rattle.std.proofs.Math.ListN.{set}
 use Rattle.std.specs.List.{concat}
 use Rattle.std.specs.List.Sorted.{IsPermutation}
@@ -22,6 +22,14 @@ members_from (x ∷ gs) zero l = length-append x (concat gs)
 members_from (x ∷ gs) (suc n) l =
     let next : suc n + 1 ≡ suc (n + 1) = omega arith in
     members_from gs n (omega arith) ∙ ap (λ k. length (get_or gs n []) + length (concat (drop k (x ∷ gs)))) (sym next)
+
+-- the steps for one group more
+pub group_steps : (gs : List (List ℕ)) (n size old before after : ℕ) → n < length gs → size ≡ length (get_or gs n []) → before + 2 * length (concat (drop n gs)) ≤ old + 2 * length (concat gs)
+    → after ≤ before + 2 * size → after + 2 * length (concat (drop (n + 1) gs)) ≤ old + 2 * length (concat gs)
+group_steps gs n size old before after inside same counted cost = omega (arith, members_from gs n inside, same, counted, cost)
+
+pub without_rest : (x rest most : ℕ) → x + rest ≤ most → x ≤ most
+without_rest x rest most l = omega (arith, l)
 
 -- each group, where one is put into another order
 pub same_members : (gs : List (List ℕ)) (n : ℕ) (new : List ℕ) → n < length gs → IsPermutation (get_or gs n []) new → (m : ℕ) → IsPermutation (get_or gs m []) (get_or (set gs n new) m [])

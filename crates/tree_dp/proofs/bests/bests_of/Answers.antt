@@ -45,11 +45,11 @@ pub loop-row-init : goal.loop-row-init
 loop-row-init g c =
     record { long = ap length c.in_ok-bests.ensures.items; bests = λ r h. absurd (omega arith); counted = steps_more c.args.steps.now _ }
 
-pub row_best-best-requires : goal.row_best-best-requires
-row_best-best-requires g c =
-    let at = goal.at.row_best-best-requires g c in
+pub row_best-best-requires-clause-row : goal.row_best-best-requires-clause-row
+row_best-best-requires-clause-row g c =
+    let at = goal.at.row_best-best-requires-clause-row g c in
     let count = row_count g at.After-len-row-end in
-    record { node = c.requires.node; row = omega (arith, count, c.loop-row-test.true); laid_out = c.requires.laid_out; solved = c.requires.solved; leasts = c.requires.leasts }
+    omega (arith, count, c.loop-row-test.true)
 
 pub returns-in_err-bests : goal.returns-in_err-bests
 returns-in_err-bests g c =

@@ -6,7 +6,7 @@ use Rattle.std.proofs.lemmas.List.{length-set, get_or_past}
 use Rattle.std.proofs.lemmas.Result.{IfOk-from_err}
 use Rattle.std.proofs.lemmas.List.Sorted.{IsPermutation-refl, IsPermutation-trans, All-permutation, length_permutation}
 use Rattle.tree_dp.specs.Orders.{key_at, IsHeapOver}
-use Rattle.tree_dp.proofs.Grouping.{members_from, same_members, below_next}
+use Rattle.tree_dp.proofs.Grouping.{group_steps, same_members, below_next, without_rest}
 use Rattle.tree_dp.proofs.Leasts.{leasts_pushed}
 use Rattle.tree_dp.proofs.order.order_groups.Goals as goal
 
@@ -64,7 +64,7 @@ loop-number-preserved g c =
           ∙ leasts_pushed g.R.Rank.KEYS g.R.Rank.key c.args.best.now c.loop-number.leasts.items c.in_ok-least.least groups n new within c.loop-number.invariant.least_count c.loop-number.invariant.leasts
           c.in_ok-least.ensures.least m l
           ∙ ap (λ xs. key_at g.R.Rank.KEYS g.R.Rank.key c.args.best.now (get_or (get_or xs m []) 0 0)) (sym written);
-      counted = omega (arith, long, c.order_group.ensures.cost, c.loop-number.invariant.counted, members_from first n in_first);
+      counted = group_steps first n (length c.group.result.now) c.args.steps.now c.loop-number.steps c.order_group.new.steps in_first long c.loop-number.invariant.counted c.order_group.ensures.cost;
     }
 
 pub returns-in_err-least : goal.returns-in_err-least
@@ -78,7 +78,7 @@ returns-in_err-least g c =
       heaps = IfOk-from_err c.from_residual-in_err-least.result _ c.from_residual-in_err-least.ensures.0;
       least_count = IfOk-from_err c.from_residual-in_err-least.result _ c.from_residual-in_err-least.ensures.0;
       leasts = IfOk-from_err c.from_residual-in_err-least.result _ c.from_residual-in_err-least.ensures.0;
-      cost = omega (arith, long, c.order_group.ensures.cost, c.loop-number.invariant.counted, members_from first n (omega (arith, c.loop-number-test.true, c.len-number-end.ensures)));
+      cost = without_rest _ _ _ (group_steps first n (length c.group.result.now) c.args.steps.now c.loop-number.steps c.order_group.new.steps (omega (arith, c.loop-number-test.true, c.len-number-end.ensures)) long c.loop-number.invariant.counted c.order_group.ensures.cost);
     }
 
 pub returns-in_err-push : goal.returns-in_err-push
@@ -92,7 +92,7 @@ returns-in_err-push g c =
       heaps = IfOk-from_err c.from_residual-in_err-push.result _ c.from_residual-in_err-push.ensures.0;
       least_count = IfOk-from_err c.from_residual-in_err-push.result _ c.from_residual-in_err-push.ensures.0;
       leasts = IfOk-from_err c.from_residual-in_err-push.result _ c.from_residual-in_err-push.ensures.0;
-      cost = omega (arith, long, c.order_group.ensures.cost, c.loop-number.invariant.counted, members_from first n (omega (arith, c.loop-number-test.true, c.len-number-end.ensures)));
+      cost = without_rest _ _ _ (group_steps first n (length c.group.result.now) c.args.steps.now c.loop-number.steps c.order_group.new.steps (omega (arith, c.loop-number-test.true, c.len-number-end.ensures)) long c.loop-number.invariant.counted c.order_group.ensures.cost);
     }
 
 pub returns : goal.returns
@@ -107,5 +107,5 @@ returns g c =
       ];
       least_count = c.loop-number.invariant.least_count ∙ all;
       leasts = λ n l. c.loop-number.invariant.leasts n (subst (λ m. n < m) (sym all) l);
-      cost = omega (arith, c.loop-number.invariant.counted);
+      cost = without_rest _ _ _ c.loop-number.invariant.counted;
     }

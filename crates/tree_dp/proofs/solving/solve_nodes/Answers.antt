@@ -1,12 +1,11 @@
-use Rattle.std.proofs.Common.{◌≡◌, ℕ, ◌+◌, ◌-◌, ◌*◌, ◌<◌, ◌≤◌, List, ◌∷◌, length, map, sym, ap, subst, ◌∙◌, arith}
+use Rattle.std.proofs.Common.{◌≡◌, ℕ, ◌+◌, ◌-◌, ◌<◌, ◌≤◌, List, ◌∷◌, length, map, sym, ap, subst, ◌∙◌, arith}
 use Rattle.std.proofs.lemmas.List.{length-map}
 use Rattle.std.proofs.lemmas.Result.{IfOk-from_err}
 use Rattle.rankings.specs.KeyTuple.{KeyOf}
-use Rattle.rankings.proofs.Ranges.{times_small}
 use Rattle.tdp_core.specs.TreeView.{NodeView, node_view, tree_view, node_at, rows}
 use Rattle.tree_dp.specs.Progress.{IsSolvedFrom, AreLeastsFrom}
 use Rattle.tree_dp.proofs.Reordered.{reordered_refl, reordered_trans, rows_same, layout_kept}
-use Rattle.tree_dp.proofs.RowTotals.{total_from_before, total_from_most}
+use Rattle.tree_dp.proofs.RowTotals.{row_steps, row_steps_most}
 use Rattle.tree_dp.proofs.solving.solve_nodes.Goals as goal
 
 module _ {R : Type 0} (d : ℕ) (key : R → KeyOf d 16) (t : List (NodeView R)) (n : ℕ) (past : length t ≤ n) where
@@ -64,18 +63,17 @@ loop-node-preserved g c =
     let now = tree_view c.loop-node.nodes in
     let then = tree_view c.solve_node.new.nodes in
     let v = c.loop-node.node in
-    let long = length c.args.nodes.now + 2 in
     let some : 0 < v = omega arith in
     let inside : v ≤ length before = omega (arith, c.loop-node.auto.node, length-map c.args.nodes.now node_view) in
     let here : rows now (v - 1) ≡ rows before (v - 1) = ap (λ f. f (v - 1)) (rows_same before now c.loop-node.invariant.reordered) in
-    let more = total_from_before (rows before) (length before) v some inside in
     record {
       reordered = λ w. reordered_trans (node_at before w) (node_at now w) (node_at (tree_view c.solve_node.new.nodes) w) (c.loop-node.invariant.reordered w) (c.in_ok-own.ensures.reordered w);
       solved = c.in_ok-own.ensures.solved;
       leasts =
           subst (λ vs. AreLeastsFrom d key then (v - 1) (map (λ ls. ls.items) vs)) (sym c.in_ok-insert.ensures.items)
           (subst (λ vs. AreLeastsFrom d key then (v - 1) (c.in_ok-own.own.items ∷ map (λ ls. ls.items) vs)) c.deref.ensures.value c.in_ok-own.ensures.leasts);
-      counted = omega (arith, c.loop-node.invariant.counted, c.solve_node.ensures.cost, ap (λ n. n * long) more, ap (λ n. n * long) here, ap (λ n. rows now (v - 1) * n) c.loop-node.auto.nodes);
+      counted = row_steps (rows before) (length before) v (rows now (v - 1)) (length c.loop-node.nodes) (length c.args.nodes.now) c.args.steps.now c.loop-node.steps c.solve_node.new.steps some inside here c.loop-node.auto.nodes
+          c.loop-node.invariant.counted c.solve_node.ensures.cost;
     }
 
 pub solve_node-requires-clause-solved : goal.solve_node-requires-clause-solved
@@ -94,16 +92,9 @@ returns-in_err-own g c = record {
       let some : 0 < v = omega arith in
       let inside : v ≤ length before = omega (arith, c.loop-node.auto.node, length-map c.args.nodes.now node_view) in
       let here : rows now (v - 1) ≡ rows before (v - 1) = ap (λ f. f (v - 1)) (rows_same before now c.loop-node.invariant.reordered) in
-      let more = total_from_before (rows before) (length before) v some inside in
-      omega (
-        arith,
-        c.loop-node.invariant.counted,
-        c.solve_node.ensures.cost,
-        ap (λ n. n * long) more,
-        ap (λ n. n * long) here,
-        ap (λ n. rows now (v - 1) * n) c.loop-node.auto.nodes,
-        times_small _ _ long (total_from_most (rows before) (length before) (v - 1) (omega arith)),
-      );
+      let steps = row_steps (rows before) (length before) v (rows now (v - 1)) (length c.loop-node.nodes) (length c.args.nodes.now) c.args.steps.now c.loop-node.steps c.solve_node.new.steps some inside here
+      c.loop-node.auto.nodes c.loop-node.invariant.counted c.solve_node.ensures.cost in
+      row_steps_most (rows before) (length before) (v - 1) long c.args.steps.now c.solve_node.new.steps (omega arith) steps;
 }
 
 pub returns-in_err-insert : goal.returns-in_err-insert
@@ -117,16 +108,9 @@ returns-in_err-insert g c = record {
       let some : 0 < v = omega arith in
       let inside : v ≤ length before = omega (arith, c.loop-node.auto.node, length-map c.args.nodes.now node_view) in
       let here : rows now (v - 1) ≡ rows before (v - 1) = ap (λ f. f (v - 1)) (rows_same before now c.loop-node.invariant.reordered) in
-      let more = total_from_before (rows before) (length before) v some inside in
-      omega (
-        arith,
-        c.loop-node.invariant.counted,
-        c.solve_node.ensures.cost,
-        ap (λ n. n * long) more,
-        ap (λ n. n * long) here,
-        ap (λ n. rows now (v - 1) * n) c.loop-node.auto.nodes,
-        times_small _ _ long (total_from_most (rows before) (length before) (v - 1) (omega arith)),
-      );
+      let steps = row_steps (rows before) (length before) v (rows now (v - 1)) (length c.loop-node.nodes) (length c.args.nodes.now) c.args.steps.now c.loop-node.steps c.solve_node.new.steps some inside here
+      c.loop-node.auto.nodes c.loop-node.invariant.counted c.solve_node.ensures.cost in
+      row_steps_most (rows before) (length before) (v - 1) long c.args.steps.now c.solve_node.new.steps (omega arith) steps;
 }
 
 pub returns : goal.returns
@@ -135,5 +119,5 @@ returns g c = record {
   solved = let end : c.loop-node.node ≡ 0 = omega arith in
       subst (IsSolvedFrom g.R.Rank.KEYS g.R.Rank.key (tree_view c.loop-node.nodes)) end c.loop-node.invariant.solved;
   cost = let before = tree_view c.args.nodes.now in
-      omega (arith, c.loop-node.invariant.counted, times_small _ _ (length c.args.nodes.now + 2) (total_from_most (rows before) (length before) c.loop-node.node (omega arith)));
+      row_steps_most (rows before) (length before) c.loop-node.node (length c.args.nodes.now + 2) c.args.steps.now c.loop-node.steps (omega arith) c.loop-node.invariant.counted;
 }
