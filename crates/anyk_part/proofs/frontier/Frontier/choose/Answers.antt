@@ -145,3 +145,27 @@ returns-else-place-size-2 g c = record {
         let a = bit_length_rises (n + 1) (n + 2) (omega arith) in
         omega (arith, a, c.group_at-group.ensures.cost, c.member-row.ensures.counted, c.best-best.ensures.counted, c.offer.ensures.cost);
 }
+
+pub offer-requires-clause-top : goal.offer-requires-clause-top
+offer-requires-clause-top g c = c.requires.ready.top
+
+pub offer-requires-clause-entries : goal.offer-requires-clause-entries
+offer-requires-clause-entries g c = c.requires.ready.each
+
+pub group_at-group-requires-clause-places : goal.group_at-group-requires-clause-places
+group_at-group-requires-clause-places g c = c.requires.places
+
+pub group_at-group-requires-clause-node : goal.group_at-group-requires-clause-node
+group_at-group-requires-clause-node g c = c.requires.ready.node
+
+pub group_at-group-requires-clause-formed : goal.group_at-group-requires-clause-formed
+group_at-group-requires-clause-formed g c = c.requires.ready.at.formed
+
+pub group_len-size-requires-clause-node : goal.group_len-size-requires-clause-node
+group_len-size-requires-clause-node g c = c.requires.ready.node
+
+pub member-row-requires-clause-node : goal.member-row-requires-clause-node
+member-row-requires-clause-node g c = c.requires.ready.node
+
+pub best-best-requires-clause-node : goal.best-best-requires-clause-node
+best-best-requires-clause-node g c = c.requires.ready.node

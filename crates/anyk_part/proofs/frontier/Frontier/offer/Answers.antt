@@ -1,4 +1,4 @@
-use Rattle.std.proofs.Common.{◌<◌, length, subst, sym}
+use Rattle.std.proofs.Common.{◌<◌, length, subst, sym, arith}
 use Rattle.take2_heap.specs.declared.entry.Entry.{Entry}
 use Rattle.tdp_core.specs.TreeView.{members, rows}
 use Rattle.anyk_part.specs.declared.candidate.Candidate.{Candidate}
@@ -28,27 +28,34 @@ new-candidate-requires-clause-position g c = node_small g.R.Rank.KEYS g.R.Rank.k
 pub new-candidate-requires-clause-place : goal.new-candidate-requires-clause-place
 new-candidate-requires-clause-place g c = place_small g.R.Rank.KEYS g.R.Rank.key c.args.tree.now c.args.self.now.links.entries c.args.site.now c.requires.site c.args.place c.requires.place
 
-pub returns-clause-entries : goal.returns-clause-entries
-returns-clause-entries g c =
-    let t = c.args.tree.now in
-    let s = c.args.site.now in
-    let links = c.args.self.now.links.entries in
-    let near : c.args.place < length (members t s.node s.group) = c.requires.place in
-    let e : Entry g.row.R.Denot Candidate = record { rank = c.swap-rank.result; tag = c.new-candidate.result } in
-    entries_put (IsEntry g.R.Rank.KEYS g.R.Rank.key t links) c.args.top_stands e c.args.self.now.queue.entries c.put.new.self.queue.entries (c.put.ensures.replaced e) c.put.ensures.pushed
-    (new_entry g.R.Rank.KEYS g.R.Rank.key t links s c.requires.site c.swap-rank.result c.args.place c.member-row.result (g.R.Rank.key c.best-best.result) near c.member-row.ensures.member c.best-best.ensures.best c.swap-rank.ensures.swapped
-    c.new-candidate.result c.new-candidate.ensures.parts)
-    c.requires.entries
+pub returns : goal.returns
+returns g c = record {
+  entries = let t = c.args.tree.now in
+        let s = c.args.site.now in
+        let links = c.args.self.now.links.entries in
+        let near : c.args.place < length (members t s.node s.group) = c.requires.place in
+        let e : Entry g.row.R.Denot Candidate = record { rank = c.swap-rank.result; tag = c.new-candidate.result } in
+        entries_put (IsEntry g.R.Rank.KEYS g.R.Rank.key t links) c.args.top_stands e c.args.self.now.queue.entries c.put.new.self.queue.entries (c.put.ensures.replaced e) c.put.ensures.pushed
+        (new_entry g.R.Rank.KEYS g.R.Rank.key t links s c.requires.site c.swap-rank.result c.args.place c.member-row.result (g.R.Rank.key c.best-best.result) near c.member-row.ensures.member c.best-best.ensures.best c.swap-rank.ensures.swapped
+        c.new-candidate.result c.new-candidate.ensures.parts)
+        c.requires.entries;
+  held = let t = c.args.tree.now in
+        let s = c.args.site.now in
+        let links = c.args.self.now.links.entries in
+        let e : Entry g.row.R.Denot Candidate = record { rank = c.swap-rank.result; tag = c.new-candidate.result } in
+        held_put g.R.Rank.KEYS g.R.Rank.key t links s c.requires.site c.args.top_stands e c.args.place c.new-candidate.ensures.parts c.args.self.now.queue.entries c.put.new.self.queue.entries c.requires.top (c.put.ensures.replaced e) c.put.ensures.pushed;
+  links = c.put.ensures.links;
+  room = c.put.ensures.room;
+  length = let e : Entry g.row.R.Denot Candidate = record { rank = c.swap-rank.result; tag = c.new-candidate.result } in
+        length_put c.args.top_stands e c.args.self.now.queue.entries c.put.new.self.queue.entries (c.put.ensures.replaced e) c.put.ensures.pushed;
+  cost = omega (arith, c.member-row.ensures.counted, c.best-best.ensures.counted, c.swap-rank.ensures.counted, c.put.ensures.cost);
+}
 
-pub returns-clause-held : goal.returns-clause-held
-returns-clause-held g c =
-    let t = c.args.tree.now in
-    let s = c.args.site.now in
-    let links = c.args.self.now.links.entries in
-    let e : Entry g.row.R.Denot Candidate = record { rank = c.swap-rank.result; tag = c.new-candidate.result } in
-    held_put g.R.Rank.KEYS g.R.Rank.key t links s c.requires.site c.args.top_stands e c.args.place c.new-candidate.ensures.parts c.args.self.now.queue.entries c.put.new.self.queue.entries c.requires.top (c.put.ensures.replaced e) c.put.ensures.pushed
+pub put-requires-clause-top : goal.put-requires-clause-top
+put-requires-clause-top g c = c.requires.top
 
-pub returns-clause-length : goal.returns-clause-length
-returns-clause-length g c =
-    let e : Entry g.row.R.Denot Candidate = record { rank = c.swap-rank.result; tag = c.new-candidate.result } in
-    length_put c.args.top_stands e c.args.self.now.queue.entries c.put.new.self.queue.entries (c.put.ensures.replaced e) c.put.ensures.pushed
+pub put-requires-clause-room : goal.put-requires-clause-room
+put-requires-clause-room g c = c.requires.room
+
+pub best-best-requires-clause-node : goal.best-best-requires-clause-node
+best-best-requires-clause-node g c = c.requires.site.node

@@ -1,4 +1,5 @@
 use Rattle.std.proofs.Common.{ℕ, ◌+◌, ◌*◌, ◌≤◌, List, length, ap, arith}
+use Rattle.std.proofs.lemmas.Result.{IfOk-from_err}
 use Rattle.stream_store.specs.declared.entry.Linked.{Linked}
 use Rattle.rankings.specs.Regions.{Region}
 use Rattle.tdp_core.specs.AnswerView.{answers_of}
@@ -11,8 +12,13 @@ use Rattle.anyk_part.proofs.part.Part.new.Goals as goal
 three_of_sixteen : (before after m n : ℕ) → after ≤ before + 3 * m → after ≤ before + 16 * (m * (1 + n))
 three_of_sixteen before after m n h = omega arith
 
-pub returns-in_err-queue-clause-cost : goal.returns-in_err-queue-clause-cost
-returns-in_err-queue-clause-cost g c = three_of_sixteen c.args.steps.now c.first_queue.new.steps (length c.args.tree.now) (row_count c.args.tree.now) c.first_queue.ensures.cost
+pub returns-in_err-queue : goal.returns-in_err-queue
+returns-in_err-queue g c = record {
+  tree = IfOk-from_err c.from_residual-in_err-queue.result _ c.from_residual-in_err-queue.ensures.0;
+  calls = IfOk-from_err c.from_residual-in_err-queue.result _ c.from_residual-in_err-queue.ensures.0;
+  ranking = IfOk-from_err c.from_residual-in_err-queue.result _ c.from_residual-in_err-queue.ensures.0;
+  cost = three_of_sixteen c.args.steps.now c.first_queue.new.steps (length c.args.tree.now) (row_count c.args.tree.now) c.first_queue.ensures.cost;
+}
 
 pub invariant_of-result : goal.invariant_of-result
 invariant_of-result g c = ((c.in_ok-queue.ensures.part c.new-links.result.entries).0, c.child_places.ensures)
@@ -28,3 +34,9 @@ returns-clause-ranking g c =
 
 pub returns-clause-cost : goal.returns-clause-cost
 returns-clause-cost g c = three_of_sixteen c.args.steps.now c.first_queue.new.steps (length c.args.tree.now) (row_count c.args.tree.now) c.first_queue.ensures.cost
+
+pub returns-in_err-clone : goal.returns-in_err-clone
+returns-in_err-clone g c =
+    let r = c.from_residual.result in
+    let e = c.from_residual.ensures.0 in
+    record { tree = IfOk-from_err r _ e; calls = IfOk-from_err r _ e; ranking = IfOk-from_err r _ e; cost = omega arith }

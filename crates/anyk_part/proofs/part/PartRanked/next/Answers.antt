@@ -1,4 +1,5 @@
 use Rattle.std.proofs.Common.{rules, ◌≡◌, ◌+◌, ◌≤◌, List, [], length, refl, sym, ap, ◌∙◌, subst, arith}
+use Rattle.std.proofs.lemmas.Result.{IfOk-from_err}
 use Rattle.stream_store.specs.declared.entry.Linked.{Linked}
 use Rattle.take2_heap.specs.declared.entry.Entry.{Entry}
 use Rattle.tdp_core.specs.AnswerView.{rows_of_key, counted}
@@ -119,3 +120,18 @@ returns g c = record {
         c.self.invariant.0.formed.shaped.some_node (c.self.invariant.0.live (c.in-Some.ensures.variant.0 refl)) (omega (arith, few, same)) (omega (arith, entry.position)) c.prefix-chosen.ensures.cost c.divide.ensures.cost c.row_numbers-rows.ensures.cost in
         subst (λ (s : PartView g.row.R.Denot). c.row_numbers-rows.new.steps ≤ c.args.steps.now + most_steps (length s.tree) (row_count s.tree) (group_count s.tree 0) s.calls) c.self.view_is all;
 }
+
+pub row_numbers-rows-requires-clause-tie_free : goal.row_numbers-rows-requires-clause-tie_free
+row_numbers-rows-requires-clause-tie_free g c = c.self.invariant.0.tie_free
+
+pub divide-requires-clause-places : goal.divide-requires-clause-places
+divide-requires-clause-places g c = c.self.invariant.1
+
+pub divide-requires-clause-stands : goal.divide-requires-clause-stands
+divide-requires-clause-stands g c = c.in-Some.ensures.stands
+
+pub returns-in_err-make_room-clause-found : goal.returns-in_err-make_room-clause-found
+returns-in_err-make_room-clause-found g c = IfOk-from_err c.from_residual.result _ c.from_residual.ensures.0
+
+pub returns-in_err-make_room-clause-end : goal.returns-in_err-make_room-clause-end
+returns-in_err-make_room-clause-end g c = IfOk-from_err c.from_residual.result _ c.from_residual.ensures.0
