@@ -24,9 +24,9 @@ returns-then-used-budget g c = record {
   within = tt;
   fewer = tt;
   refusal = let rows = c.in_ok-rows.rows.items in
-        let total = counts_sum rows c.as_slice.result.now c.in_ok-rows_of.rows_of.items c.as_slice-2.result.now c.as_slice.ensures.value c.in_ok-rows_of.ensures c.as_slice-2.ensures.value in
-        past_budget c.args.query.now c.args.tables.now c.args.join.now (lists_of rows) c.in_ok-rows.ensures.rows c.args.budget
-        (omega (arith, total, c.sum_of-used.ensures, c.if-used-budget.true));
+      let total = counts_sum rows c.as_slice.result.now c.in_ok-rows_of.rows_of.items c.as_slice-2.result.now c.as_slice.ensures.value c.in_ok-rows_of.ensures c.as_slice-2.ensures.value in
+      past_budget c.args.query.now c.args.tables.now c.args.join.now (lists_of rows) c.in_ok-rows.ensures.rows c.args.budget
+      (omega (arith, total, c.sum_of-used.ensures, c.if-used-budget.true));
   cost = omega arith;
 }
 
@@ -57,10 +57,10 @@ returns-in_err-tree g c =
       fewer = IfOk-from_err r _ e;
       refusal = handed_on (TellsFault c.args.query.now c.args.tables.now c.args.join.now c.args.budget) r fault.NoMemory c.from_residual-in_err-tree.ensures.1 (inl refl);
       cost = let query = c.args.query.now.query in
-            let tables = c.args.tables.now in
-            let join = c.args.join.now in
-            let of_nodes = subst (λ (vs : List (Vec ℕ Global)). HaveRows query tables join join.count (lists_of vs)) (sym c.as_slice-3.ensures.value) c.in_ok-rows.ensures.rows in
-            cost_within query tables join c.requires.tree (lists_of c.as_slice-3.result.now) of_nodes c.args.steps.now c.filled_tree.new.steps c.in_err-tree.ensures.cost;
+          let tables = c.args.tables.now in
+          let join = c.args.join.now in
+          let of_nodes = subst (λ (vs : List (Vec ℕ Global)). HaveRows query tables join join.count (lists_of vs)) (sym c.as_slice-3.ensures.value) c.in_ok-rows.ensures.rows in
+          cost_within query tables join c.requires.tree (lists_of c.as_slice-3.result.now) of_nodes c.args.steps.now c.filled_tree.new.steps c.in_err-tree.ensures.cost;
     }
 
 pub returns-in_err-rows : goal.returns-in_err-rows

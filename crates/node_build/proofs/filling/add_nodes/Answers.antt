@@ -47,30 +47,30 @@ pub returns : goal.returns
 returns g c = record {
   shapes = subst (AreShapesOf c.args.query.now c.args.tables.now c.args.join.now c.args.join.now.count) (sym c.loop-node.invariant.shapes) c.requires.shapes;
   filled = let own = lists_of c.args.columns.now.own.items in
-        let above = lists_of c.args.columns.now.above.items in
-        let names = c.loop-node.links in
-        let all : c.loop-node.node ≡ c.args.join.now.count = omega arith in
-        record {
-          own = own;
-          above = above;
-          names = names;
-          columns = c.requires.columns;
-          numbers = c.loop-node.invariant.numbers;
-          filled = subst (λ (n : ℕ). AreFilled c.args.query.now c.args.tables.now c.args.join.now own above g.R.Rank.KEYS g.R.Rank.key names n (lists_of c.args.rows.now) c.loop-node.tree) all c.loop-node.invariant.filled;
-        };
+      let above = lists_of c.args.columns.now.above.items in
+      let names = c.loop-node.links in
+      let all : c.loop-node.node ≡ c.args.join.now.count = omega arith in
+      record {
+        own = own;
+        above = above;
+        names = names;
+        columns = c.requires.columns;
+        numbers = c.loop-node.invariant.numbers;
+        filled = subst (λ (n : ℕ). AreFilled c.args.query.now c.args.tables.now c.args.join.now own above g.R.Rank.KEYS g.R.Rank.key names n (lists_of c.args.rows.now) c.loop-node.tree) all c.loop-node.invariant.filled;
+      };
   cost = let most = mul-le-mul_right c.args.join.now.count (sum_by-take-le (λ (xs : List ℕ). length xs) (lists_of c.args.rows.now) c.loop-node.node) in
-        omega (arith, most, c.loop-node.invariant.cost);
+      omega (arith, most, c.loop-node.invariant.cost);
 }
 
 pub returns-in_err-add_rows : goal.returns-in_err-add_rows
 returns-in_err-add_rows g c = record {
   cost = let vs = c.args.rows.now in
-        let node = c.loop-node.node in
-        let inside : node < length vs = omega (arith, c.requires.rows.count, lists_length vs, c.loop-node-test.true) in
-        let list : c.as_slice-list.result.now ≡ get_or (lists_of vs) node [] = c.as_slice-list.ensures.value ∙ sym (list_at vs node c.index-rows-node.result inside c.index-rows-node.is) in
-        let size = ap (λ (xs : List ℕ). length xs * c.args.join.now.count) list in
-        let more = mul-le-mul_right c.args.join.now.count (sum_by_more_le (λ (xs : List ℕ). length xs) (lists_of vs) node [] (omega (arith, inside, lists_length vs))) in
-        omega (arith, size, more, c.loop-node.invariant.cost, c.in_err-add_rows.ensures.cost);
+      let node = c.loop-node.node in
+      let inside : node < length vs = omega (arith, c.requires.rows.count, lists_length vs, c.loop-node-test.true) in
+      let list : c.as_slice-list.result.now ≡ get_or (lists_of vs) node [] = c.as_slice-list.ensures.value ∙ sym (list_at vs node c.index-rows-node.result inside c.index-rows-node.is) in
+      let size = ap (λ (xs : List ℕ). length xs * c.args.join.now.count) list in
+      let more = mul-le-mul_right c.args.join.now.count (sum_by_more_le (λ (xs : List ℕ). length xs) (lists_of vs) node [] (omega (arith, inside, lists_length vs))) in
+      omega (arith, size, more, c.loop-node.invariant.cost, c.in_err-add_rows.ensures.cost);
   shapes = failed c.from_residual.result _ c.from_residual.ensures.0;
   filled = failed c.from_residual.result _ c.from_residual.ensures.0;
 }
@@ -102,3 +102,18 @@ loop-node-preserved g c =
           (subst (λ (xs : List ℕ). HasRowsOf query tables join own above g.R.Rank.KEYS g.R.Rank.key new node (length xs) xs (rows_at c.add_rows.new.tree node)) list now.rows);
       cost = omega (arith, size, one, before.cost, now.cost);
     }
+
+pub add_rows-requires-clause-ready : goal.add_rows-requires-clause-ready
+add_rows-requires-clause-ready g c = c.requires.ready
+
+pub add_rows-requires-clause-columns : goal.add_rows-requires-clause-columns
+add_rows-requires-clause-columns g c = c.requires.columns
+
+pub add_rows-requires-clause-node : goal.add_rows-requires-clause-node
+add_rows-requires-clause-node g c = c.loop-node-test.true
+
+pub add_rows-requires-clause-links : goal.add_rows-requires-clause-links
+add_rows-requires-clause-links g c = c.loop-node.invariant.count
+
+pub add_rows-requires-clause-each_node : goal.add_rows-requires-clause-each_node
+add_rows-requires-clause-each_node g c = c.loop-node.invariant.filled.each_node

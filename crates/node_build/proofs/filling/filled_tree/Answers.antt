@@ -74,3 +74,15 @@ returns-in_err-links g c =
     let r = c.from_residual-in_err-links.result in
     let e = c.from_residual-in_err-links.ensures.0 in
     record { shapes = IfOk-from_err r _ e; filled = IfOk-from_err r _ e; cost = omega arith }
+
+pub add_nodes-added-requires-clause-rows : goal.add_nodes-added-requires-clause-rows
+add_nodes-added-requires-clause-rows g c = c.requires.rows
+
+pub add_nodes-added-requires-clause-room : goal.add_nodes-added-requires-clause-room
+add_nodes-added-requires-clause-room g c = c.requires.room
+
+pub add_nodes-added-requires-clause-ready : goal.add_nodes-added-requires-clause-ready
+add_nodes-added-requires-clause-ready g c = c.requires.ready
+
+pub add_nodes-added-requires-clause-columns : goal.add_nodes-added-requires-clause-columns
+add_nodes-added-requires-clause-columns g c = c.in_ok-columns.ensures

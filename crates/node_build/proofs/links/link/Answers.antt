@@ -8,9 +8,9 @@ list_number-requires g c = record {
   first = c.requires.first;
   row = c.requires.row;
   columns = λ k h. let is = c.in-Some.ensures.cases.0 in
-        let size = ap (λ (l : List ℕ). length l) is in
-        let there = c.requires.columns (suc k) (omega (arith, h, size)) in
-        subst (λ (l : List ℕ). get_or l (suc k) 0 < length (table_at c.args.tables.now c.args.table).names) is there;
+      let size = ap (λ (l : List ℕ). length l) is in
+      let there = c.requires.columns (suc k) (omega (arith, h, size)) in
+      subst (λ (l : List ℕ). get_or l (suc k) 0 < length (table_at c.args.tables.now c.args.table).names) is there;
   node = c.requires.node;
 }
 

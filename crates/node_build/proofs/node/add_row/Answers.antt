@@ -49,7 +49,7 @@ link-requires-clause-node g c = omega (arith, c.requires.links, c.requires.at.no
 pub returns-in_err-child_links : goal.returns-in_err-child_links
 returns-in_err-child_links g c = record {
   cost = let few = kids_below_lem (parent_of c.args.join.now) c.args.node c.args.join.now.count (omega (arith, c.requires.at.node)) in
-        omega (arith, few, c.in_err-child_links.ensures.cost, c.in_ok-own_link.ensures.cost);
+      omega (arith, few, c.in_err-child_links.ensures.cost, c.in_ok-own_link.ensures.cost);
   more = failed c.from_residual-in_err-child_links.result _ c.from_residual-in_err-child_links.ensures.0;
   added = failed c.from_residual-in_err-child_links.result _ c.from_residual-in_err-child_links.ensures.0;
 }
@@ -77,34 +77,34 @@ add_row-requires-clause-room g c = c.requires.room
 pub returns : goal.returns
 returns g c = record {
   more = on_ok c.add_row.result
-        (more_trans c.args.links.now c.link.new.links c.child_links.new.links c.in_ok-own_link.ensures.more c.in_ok-child_links.ensures.more);
+      (more_trans c.args.links.now c.link.new.links c.child_links.new.links c.in_ok-own_link.ensures.more c.in_ok-child_links.ensures.more);
   added = let query = c.args.query.now in
-        let tables = c.args.tables.now in
-        let join = c.args.join.now in
-        let vs = c.args.columns.now.own.items in
-        let node = c.args.node in
-        let inside : node < length vs = omega (arith, c.requires.columns.own_count, lists_length vs, c.requires.at.node) in
-        let list : c.as_slice-own.result.now ≡ get_or (lists_of vs) node [] = c.as_slice-own.ensures.value ∙ sym (list_at vs node c.index.result.now inside c.index.ensures) in
-        let values : values_in tables (table_at tables c.table_of-table.result) c.args.row c.as_slice-own.result.now
-        ≡ values_at query tables join (lists_of vs) (lists_of c.args.columns.now.above.items) node c.args.row (get_or (lists_of vs) node []) =
-        ap (λ (t : ℕ). values_in tables (table_at tables t) c.args.row c.as_slice-own.result.now) c.table_of-table.ensures
-        ∙ ap (λ (l : List ℕ). values_in tables (table_in tables query.query.items (item_of join node)) c.args.row l) list in
-        let link = subst (λ (l : List ℕ). IsLink c.link.new.links node c.in_ok-own_link.own_link l) values c.in_ok-own_link.ensures.link in
-        on_ok_map c.add_row.result
-        (λ e. (
-          record { row = record { rank = c.rank_of-rank.result; row = c.args.row }; own = c.in_ok-own_link.own_link; children = c.as_slice.result.now },
-          e,
-          record {
-            number = refl;
-            rank = c.rank_of-rank.ensures;
-            link = link_kept c.link.new.links c.child_links.new.links node c.in_ok-own_link.own_link _ c.in_ok-child_links.ensures.more link;
-            children = subst (λ (cs : List ℕ). NamesLinks query tables join (lists_of vs) (lists_of c.args.columns.now.above.items) c.child_links.new.links node c.args.row join.count cs)
-                (sym c.as_slice.ensures.value) c.in_ok-child_links.ensures.names;
-          },
-        ))
-        c.add_row.ensures.ok;
+      let tables = c.args.tables.now in
+      let join = c.args.join.now in
+      let vs = c.args.columns.now.own.items in
+      let node = c.args.node in
+      let inside : node < length vs = omega (arith, c.requires.columns.own_count, lists_length vs, c.requires.at.node) in
+      let list : c.as_slice-own.result.now ≡ get_or (lists_of vs) node [] = c.as_slice-own.ensures.value ∙ sym (list_at vs node c.index.result.now inside c.index.ensures) in
+      let values : values_in tables (table_at tables c.table_of-table.result) c.args.row c.as_slice-own.result.now
+      ≡ values_at query tables join (lists_of vs) (lists_of c.args.columns.now.above.items) node c.args.row (get_or (lists_of vs) node []) =
+      ap (λ (t : ℕ). values_in tables (table_at tables t) c.args.row c.as_slice-own.result.now) c.table_of-table.ensures
+      ∙ ap (λ (l : List ℕ). values_in tables (table_in tables query.query.items (item_of join node)) c.args.row l) list in
+      let link = subst (λ (l : List ℕ). IsLink c.link.new.links node c.in_ok-own_link.own_link l) values c.in_ok-own_link.ensures.link in
+      on_ok_map c.add_row.result
+      (λ e. (
+        record { row = record { rank = c.rank_of-rank.result; row = c.args.row }; own = c.in_ok-own_link.own_link; children = c.as_slice.result.now },
+        e,
+        record {
+          number = refl;
+          rank = c.rank_of-rank.ensures;
+          link = link_kept c.link.new.links c.child_links.new.links node c.in_ok-own_link.own_link _ c.in_ok-child_links.ensures.more link;
+          children = subst (λ (cs : List ℕ). NamesLinks query tables join (lists_of vs) (lists_of c.args.columns.now.above.items) c.child_links.new.links node c.args.row join.count cs)
+              (sym c.as_slice.ensures.value) c.in_ok-child_links.ensures.names;
+        },
+      ))
+      c.add_row.ensures.ok;
   cost = let few = kids_below_lem (parent_of c.args.join.now) c.args.node c.args.join.now.count (omega (arith, c.requires.at.node)) in
-        omega (arith, few, c.in_ok-child_links.ensures.cost, c.in_ok-own_link.ensures.cost);
+      omega (arith, few, c.in_ok-child_links.ensures.cost, c.in_ok-own_link.ensures.cost);
 }
 
 pub returns-in_err-own_link : goal.returns-in_err-own_link
@@ -121,3 +121,15 @@ child_links-requires-clause-tree g c = c.requires.ready.tree
 
 pub child_links-requires-clause-links : goal.child_links-requires-clause-links
 child_links-requires-clause-links g c = c.in_ok-own_link.ensures.more.count ∙ c.requires.links
+
+pub rank_of-rank-requires-clause-ready : goal.rank_of-rank-requires-clause-ready
+rank_of-rank-requires-clause-ready g c = c.requires.ready
+
+pub rank_of-rank-requires-clause-at : goal.rank_of-rank-requires-clause-at
+rank_of-rank-requires-clause-at g c = c.requires.at
+
+pub child_links-requires-clause-at : goal.child_links-requires-clause-at
+child_links-requires-clause-at g c = c.requires.at
+
+pub child_links-requires-clause-columns : goal.child_links-requires-clause-columns
+child_links-requires-clause-columns g c = c.requires.columns

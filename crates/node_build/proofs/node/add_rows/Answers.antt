@@ -48,8 +48,8 @@ returns-in_err-add_row g c =
     let e = c.from_residual-in_err-add_row.ensures.0 in
     record {
       cost = let less : c.loop-row.row-index + 1 ≤ length c.args.rows.now = omega arith in
-            let most = mul-le-mul_right c.args.join.now.count less in
-            omega (arith, most, c.loop-row.invariant.cost, c.in_err-add_row.ensures.cost);
+          let most = mul-le-mul_right c.args.join.now.count less in
+          omega (arith, most, c.loop-row.invariant.cost, c.in_err-add_row.ensures.cost);
       more = failed r _ e;
       others = failed r _ e;
       rows = failed r _ e;
@@ -91,3 +91,9 @@ returns-in_err-reserve g c =
     let r = c.from_residual.result in
     let e = c.from_residual.ensures.0 in
     record { more = failed r _ e; others = failed r _ e; rows = failed r _ e; cost = omega arith }
+
+pub add_row-requires-clause-ready : goal.add_row-requires-clause-ready
+add_row-requires-clause-ready g c = c.requires.ready
+
+pub add_row-requires-clause-columns : goal.add_row-requires-clause-columns
+add_row-requires-clause-columns g c = c.requires.columns

@@ -25,14 +25,14 @@ loop-row-preserved c =
 pub returns : goal.returns
 returns c = record {
   rows = let tables = c.args.tables.now in
-        let query = c.args.query.now.query in
-        let known : c.len-count.result ≡ length (item_table query tables c.args.item).rows =
-        c.len-count.ensures.rows ∙ ap (λ (t : ℕ). length (table_at tables t).rows) c.table_of.ensures in
-        let all : c.loop-row.row ≡ length (item_table query tables c.args.item).rows + 1 = omega (arith, known) in
-        rows_all query tables c.args.item c.loop-row.row c.loop-row.rows.items all c.loop-row.invariant.rows;
+      let query = c.args.query.now.query in
+      let known : c.len-count.result ≡ length (item_table query tables c.args.item).rows =
+      c.len-count.ensures.rows ∙ ap (λ (t : ℕ). length (table_at tables t).rows) c.table_of.ensures in
+      let all : c.loop-row.row ≡ length (item_table query tables c.args.item).rows + 1 = omega (arith, known) in
+      rows_all query tables c.args.item c.loop-row.row c.loop-row.rows.items all c.loop-row.invariant.rows;
   few = let known : c.len-count.result ≡ length (item_table c.args.query.now.query c.args.tables.now c.args.item).rows =
-        c.len-count.ensures.rows ∙ ap (λ (t : ℕ). length (table_at c.args.tables.now t).rows) c.table_of.ensures in
-        omega (arith, known);
+      c.len-count.ensures.rows ∙ ap (λ (t : ℕ). length (table_at c.args.tables.now t).rows) c.table_of.ensures in
+      omega (arith, known);
   limit = omega (arith, c.len-count.ensures.limit);
 }
 
@@ -54,6 +54,6 @@ passes-requires c = record {
   item = c.requires.item;
   first = omega arith;
   row = let known : c.len-count.result ≡ length (item_table c.args.query.now.query c.args.tables.now c.args.item).rows =
-        c.len-count.ensures.rows ∙ ap (λ (t : ℕ). length (table_at c.args.tables.now t).rows) c.table_of.ensures in
-        omega (arith, known);
+      c.len-count.ensures.rows ∙ ap (λ (t : ℕ). length (table_at c.args.tables.now t).rows) c.table_of.ensures in
+      omega (arith, known);
 }
