@@ -106,12 +106,12 @@ loop-i-preserved g c =
 pub returns : goal.returns
 returns g c = record {
   kept = let now = c.loop-i.kept in
-    let most = length_within c.args.raw.now.rows c.args.node in
-    all_kept c.args.raw.now c.args.node (map links_of c.args.later.now) c.loop-i.i now.rows now.to_child.rows (links_of now.links) now.numbers.items
-        (omega (arith, c.len-i-end.ensures)) (omega (arith, most, c.requires.later.few_rows, c.len-i-end.ensures)) c.loop-i.invariant.so_far;
+      let most = length_within c.args.raw.now.rows c.args.node in
+      all_kept c.args.raw.now c.args.node (map links_of c.args.later.now) c.loop-i.i now.rows now.to_child.rows (links_of now.links) now.numbers.items
+      (omega (arith, c.len-i-end.ensures)) (omega (arith, most, c.requires.later.few_rows, c.len-i-end.ensures)) c.loop-i.invariant.so_far;
   cost = let within : c.loop-i.i ≤ raw_len c.args.raw.now c.args.node = omega (arith, c.len-i-end.ensures) in
-        let steps = room_all c.loop-i.i (length (child_nodes c.args.raw.now c.args.node)) (raw_len c.args.raw.now c.args.node) (length c.args.raw.now.shapes) within (kids_below_lem c.args.raw.now c.args.node [] c.requires.node) in
-        omega (arith, steps, c.loop-i.invariant.counted);
+      let steps = room_all c.loop-i.i (length (child_nodes c.args.raw.now c.args.node)) (raw_len c.args.raw.now c.args.node) (length c.args.raw.now.shapes) within (kids_below_lem c.args.raw.now c.args.node [] c.requires.node) in
+      omega (arith, steps, c.loop-i.invariant.counted);
 }
 
 pub loop-i-init : goal.loop-i-init

@@ -43,10 +43,10 @@ returns-in-None g c = record {
   found = tt;
   named = tt;
   missing = let inside = child_index c.args.raw.now c.args.node c.args.children.now c.requires.children c.loop-place.place c.loop-place-test.true (length c.args.later.now) c.requires.later.count in
-        let names = child_links_at c.args.raw.now c.args.node (map links_of c.args.later.now) c.args.later.now c.args.children.now c.loop-place.place c.index-later-child.result refl c.requires.children inside c.index-later-child.is in
-        let less = subst (λ ks. c.loop-place.place < length ks) c.requires.children c.loop-place-test.true in
-        missed c.args.raw.now c.args.node (map links_of c.args.later.now) c.loop-place.place _ c.args.i (links_of c.index-later-child.result) less names
-        (ap (λ l. list_any (nat_eq l) (links_of c.index-later-child.result)) (sym c.link-link.ensures) ∙ missing_any (nat_eq c.link-link.result) (links_of c.index-later-child.result) c.in-None.ensures.number);
+      let names = child_links_at c.args.raw.now c.args.node (map links_of c.args.later.now) c.args.later.now c.args.children.now c.loop-place.place c.index-later-child.result refl c.requires.children inside c.index-later-child.is in
+      let less = subst (λ ks. c.loop-place.place < length ks) c.requires.children c.loop-place-test.true in
+      missed c.args.raw.now c.args.node (map links_of c.args.later.now) c.loop-place.place _ c.args.i (links_of c.index-later-child.result) less names
+      (ap (λ l. list_any (nat_eq l) (links_of c.index-later-child.result)) (sym c.link-link.ensures) ∙ missing_any (nat_eq c.link-link.result) (links_of c.index-later-child.result) c.in-None.ensures.number);
   cost = omega arith;
 }
 

@@ -15,36 +15,36 @@ pub returns-in_err-grouped : goal.returns-in_err-grouped
 returns-in_err-grouped g c = record {
   reduced = failed c.from_residual.result _ c.from_residual.ensures.0;
   cost = let raw = c.args.tree.now in
-        let v = c.loop-node.node - 1 in
-        let less : v < length raw.rows = omega (arith, c.loop-node.invariant.count, c.nodes-node.ensures.formed.each_node) in
-        let is : c.loop-node.node ≡ suc v = omega arith in
-        let one = steps_same v [] c.loop-node.tree raw c.loop-node.invariant.shapes (c.loop-node.invariant.rows v (omega arith)) c.loop-node.steps c.reduce_node.new.steps c.reduce_node.ensures.cost in
-        steps_few raw.rows v (length raw.shapes) c.args.steps.now c.reduce_node.new.steps
-        (steps_more raw.rows v c.loop-node.node (length raw.shapes) c.args.steps.now c.loop-node.steps c.reduce_node.new.steps less is c.loop-node.invariant.counted one);
+      let v = c.loop-node.node - 1 in
+      let less : v < length raw.rows = omega (arith, c.loop-node.invariant.count, c.nodes-node.ensures.formed.each_node) in
+      let is : c.loop-node.node ≡ suc v = omega arith in
+      let one = steps_same v [] c.loop-node.tree raw c.loop-node.invariant.shapes (c.loop-node.invariant.rows v (omega arith)) c.loop-node.steps c.reduce_node.new.steps c.reduce_node.ensures.cost in
+      steps_few raw.rows v (length raw.shapes) c.args.steps.now c.reduce_node.new.steps
+      (steps_more raw.rows v c.loop-node.node (length raw.shapes) c.args.steps.now c.loop-node.steps c.reduce_node.new.steps less is c.loop-node.invariant.counted one);
 }
 
 pub returns-in_err-insert : goal.returns-in_err-insert
 returns-in_err-insert g c = record {
   reduced = failed c.from_residual-in_err-insert.result _ c.from_residual-in_err-insert.ensures.0;
   cost = let raw = c.args.tree.now in
-        let v = c.loop-node.node - 1 in
-        let less : v < length raw.rows = omega (arith, c.loop-node.invariant.count, c.nodes-node.ensures.formed.each_node) in
-        let is : c.loop-node.node ≡ suc v = omega arith in
-        let one = steps_same v [] c.loop-node.tree raw c.loop-node.invariant.shapes (c.loop-node.invariant.rows v (omega arith)) c.loop-node.steps c.reduce_node.new.steps c.reduce_node.ensures.cost in
-        steps_few raw.rows v (length raw.shapes) c.args.steps.now c.reduce_node.new.steps
-        (steps_more raw.rows v c.loop-node.node (length raw.shapes) c.args.steps.now c.loop-node.steps c.reduce_node.new.steps less is c.loop-node.invariant.counted one);
+      let v = c.loop-node.node - 1 in
+      let less : v < length raw.rows = omega (arith, c.loop-node.invariant.count, c.nodes-node.ensures.formed.each_node) in
+      let is : c.loop-node.node ≡ suc v = omega arith in
+      let one = steps_same v [] c.loop-node.tree raw c.loop-node.invariant.shapes (c.loop-node.invariant.rows v (omega arith)) c.loop-node.steps c.reduce_node.new.steps c.reduce_node.ensures.cost in
+      steps_few raw.rows v (length raw.shapes) c.args.steps.now c.reduce_node.new.steps
+      (steps_more raw.rows v c.loop-node.node (length raw.shapes) c.args.steps.now c.loop-node.steps c.reduce_node.new.steps less is c.loop-node.invariant.counted one);
 }
 
 pub returns-in_err-insert-2 : goal.returns-in_err-insert-2
 returns-in_err-insert-2 g c = record {
   reduced = failed c.from_residual-in_err-insert-2.result _ c.from_residual-in_err-insert-2.ensures.0;
   cost = let raw = c.args.tree.now in
-        let v = c.loop-node.node - 1 in
-        let less : v < length raw.rows = omega (arith, c.loop-node.invariant.count, c.nodes-node.ensures.formed.each_node) in
-        let is : c.loop-node.node ≡ suc v = omega arith in
-        let one = steps_same v [] c.loop-node.tree raw c.loop-node.invariant.shapes (c.loop-node.invariant.rows v (omega arith)) c.loop-node.steps c.reduce_node.new.steps c.reduce_node.ensures.cost in
-        steps_few raw.rows v (length raw.shapes) c.args.steps.now c.reduce_node.new.steps
-        (steps_more raw.rows v c.loop-node.node (length raw.shapes) c.args.steps.now c.loop-node.steps c.reduce_node.new.steps less is c.loop-node.invariant.counted one);
+      let v = c.loop-node.node - 1 in
+      let less : v < length raw.rows = omega (arith, c.loop-node.invariant.count, c.nodes-node.ensures.formed.each_node) in
+      let is : c.loop-node.node ≡ suc v = omega arith in
+      let one = steps_same v [] c.loop-node.tree raw c.loop-node.invariant.shapes (c.loop-node.invariant.rows v (omega arith)) c.loop-node.steps c.reduce_node.new.steps c.reduce_node.ensures.cost in
+      steps_few raw.rows v (length raw.shapes) c.args.steps.now c.reduce_node.new.steps
+      (steps_more raw.rows v c.loop-node.node (length raw.shapes) c.args.steps.now c.loop-node.steps c.reduce_node.new.steps less is c.loop-node.invariant.counted one);
 }
 
 pub loop-node-preserved : goal.loop-node-preserved
@@ -89,10 +89,10 @@ loop-node-preserved g c =
 pub returns : goal.returns
 returns g c = record {
   reduced = let all : length c.args.tree.now.shapes - c.loop-node.node ≡ length c.args.tree.now.shapes = omega arith in
-        whole_reduction g.R.Rank.KEYS g.R.Rank.key c.args.tree.now (map node_view c.loop-node.nodes.items) c.nodes-node.ensures.formed
-        (subst (λ n. AreReducedLast c.args.tree.now n (map node_view c.loop-node.nodes.items)) all c.loop-node.invariant.reduced);
+      whole_reduction g.R.Rank.KEYS g.R.Rank.key c.args.tree.now (map node_view c.loop-node.nodes.items) c.nodes-node.ensures.formed
+      (subst (λ n. AreReducedLast c.args.tree.now n (map node_view c.loop-node.nodes.items)) all c.loop-node.invariant.reduced);
   cost = let raw = c.args.tree.now in
-        steps_few raw.rows c.loop-node.node (length raw.shapes) c.args.steps.now c.loop-node.steps c.loop-node.invariant.counted;
+      steps_few raw.rows c.loop-node.node (length raw.shapes) c.args.steps.now c.loop-node.steps c.loop-node.invariant.counted;
 }
 
 pub loop-node-init : goal.loop-node-init
@@ -121,8 +121,8 @@ reduce_node-requires-clause-later g c =
     let formed = c.loop-node.invariant.formed in
     let nodes = ap length c.loop-node.invariant.shapes in
     record {
-    shaped = formed.shaped;
-    few_rows = formed.few_rows;
-    count = omega (arith, c.loop-node.invariant.count, nodes, ap length c.deref.ensures.value);
-    few = subst (λ ls. AreFew (map links_of ls)) (sym c.deref.ensures.value) c.loop-node.invariant.few;
+      shaped = formed.shaped;
+      few_rows = formed.few_rows;
+      count = omega (arith, c.loop-node.invariant.count, nodes, ap length c.deref.ensures.value);
+      few = subst (λ ls. AreFew (map links_of ls)) (sym c.deref.ensures.value) c.loop-node.invariant.few;
     }
