@@ -28,9 +28,9 @@ invariant_of-self-2 g c =
 pub returns : goal.returns
 returns g c = record {
   ok = let t = c.self.inside in
-        one_more c.args.row t.ranks.items c.reserve.new.self.items c.push_reserved.new.self.items t.numbers.items c.reserve-2.new.self.items c.push_reserved-2.new.self.items
-        c.reserve.ensures.items c.reserve-2.ensures.items c.push_reserved.ensures.items c.push_reserved-2.ensures.items c.self.invariant
-        ∙ ap (λ l. l ++ c.args.row ∷ []) c.self.view_is;
+      one_more c.args.row t.ranks.items c.reserve.new.self.items c.push_reserved.new.self.items t.numbers.items c.reserve-2.new.self.items c.push_reserved-2.new.self.items
+      c.reserve.ensures.items c.reserve-2.ensures.items c.push_reserved.ensures.items c.push_reserved-2.ensures.items c.self.invariant
+      ∙ ap (λ l. l ++ c.args.row ∷ []) c.self.view_is;
   err = tt;
 }
 
@@ -50,5 +50,5 @@ pub returns-in_err-reserve-2 : goal.returns-in_err-reserve-2
 returns-in_err-reserve-2 g c = record {
   ok = failed c.from_residual-in_err-reserve-2.result _ c.from_residual-in_err-reserve-2.ensures.0;
   err = on_err c.from_residual-in_err-reserve-2.result
-        (ap (λ l. ranked_rows l c.reserve-2.new.self.items) c.reserve.ensures.items ∙ ap (ranked_rows c.self.inside.ranks.items) c.reserve-2.ensures.items ∙ c.self.view_is);
+      (ap (λ l. ranked_rows l c.reserve-2.new.self.items) c.reserve.ensures.items ∙ ap (ranked_rows c.self.inside.ranks.items) c.reserve-2.ensures.items ∙ c.self.view_is);
 }

@@ -40,9 +40,9 @@ invariant_of-self-2 g c =
 pub returns : goal.returns
 returns g c = record {
   ok = let t = c.self.inside in
-        one_more c.args.row c.args.own c.args.children.now t.width t.rows.items c.reserve.new.self.items c.push_reserved.new.self.items t.owns.items c.reserve-2.new.self.items c.push_reserved-2.new.self.items
-        t.named.items c.reserve-3.new.self.items c.push_each.new.list.items c.args.self.now c.self.view_is c.self.invariant c.requires
-        c.reserve.ensures.items c.reserve-2.ensures.items c.reserve-3.ensures.items c.push_reserved.ensures.items c.push_reserved-2.ensures.items c.push_each.ensures;
+      one_more c.args.row c.args.own c.args.children.now t.width t.rows.items c.reserve.new.self.items c.push_reserved.new.self.items t.owns.items c.reserve-2.new.self.items c.push_reserved-2.new.self.items
+      t.named.items c.reserve-3.new.self.items c.push_each.new.list.items c.args.self.now c.self.view_is c.self.invariant c.requires
+      c.reserve.ensures.items c.reserve-2.ensures.items c.reserve-3.ensures.items c.push_reserved.ensures.items c.push_reserved-2.ensures.items c.push_each.ensures;
   err = tt;
 }
 
@@ -55,8 +55,8 @@ pub returns-in_err-reserve : goal.returns-in_err-reserve
 returns-in_err-reserve g c = record {
   ok = failed c.from_residual.result _ c.from_residual.ensures.0;
   err = let t = c.self.inside in
-        on_err c.from_residual.result
-        (still_rows t.width t.rows.items c.reserve.new.self.items t.owns.items t.owns.items t.named.items t.named.items c.reserve.ensures.items refl refl ∙ c.self.view_is);
+      on_err c.from_residual.result
+      (still_rows t.width t.rows.items c.reserve.new.self.items t.owns.items t.owns.items t.named.items t.named.items c.reserve.ensures.items refl refl ∙ c.self.view_is);
 }
 
 pub invariant_of-self-in_err-reserve-2 : goal.invariant_of-self-in_err-reserve-2
@@ -69,10 +69,10 @@ pub returns-in_err-reserve-2 : goal.returns-in_err-reserve-2
 returns-in_err-reserve-2 g c = record {
   ok = failed c.from_residual-in_err-reserve-2.result _ c.from_residual-in_err-reserve-2.ensures.0;
   err = let t = c.self.inside in
-        on_err c.from_residual-in_err-reserve-2.result
-        (still_rows t.width t.rows.items c.reserve.new.self.items t.owns.items c.reserve-2.new.self.items t.named.items t.named.items
-        c.reserve.ensures.items c.reserve-2.ensures.items refl
-        ∙ c.self.view_is);
+      on_err c.from_residual-in_err-reserve-2.result
+      (still_rows t.width t.rows.items c.reserve.new.self.items t.owns.items c.reserve-2.new.self.items t.named.items t.named.items
+      c.reserve.ensures.items c.reserve-2.ensures.items refl
+      ∙ c.self.view_is);
 }
 
 pub invariant_of-self-in_err-reserve-3 : goal.invariant_of-self-in_err-reserve-3
@@ -85,8 +85,8 @@ pub returns-in_err-reserve-3 : goal.returns-in_err-reserve-3
 returns-in_err-reserve-3 g c = record {
   ok = failed c.from_residual-in_err-reserve-3.result _ c.from_residual-in_err-reserve-3.ensures.0;
   err = let t = c.self.inside in
-        on_err c.from_residual-in_err-reserve-3.result
-        (still_rows t.width t.rows.items c.reserve.new.self.items t.owns.items c.reserve-2.new.self.items t.named.items c.reserve-3.new.self.items
-        c.reserve.ensures.items c.reserve-2.ensures.items c.reserve-3.ensures.items
-        ∙ c.self.view_is);
+      on_err c.from_residual-in_err-reserve-3.result
+      (still_rows t.width t.rows.items c.reserve.new.self.items t.owns.items c.reserve-2.new.self.items t.named.items c.reserve-3.new.self.items
+      c.reserve.ensures.items c.reserve-2.ensures.items c.reserve-3.ensures.items
+      ∙ c.self.view_is);
 }
