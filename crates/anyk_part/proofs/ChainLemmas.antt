@@ -90,3 +90,17 @@ pub prefix_end : (links : List (Linked Link)) (all ys : List ℕ) (n last : ℕ)
 unfolding chain
 prefix_end links all ys zero last l e = sym e
 prefix_end links all ys (suc n) last l e = absurd (omega arith)
+
+-- ---- the beginning, where no row is read yet
+
+none_left : (n : ℕ) (ys : List ℕ) → drop n (take n ys) ≡ []
+none_left zero ys = refl
+none_left (suc n) [] = refl
+none_left (suc n) (y ∷ ys) = none_left n ys
+
+same_end : (xs : List ℕ) → xs ≡ xs ++ []
+same_end [] = refl
+same_end (x ∷ xs) = ap (λ l. x ∷ l) (same_end xs)
+
+pub prefix_start : (all ys : List ℕ) (n : ℕ) → all ≡ all ++ drop n (take n ys)
+prefix_start all ys n = same_end all ∙ ap (λ l. all ++ l) (sym (none_left n ys))

@@ -28,16 +28,10 @@ pub plan_over-requires-clause-ranks : goal.plan_over-requires-clause-ranks
 plan_over-requires-clause-ranks g c = record { fits = c.requires.fits; keys = c.requires.keys; items = c.requires.slots; limit = c.requires.limit }
 
 pub plan_over-requires-clause-stored : goal.plan_over-requires-clause-stored
-plan_over-requires-clause-stored g c =
-    let stored = c.in_ok-join.ensures.tree in
-    stored
+plan_over-requires-clause-stored g c = c.in_ok-join.ensures.tree
 
 pub plan_over-requires-clause-over : goal.plan_over-requires-clause-over
-plan_over-requires-clause-over g c =
-    let stored = c.in_ok-join.ensures.tree in
-    stored.joined
+plan_over-requires-clause-over g c = c.in_ok-join.ensures.tree.joined
 
 pub plan_over-requires-clause-over_ordered : goal.plan_over-requires-clause-over_ordered
-plan_over-requires-clause-over_ordered g c =
-    let stored = c.in_ok-join.ensures.tree in
-    stored.ordered
+plan_over-requires-clause-over_ordered g c = c.in_ok-join.ensures.tree.ordered

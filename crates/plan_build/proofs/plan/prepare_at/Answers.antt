@@ -36,9 +36,7 @@ pub plan_over-requires-clause-ranks : goal.plan_over-requires-clause-ranks
 plan_over-requires-clause-ranks g c = record { fits = c.requires.fits; keys = c.requires.keys; items = c.requires.slots; limit = c.requires.limit }
 
 pub plan_over-requires-clause-stored : goal.plan_over-requires-clause-stored
-plan_over-requires-clause-stored g c =
-    let stored = c.in_ok-tree.ensures.tree in
-    stored
+plan_over-requires-clause-stored g c = c.in_ok-tree.ensures.tree
 
 pub plan_over-requires-clause-over : goal.plan_over-requires-clause-over
 plan_over-requires-clause-over g c =
@@ -47,6 +45,4 @@ plan_over-requires-clause-over g c =
     joined_again c.args.query.now.query c.in_ok-tree.tree stored.joined c.reroot-rooted.result rooted.count rooted.graphs
 
 pub plan_over-requires-clause-over_ordered : goal.plan_over-requires-clause-over_ordered
-plan_over-requires-clause-over_ordered g c =
-    let rooted = c.reroot-rooted.ensures in
-    rooted.tree
+plan_over-requires-clause-over_ordered g c = c.reroot-rooted.ensures.tree

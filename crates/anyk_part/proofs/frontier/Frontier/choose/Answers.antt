@@ -40,21 +40,21 @@ overflow_add-place g c =
 pub returns-then-place-size : goal.returns-then-place-size
 returns-then-place-size g c = record {
   choice = let t = c.args.tree.now in
-        let w = c.args.walk.now in
-        let links : List (Linked Link) = c.args.self.now.links.entries in
-        let here : ℕ → List ℕ → ℕ = λ place u. in_region (followers t) (region_at t (chain links w.node w.before) place) u in
-        let none : (place : ℕ) → length (members t w.node c.group_at-group.result) ≤ place → (u : List ℕ) → here place u ≡ 0 =
-        λ place far u. none_at g.R.Rank.KEYS g.R.Rank.key t c.args.total.now w c.args.chosen.now links c.requires.ready.at c.requires.ready.node c.group_at-group.result place c.group_at-group.ensures.group far u in
-        record {
-          row = row_is g.R.Rank.KEYS g.R.Rank.key t c.args.total.now w c.args.chosen.now links c.requires.ready.at c.requires.ready.node c.group_at-group.result c.member-row.result c.group_at-group.ensures.group c.member-row.ensures.member;
-          put = refl;
-          each = c.requires.ready.each;
-          held = λ u.
-              put_none w.top_stands (here (2 * w.place + 1) u) (here (2 * w.place + 2) u) (held_by t links c.args.self.now.queue.entries u) (held_by t links (take 1 c.args.self.now.queue.entries) u)
-              (none (2 * w.place + 1) (omega (arith, c.group_len-size.ensures, c.if-place-size.true)) u) (none (2 * w.place + 2) (omega (arith, c.group_len-size.ensures, c.if-place-size.true)) u);
-          stands = λ e. (e, refl);
-          few = omega arith;
-        };
+      let w = c.args.walk.now in
+      let links : List (Linked Link) = c.args.self.now.links.entries in
+      let here : ℕ → List ℕ → ℕ = λ place u. in_region (followers t) (region_at t (chain links w.node w.before) place) u in
+      let none : (place : ℕ) → length (members t w.node c.group_at-group.result) ≤ place → (u : List ℕ) → here place u ≡ 0 =
+      λ place far u. none_at g.R.Rank.KEYS g.R.Rank.key t c.args.total.now w c.args.chosen.now links c.requires.ready.at c.requires.ready.node c.group_at-group.result place c.group_at-group.ensures.group far u in
+      record {
+        row = row_is g.R.Rank.KEYS g.R.Rank.key t c.args.total.now w c.args.chosen.now links c.requires.ready.at c.requires.ready.node c.group_at-group.result c.member-row.result c.group_at-group.ensures.group c.member-row.ensures.member;
+        put = refl;
+        each = c.requires.ready.each;
+        held = λ u.
+            put_none w.top_stands (here (2 * w.place + 1) u) (here (2 * w.place + 2) u) (held_by t links c.args.self.now.queue.entries u) (held_by t links (take 1 c.args.self.now.queue.entries) u)
+            (none (2 * w.place + 1) (omega (arith, c.group_len-size.ensures, c.if-place-size.true)) u) (none (2 * w.place + 2) (omega (arith, c.group_len-size.ensures, c.if-place-size.true)) u);
+        stands = λ e. (e, refl);
+        few = omega arith;
+      };
   links = refl;
   room = omega arith;
   cost = omega (arith, c.group_at-group.ensures.cost, c.member-row.ensures.counted);
@@ -94,56 +94,56 @@ offer-requires-then-place-size-2-clause-room g c = omega (arith, c.requires.room
 pub returns-then-place-size-2 : goal.returns-then-place-size-2
 returns-then-place-size-2 g c = record {
   choice = let t = c.args.tree.now in
-        let w = c.args.walk.now in
-        let links : List (Linked Link) = c.args.self.now.links.entries in
-        let here : ℕ → List ℕ → ℕ = λ place u. in_region (followers t) (region_at t (chain links w.node w.before) place) u in
-        let next : 2 * w.place + 1 + 1 ≡ 2 * w.place + 2 = omega arith in
-        record {
-          row = row_is g.R.Rank.KEYS g.R.Rank.key t c.args.total.now w c.args.chosen.now links c.requires.ready.at c.requires.ready.node c.group_at-group.result c.member-row.result c.group_at-group.ensures.group c.member-row.ensures.member;
-          put = refl;
-          each = subst (λ (l : Entries Link). All (IsEntry g.R.Rank.KEYS g.R.Rank.key t l.entries) c.offer-then-place-size-2.new.self.queue.entries) c.offer.ensures.links c.offer-then-place-size-2.ensures.entries;
-          held = λ u.
-              put_twice w.top_stands (here (2 * w.place + 1) u) (here (2 * w.place + 2) u) (held_by t links c.args.self.now.queue.entries u) (held_by t links (take 1 c.args.self.now.queue.entries) u)
-              (held_by t links c.offer.new.self.queue.entries u) (held_by t links c.offer-then-place-size-2.new.self.queue.entries u)
-              (c.offer.ensures.held u)
-              (subst (λ n. here n u + held_by t links c.offer.new.self.queue.entries u ≡ 0 + held_by t links c.offer-then-place-size-2.new.self.queue.entries u) next
-              (subst (λ (l : Entries Link). in_region (followers t) (region_at t (chain l.entries w.node w.before) (2 * w.place + 1 + 1)) u + held_by t l.entries c.offer.new.self.queue.entries u ≡ 0 + held_by t l.entries c.offer-then-place-size-2.new.self.queue.entries u) c.offer.ensures.links (c.offer-then-place-size-2.ensures.held u)));
-          stands = λ e. absurd (false≢true e);
-          few = omega (arith, c.offer.ensures.length, c.offer-then-place-size-2.ensures.length);
-        };
+      let w = c.args.walk.now in
+      let links : List (Linked Link) = c.args.self.now.links.entries in
+      let here : ℕ → List ℕ → ℕ = λ place u. in_region (followers t) (region_at t (chain links w.node w.before) place) u in
+      let next : 2 * w.place + 1 + 1 ≡ 2 * w.place + 2 = omega arith in
+      record {
+        row = row_is g.R.Rank.KEYS g.R.Rank.key t c.args.total.now w c.args.chosen.now links c.requires.ready.at c.requires.ready.node c.group_at-group.result c.member-row.result c.group_at-group.ensures.group c.member-row.ensures.member;
+        put = refl;
+        each = subst (λ (l : Entries Link). All (IsEntry g.R.Rank.KEYS g.R.Rank.key t l.entries) c.offer-then-place-size-2.new.self.queue.entries) c.offer.ensures.links c.offer-then-place-size-2.ensures.entries;
+        held = λ u.
+            put_twice w.top_stands (here (2 * w.place + 1) u) (here (2 * w.place + 2) u) (held_by t links c.args.self.now.queue.entries u) (held_by t links (take 1 c.args.self.now.queue.entries) u)
+            (held_by t links c.offer.new.self.queue.entries u) (held_by t links c.offer-then-place-size-2.new.self.queue.entries u)
+            (c.offer.ensures.held u)
+            (subst (λ n. here n u + held_by t links c.offer.new.self.queue.entries u ≡ 0 + held_by t links c.offer-then-place-size-2.new.self.queue.entries u) next
+            (subst (λ (l : Entries Link). in_region (followers t) (region_at t (chain l.entries w.node w.before) (2 * w.place + 1 + 1)) u + held_by t l.entries c.offer.new.self.queue.entries u ≡ 0 + held_by t l.entries c.offer-then-place-size-2.new.self.queue.entries u) c.offer.ensures.links (c.offer-then-place-size-2.ensures.held u)));
+        stands = λ e. absurd (false≢true e);
+        few = omega (arith, c.offer.ensures.length, c.offer-then-place-size-2.ensures.length);
+      };
   links = c.offer-then-place-size-2.ensures.links ∙ c.offer.ensures.links;
   room = omega (arith, c.offer-then-place-size-2.ensures.room, c.offer.ensures.room);
   cost = let n = length c.args.self.now.queue.entries in
-        let mid = length c.offer.new.self.queue.entries in
-        let more = c.offer.ensures.length in
-        let a = bit_length_rises (n + 1) (n + 2) (omega arith) in
-        let b = bit_length_rises (mid + 1) (n + 2) (omega (arith, more)) in
-        omega (arith, a, b, c.group_at-group.ensures.cost, c.member-row.ensures.counted, c.best-best.ensures.counted, c.offer.ensures.cost, c.offer-then-place-size-2.ensures.cost);
+      let mid = length c.offer.new.self.queue.entries in
+      let more = c.offer.ensures.length in
+      let a = bit_length_rises (n + 1) (n + 2) (omega arith) in
+      let b = bit_length_rises (mid + 1) (n + 2) (omega (arith, more)) in
+      omega (arith, a, b, c.group_at-group.ensures.cost, c.member-row.ensures.counted, c.best-best.ensures.counted, c.offer.ensures.cost, c.offer-then-place-size-2.ensures.cost);
 }
 
 pub returns-else-place-size-2 : goal.returns-else-place-size-2
 returns-else-place-size-2 g c = record {
   choice = let t = c.args.tree.now in
-        let w = c.args.walk.now in
-        let links : List (Linked Link) = c.args.self.now.links.entries in
-        let here : ℕ → List ℕ → ℕ = λ place u. in_region (followers t) (region_at t (chain links w.node w.before) place) u in
-        let far : length (members t w.node c.group_at-group.result) ≤ 2 * w.place + 2 = omega (arith, c.group_len-size.ensures, c.if-place-size-2.false) in
-        record {
-          row = row_is g.R.Rank.KEYS g.R.Rank.key t c.args.total.now w c.args.chosen.now links c.requires.ready.at c.requires.ready.node c.group_at-group.result c.member-row.result c.group_at-group.ensures.group c.member-row.ensures.member;
-          put = refl;
-          each = c.offer.ensures.entries;
-          held = λ u.
-              put_once w.top_stands (here (2 * w.place + 1) u) (here (2 * w.place + 2) u) (held_by t links c.args.self.now.queue.entries u) (held_by t links (take 1 c.args.self.now.queue.entries) u)
-              (held_by t links c.offer.new.self.queue.entries u) (c.offer.ensures.held u)
-              (none_at g.R.Rank.KEYS g.R.Rank.key t c.args.total.now w c.args.chosen.now links c.requires.ready.at c.requires.ready.node c.group_at-group.result (2 * w.place + 2) c.group_at-group.ensures.group far u);
-          stands = λ e. absurd (false≢true e);
-          few = omega (arith, c.offer.ensures.length);
-        };
+      let w = c.args.walk.now in
+      let links : List (Linked Link) = c.args.self.now.links.entries in
+      let here : ℕ → List ℕ → ℕ = λ place u. in_region (followers t) (region_at t (chain links w.node w.before) place) u in
+      let far : length (members t w.node c.group_at-group.result) ≤ 2 * w.place + 2 = omega (arith, c.group_len-size.ensures, c.if-place-size-2.false) in
+      record {
+        row = row_is g.R.Rank.KEYS g.R.Rank.key t c.args.total.now w c.args.chosen.now links c.requires.ready.at c.requires.ready.node c.group_at-group.result c.member-row.result c.group_at-group.ensures.group c.member-row.ensures.member;
+        put = refl;
+        each = c.offer.ensures.entries;
+        held = λ u.
+            put_once w.top_stands (here (2 * w.place + 1) u) (here (2 * w.place + 2) u) (held_by t links c.args.self.now.queue.entries u) (held_by t links (take 1 c.args.self.now.queue.entries) u)
+            (held_by t links c.offer.new.self.queue.entries u) (c.offer.ensures.held u)
+            (none_at g.R.Rank.KEYS g.R.Rank.key t c.args.total.now w c.args.chosen.now links c.requires.ready.at c.requires.ready.node c.group_at-group.result (2 * w.place + 2) c.group_at-group.ensures.group far u);
+        stands = λ e. absurd (false≢true e);
+        few = omega (arith, c.offer.ensures.length);
+      };
   links = c.offer.ensures.links;
   room = omega (arith, c.offer.ensures.room);
   cost = let n = length c.args.self.now.queue.entries in
-        let a = bit_length_rises (n + 1) (n + 2) (omega arith) in
-        omega (arith, a, c.group_at-group.ensures.cost, c.member-row.ensures.counted, c.best-best.ensures.counted, c.offer.ensures.cost);
+      let a = bit_length_rises (n + 1) (n + 2) (omega arith) in
+      omega (arith, a, c.group_at-group.ensures.cost, c.member-row.ensures.counted, c.best-best.ensures.counted, c.offer.ensures.cost);
 }
 
 pub offer-requires-clause-top : goal.offer-requires-clause-top

@@ -1,4 +1,4 @@
-use Rattle.std.proofs.Common.{◌-◌, ◌<◌, List, length, sym, ap, subst, arith}
+use Rattle.std.proofs.Common.{◌<◌, List, length, sym, ap, subst, arith}
 use Rattle.stream_store.specs.Entries.{Entries}
 use Rattle.take2_heap.specs.declared.entry.Entry.{Entry}
 use Rattle.anyk_part.specs.declared.candidate.Candidate.{Candidate}

@@ -31,23 +31,23 @@ new-candidate-requires-clause-place g c = place_small g.R.Rank.KEYS g.R.Rank.key
 pub returns : goal.returns
 returns g c = record {
   entries = let t = c.args.tree.now in
-        let s = c.args.site.now in
-        let links = c.args.self.now.links.entries in
-        let near : c.args.place < length (members t s.node s.group) = c.requires.place in
-        let e : Entry g.row.R.Denot Candidate = record { rank = c.swap-rank.result; tag = c.new-candidate.result } in
-        entries_put (IsEntry g.R.Rank.KEYS g.R.Rank.key t links) c.args.top_stands e c.args.self.now.queue.entries c.put.new.self.queue.entries (c.put.ensures.replaced e) c.put.ensures.pushed
-        (new_entry g.R.Rank.KEYS g.R.Rank.key t links s c.requires.site c.swap-rank.result c.args.place c.member-row.result (g.R.Rank.key c.best-best.result) near c.member-row.ensures.member c.best-best.ensures.best c.swap-rank.ensures.swapped
-        c.new-candidate.result c.new-candidate.ensures.parts)
-        c.requires.entries;
+      let s = c.args.site.now in
+      let links = c.args.self.now.links.entries in
+      let near : c.args.place < length (members t s.node s.group) = c.requires.place in
+      let e : Entry g.row.R.Denot Candidate = record { rank = c.swap-rank.result; tag = c.new-candidate.result } in
+      entries_put (IsEntry g.R.Rank.KEYS g.R.Rank.key t links) c.args.top_stands e c.args.self.now.queue.entries c.put.new.self.queue.entries (c.put.ensures.replaced e) c.put.ensures.pushed
+      (new_entry g.R.Rank.KEYS g.R.Rank.key t links s c.requires.site c.swap-rank.result c.args.place c.member-row.result (g.R.Rank.key c.best-best.result) near c.member-row.ensures.member c.best-best.ensures.best c.swap-rank.ensures.swapped
+      c.new-candidate.result c.new-candidate.ensures.parts)
+      c.requires.entries;
   held = let t = c.args.tree.now in
-        let s = c.args.site.now in
-        let links = c.args.self.now.links.entries in
-        let e : Entry g.row.R.Denot Candidate = record { rank = c.swap-rank.result; tag = c.new-candidate.result } in
-        held_put g.R.Rank.KEYS g.R.Rank.key t links s c.requires.site c.args.top_stands e c.args.place c.new-candidate.ensures.parts c.args.self.now.queue.entries c.put.new.self.queue.entries c.requires.top (c.put.ensures.replaced e) c.put.ensures.pushed;
+      let s = c.args.site.now in
+      let links = c.args.self.now.links.entries in
+      let e : Entry g.row.R.Denot Candidate = record { rank = c.swap-rank.result; tag = c.new-candidate.result } in
+      held_put g.R.Rank.KEYS g.R.Rank.key t links s c.requires.site c.args.top_stands e c.args.place c.new-candidate.ensures.parts c.args.self.now.queue.entries c.put.new.self.queue.entries c.requires.top (c.put.ensures.replaced e) c.put.ensures.pushed;
   links = c.put.ensures.links;
   room = c.put.ensures.room;
   length = let e : Entry g.row.R.Denot Candidate = record { rank = c.swap-rank.result; tag = c.new-candidate.result } in
-        length_put c.args.top_stands e c.args.self.now.queue.entries c.put.new.self.queue.entries (c.put.ensures.replaced e) c.put.ensures.pushed;
+      length_put c.args.top_stands e c.args.self.now.queue.entries c.put.new.self.queue.entries (c.put.ensures.replaced e) c.put.ensures.pushed;
   cost = omega (arith, c.member-row.ensures.counted, c.best-best.ensures.counted, c.swap-rank.ensures.counted, c.put.ensures.cost);
 }
 

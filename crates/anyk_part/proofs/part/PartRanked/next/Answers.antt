@@ -21,11 +21,11 @@ pub returns-in_default : goal.returns-in_default
 returns-in_default g c = record {
   found = tt;
   end = let t = c.self.inside.tree.now in
-        let links : List (Linked Link) = c.self.inside.frontier.links.entries in
-        let entries : List (Entry g.row.R.Denot Candidate) = c.self.inside.frontier.queue.entries in
-        let empty : length entries ≤ 0 = search rules in
-        let none : rest_of g.R.Rank.KEYS g.R.Rank.key t (candidates_of links (length t) entries) ≡ [] = answers_end g.R.Rank.KEYS g.R.Rank.key t links entries empty in
-        (ap (λ (s : PartView g.row.R.Denot). rest_of g.R.Rank.KEYS g.R.Rank.key s.tree s.candidates) (sym c.self.view_is) ∙ none, none);
+      let links : List (Linked Link) = c.self.inside.frontier.links.entries in
+      let entries : List (Entry g.row.R.Denot Candidate) = c.self.inside.frontier.queue.entries in
+      let empty : length entries ≤ 0 = search rules in
+      let none : rest_of g.R.Rank.KEYS g.R.Rank.key t (candidates_of links (length t) entries) ≡ [] = answers_end g.R.Rank.KEYS g.R.Rank.key t links entries empty in
+      (ap (λ (s : PartView g.row.R.Denot). rest_of g.R.Rank.KEYS g.R.Rank.key s.tree s.candidates) (sym c.self.view_is) ∙ none, none);
   refused = tt;
   counted = c.saturating_add-self-inside.ensures ∙ ap (λ (s : PartView g.row.R.Denot). counted s.calls) c.self.view_is;
   size = ap (λ (s : PartView g.row.R.Denot). size_of s.tree) c.self.view_is;
@@ -96,29 +96,29 @@ invariant_of-self-2 g c = (
 pub returns : goal.returns
 returns g c = record {
   found = let t = c.self.inside.tree.now in
-        let links : List (Linked Link) = c.self.inside.frontier.links.entries in
-        let entries : List (Entry g.row.R.Denot Candidate) = c.self.inside.frontier.queue.entries in
-        ap (λ (s : PartView g.row.R.Denot). rest_of g.R.Rank.KEYS g.R.Rank.key s.tree s.candidates) (sym c.self.view_is)
-        ∙ answer_found g.R.Rank.KEYS g.R.Rank.key t links c.divide.new.self.links.entries entries c.divide.new.self.queue.entries _ c.row_numbers-rows.result
-        (top_next g.R.Rank.KEYS g.R.Rank.key t links c.make_room.new.self.links.entries entries c.make_room.new.self.queue.entries c.self.inside.calls _ _
-        c.make_room.ensures.links c.make_room.ensures.entries c.self.invariant.0 (c.in-Some.ensures.variant.0 refl) c.in-Some.ensures.top
-        c.divide.new.self.links.entries c.divide.new.self.queue.entries c.saturating_add-self-inside.result c.in-Some.ensures.least c.divide.ensures.divided.held c.divide.ensures.divided.each c.in-Some.ensures.limit c.divide.ensures.divided.few c.saturating_add-self-inside.ensures).0
-        (c.row_numbers-rows.ensures.numbers ∙ ap (λ k. rows_of_key g.R.Rank.KEYS 16 k)
-        (top_key g.R.Rank.KEYS g.R.Rank.key t links c.make_room.new.self.links.entries entries c.make_room.new.self.queue.entries c.self.inside.calls _ _
-        c.make_room.ensures.links c.make_room.ensures.entries c.self.invariant.0 (c.in-Some.ensures.variant.0 refl) c.in-Some.ensures.top c.divide.new.chosen c.divide.ensures.divided.best));
+      let links : List (Linked Link) = c.self.inside.frontier.links.entries in
+      let entries : List (Entry g.row.R.Denot Candidate) = c.self.inside.frontier.queue.entries in
+      ap (λ (s : PartView g.row.R.Denot). rest_of g.R.Rank.KEYS g.R.Rank.key s.tree s.candidates) (sym c.self.view_is)
+      ∙ answer_found g.R.Rank.KEYS g.R.Rank.key t links c.divide.new.self.links.entries entries c.divide.new.self.queue.entries _ c.row_numbers-rows.result
+      (top_next g.R.Rank.KEYS g.R.Rank.key t links c.make_room.new.self.links.entries entries c.make_room.new.self.queue.entries c.self.inside.calls _ _
+      c.make_room.ensures.links c.make_room.ensures.entries c.self.invariant.0 (c.in-Some.ensures.variant.0 refl) c.in-Some.ensures.top
+      c.divide.new.self.links.entries c.divide.new.self.queue.entries c.saturating_add-self-inside.result c.in-Some.ensures.least c.divide.ensures.divided.held c.divide.ensures.divided.each c.in-Some.ensures.limit c.divide.ensures.divided.few c.saturating_add-self-inside.ensures).0
+      (c.row_numbers-rows.ensures.numbers ∙ ap (λ k. rows_of_key g.R.Rank.KEYS 16 k)
+      (top_key g.R.Rank.KEYS g.R.Rank.key t links c.make_room.new.self.links.entries entries c.make_room.new.self.queue.entries c.self.inside.calls _ _
+      c.make_room.ensures.links c.make_room.ensures.entries c.self.invariant.0 (c.in-Some.ensures.variant.0 refl) c.in-Some.ensures.top c.divide.new.chosen c.divide.ensures.divided.best));
   end = tt;
   refused = tt;
   counted = c.saturating_add-self-inside.ensures ∙ ap (λ (s : PartView g.row.R.Denot). counted s.calls) c.self.view_is;
   size = ap (λ (s : PartView g.row.R.Denot). size_of s.tree) c.self.view_is;
   cost = let t = c.self.inside.tree.now in
-        let entry = top_entry g.R.Rank.KEYS g.R.Rank.key t c.self.inside.frontier.links.entries c.make_room.new.self.links.entries c.self.inside.frontier.queue.entries c.make_room.new.self.queue.entries c.self.inside.calls _ _
-        c.make_room.ensures.links c.make_room.ensures.entries c.self.invariant.0 (c.in-Some.ensures.variant.0 refl) c.in-Some.ensures.top in
-        let few = c.self.invariant.0.few in
-        let same : length c.make_room.new.self.queue.entries ≡ length c.self.inside.frontier.queue.entries = ap (λ (es : List (Entry g.row.R.Denot Candidate)). length es) c.make_room.ensures.entries in
-        let all : c.row_numbers-rows.new.steps ≤ c.args.steps.now + most_steps (length t) (row_count t) (group_count t 0) c.self.inside.calls =
-        steps_within (length t) (row_count t) (group_count t 0) c.self.inside.calls (length c.make_room.new.self.queue.entries) _ c.args.steps.now c.prefix-chosen.new.steps c.divide.new.steps c.row_numbers-rows.new.steps
-        c.self.invariant.0.formed.shaped.some_node (c.self.invariant.0.live (c.in-Some.ensures.variant.0 refl)) (omega (arith, few, same)) (omega (arith, entry.position)) c.prefix-chosen.ensures.cost c.divide.ensures.cost c.row_numbers-rows.ensures.cost in
-        subst (λ (s : PartView g.row.R.Denot). c.row_numbers-rows.new.steps ≤ c.args.steps.now + most_steps (length s.tree) (row_count s.tree) (group_count s.tree 0) s.calls) c.self.view_is all;
+      let entry = top_entry g.R.Rank.KEYS g.R.Rank.key t c.self.inside.frontier.links.entries c.make_room.new.self.links.entries c.self.inside.frontier.queue.entries c.make_room.new.self.queue.entries c.self.inside.calls _ _
+      c.make_room.ensures.links c.make_room.ensures.entries c.self.invariant.0 (c.in-Some.ensures.variant.0 refl) c.in-Some.ensures.top in
+      let few = c.self.invariant.0.few in
+      let same : length c.make_room.new.self.queue.entries ≡ length c.self.inside.frontier.queue.entries = ap (λ (es : List (Entry g.row.R.Denot Candidate)). length es) c.make_room.ensures.entries in
+      let all : c.row_numbers-rows.new.steps ≤ c.args.steps.now + most_steps (length t) (row_count t) (group_count t 0) c.self.inside.calls =
+      steps_within (length t) (row_count t) (group_count t 0) c.self.inside.calls (length c.make_room.new.self.queue.entries) _ c.args.steps.now c.prefix-chosen.new.steps c.divide.new.steps c.row_numbers-rows.new.steps
+      c.self.invariant.0.formed.shaped.some_node (c.self.invariant.0.live (c.in-Some.ensures.variant.0 refl)) (omega (arith, few, same)) (omega (arith, entry.position)) c.prefix-chosen.ensures.cost c.divide.ensures.cost c.row_numbers-rows.ensures.cost in
+      subst (λ (s : PartView g.row.R.Denot). c.row_numbers-rows.new.steps ≤ c.args.steps.now + most_steps (length s.tree) (row_count s.tree) (group_count s.tree 0) s.calls) c.self.view_is all;
 }
 
 pub row_numbers-rows-requires-clause-tie_free : goal.row_numbers-rows-requires-clause-tie_free
