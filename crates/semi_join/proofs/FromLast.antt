@@ -1,5 +1,5 @@
 -- The last nodes, from the last one back.
-use Rattle.std.proofs.Common.{◌≡◌, ℕ, zero, suc, ◌+◌, ◌-◌, ◌*◌, ◌<◌, ◌≤◌, List, [], ◌∷◌, length, get_or, drop, sum_by, sym, ap, subst, ◌∙◌, arith}
+use Rattle.std.proofs.Common.{◌≡◌, ◌≢◌, ℕ, zero, suc, ◌+◌, ◌-◌, ◌*◌, ◌<◌, ◌≤◌, List, [], ◌∷◌, length, get_or, drop, sum_by, sym, ap, subst, ◌∙◌, arith}
 use Rattle.std.proofs.Math.Nat.{mul-le-mul_left}
 use Rattle.std.proofs.lemmas.List.Sums.{sum_by-cons}
 use Rattle.tdp_core.specs.RawView.{RawView}
@@ -82,3 +82,25 @@ steps_more rows v node m start s0 s1 less is before one =
 -- and they are few
 pub steps_few : {X : Type 0} (rows : List (List X)) (v m start s : ℕ) → s ≤ start + sum_by length (drop v rows) * m → s ≤ start + 2 * m * (1 + sum_by length rows)
 steps_few rows v m start s h = let most = mul-le-mul_left m (rows_all rows v) in omega (arith, h, most)
+
+-- # One node down, in plain numbers
+
+pub record IsStepDown (node n : ℕ) : Type 0 where
+  pub below : node - 1 < n
+  pub is : node ≡ suc (node - 1)
+  pub first : node - 1 < node
+  pub sum : (node - 1) + suc (n - node) ≡ n
+  pub more : suc (n - node) ≡ n - (node - 1)
+
+pub step_down : (node later n : ℕ) → 0 < node → node + later ≡ n → IsStepDown node n
+step_down node later n some count =
+    record { below = omega (arith, some, count); is = omega (arith, some); first = omega (arith, some); sum = omega (arith, some, count); more = omega (arith, some, count) }
+
+pub count_down : (node later more n : ℕ) → 0 < node → node + later ≡ n → more ≡ suc later → node - 1 + more ≡ n
+count_down node later more n some count one = omega (arith, some, count, one)
+
+pub less_apart : (u v : ℕ) → u < v → u ≢ v
+less_apart u v l e = omega (arith, l, e)
+
+pub less_before : (u node : ℕ) → u < node - 1 → u < node
+less_before u node l = omega (arith, l)

@@ -1,11 +1,11 @@
-use Rattle.std.proofs.Common.{◌≡◌, ◌≢◌, suc, ◌+◌, ◌-◌, ◌<◌, ◌∷◌, [], map, length, sym, ap, subst, ◌∙◌, refl, arith}
+use Rattle.std.proofs.Common.{◌≡◌, ◌-◌, ◌<◌, ◌∷◌, [], map, length, sym, ap, subst, ◌∙◌, refl, arith}
 use Rattle.std.proofs.lemmas.List.{get_or-set_other}
 use Rattle.tdp_core.specs.RawView.{IsRawFormed, RawView, rows_at}
 use Rattle.tdp_core.specs.TreeView.{node_view}
 use Rattle.tdp_core.proofs.RawFacts.{formed_less}
 use Rattle.semi_join.specs.Reduction.{links_of, IsReducedNode, AreFew, group_links}
 use Rattle.semi_join.proofs.FromLast.{links_last, AreReducedLast}
-use Rattle.semi_join.proofs.FromLast.{steps_more, steps_few, few_more, few_none, from_more, from_none, links_more, links_none}
+use Rattle.semi_join.proofs.FromLast.{count_down, few_more, few_none, from_more, from_none, less_apart, less_before, links_more, links_none, step_down, steps_few, steps_more}
 use Rattle.semi_join.proofs.SameRows.{links_same, reduced_same, steps_same}
 use Rattle.semi_join.proofs.WholeReduction.{whole_reduction}
 use Rattle.semi_join.proofs.Handed.{failed}
@@ -16,11 +16,11 @@ returns-in_err-grouped g c = record {
   reduced = failed c.from_residual.result _ c.from_residual.ensures.0;
   cost = let raw = c.args.tree.now in
       let v = c.loop-node.node - 1 in
-      let less : v < length raw.rows = omega (arith, c.loop-node.invariant.count, c.nodes-node.ensures.formed.each_node) in
-      let is : c.loop-node.node ≡ suc v = omega arith in
-      let one = steps_same v [] c.loop-node.tree raw c.loop-node.invariant.shapes (c.loop-node.invariant.rows v (omega arith)) c.loop-node.steps c.reduce_node.new.steps c.reduce_node.ensures.cost in
+      let at = step_down c.loop-node.node (length c.loop-node.later.items) (length raw.shapes) (omega arith) c.loop-node.invariant.count in
+      let less : v < length raw.rows = rw c.nodes-node.ensures.formed.each_node at.below in
+      let one = steps_same v [] c.loop-node.tree raw c.loop-node.invariant.shapes (c.loop-node.invariant.rows v at.first) c.loop-node.steps c.reduce_node.new.steps c.reduce_node.ensures.cost in
       steps_few raw.rows v (length raw.shapes) c.args.steps.now c.reduce_node.new.steps
-      (steps_more raw.rows v c.loop-node.node (length raw.shapes) c.args.steps.now c.loop-node.steps c.reduce_node.new.steps less is c.loop-node.invariant.counted one);
+      (steps_more raw.rows v c.loop-node.node (length raw.shapes) c.args.steps.now c.loop-node.steps c.reduce_node.new.steps less at.is c.loop-node.invariant.counted one);
 }
 
 pub returns-in_err-insert : goal.returns-in_err-insert
@@ -28,11 +28,11 @@ returns-in_err-insert g c = record {
   reduced = failed c.from_residual-in_err-insert.result _ c.from_residual-in_err-insert.ensures.0;
   cost = let raw = c.args.tree.now in
       let v = c.loop-node.node - 1 in
-      let less : v < length raw.rows = omega (arith, c.loop-node.invariant.count, c.nodes-node.ensures.formed.each_node) in
-      let is : c.loop-node.node ≡ suc v = omega arith in
-      let one = steps_same v [] c.loop-node.tree raw c.loop-node.invariant.shapes (c.loop-node.invariant.rows v (omega arith)) c.loop-node.steps c.reduce_node.new.steps c.reduce_node.ensures.cost in
+      let at = step_down c.loop-node.node (length c.loop-node.later.items) (length raw.shapes) (omega arith) c.loop-node.invariant.count in
+      let less : v < length raw.rows = rw c.nodes-node.ensures.formed.each_node at.below in
+      let one = steps_same v [] c.loop-node.tree raw c.loop-node.invariant.shapes (c.loop-node.invariant.rows v at.first) c.loop-node.steps c.reduce_node.new.steps c.reduce_node.ensures.cost in
       steps_few raw.rows v (length raw.shapes) c.args.steps.now c.reduce_node.new.steps
-      (steps_more raw.rows v c.loop-node.node (length raw.shapes) c.args.steps.now c.loop-node.steps c.reduce_node.new.steps less is c.loop-node.invariant.counted one);
+      (steps_more raw.rows v c.loop-node.node (length raw.shapes) c.args.steps.now c.loop-node.steps c.reduce_node.new.steps less at.is c.loop-node.invariant.counted one);
 }
 
 pub returns-in_err-insert-2 : goal.returns-in_err-insert-2
@@ -40,11 +40,11 @@ returns-in_err-insert-2 g c = record {
   reduced = failed c.from_residual-in_err-insert-2.result _ c.from_residual-in_err-insert-2.ensures.0;
   cost = let raw = c.args.tree.now in
       let v = c.loop-node.node - 1 in
-      let less : v < length raw.rows = omega (arith, c.loop-node.invariant.count, c.nodes-node.ensures.formed.each_node) in
-      let is : c.loop-node.node ≡ suc v = omega arith in
-      let one = steps_same v [] c.loop-node.tree raw c.loop-node.invariant.shapes (c.loop-node.invariant.rows v (omega arith)) c.loop-node.steps c.reduce_node.new.steps c.reduce_node.ensures.cost in
+      let at = step_down c.loop-node.node (length c.loop-node.later.items) (length raw.shapes) (omega arith) c.loop-node.invariant.count in
+      let less : v < length raw.rows = rw c.nodes-node.ensures.formed.each_node at.below in
+      let one = steps_same v [] c.loop-node.tree raw c.loop-node.invariant.shapes (c.loop-node.invariant.rows v at.first) c.loop-node.steps c.reduce_node.new.steps c.reduce_node.ensures.cost in
       steps_few raw.rows v (length raw.shapes) c.args.steps.now c.reduce_node.new.steps
-      (steps_more raw.rows v c.loop-node.node (length raw.shapes) c.args.steps.now c.loop-node.steps c.reduce_node.new.steps less is c.loop-node.invariant.counted one);
+      (steps_more raw.rows v c.loop-node.node (length raw.shapes) c.args.steps.now c.loop-node.steps c.reduce_node.new.steps less at.is c.loop-node.invariant.counted one);
 }
 
 pub loop-node-preserved : goal.loop-node-preserved
@@ -54,12 +54,11 @@ loop-node-preserved g c =
     let v = c.loop-node.node - 1 in
     let before = c.loop-node.invariant in
     let nodes = ap length before.shapes in
-    let here : v < length tree.shapes = omega (arith, before.count, nodes) in
-    let less : v < length raw.rows = omega (arith, before.count, c.nodes-node.ensures.formed.each_node) in
-    let is : c.loop-node.node ≡ suc v = omega arith in
-    let sum : v + suc (length raw.shapes - c.loop-node.node) ≡ length raw.shapes = omega (arith, before.count) in
-    let more : suc (length raw.shapes - c.loop-node.node) ≡ length raw.shapes - v = omega (arith, before.count) in
-    let same = before.rows v (omega arith) in
+    let some : 0 < c.loop-node.node = omega arith in
+    let at = step_down c.loop-node.node (length c.loop-node.later.items) (length raw.shapes) some before.count in
+    let here : v < length tree.shapes = rw nodes at.below in
+    let less : v < length raw.rows = rw c.nodes-node.ensures.formed.each_node at.below in
+    let same = before.rows v at.first in
     let later = map links_of c.loop-node.later.items in
     let part = node_view c.in_ok-grouped.grouped.parts in
     let links = links_of c.in_ok-grouped.grouped.links in
@@ -71,19 +70,18 @@ loop-node-preserved g c =
       formed = subst (IsRawFormed g.R.Rank.KEYS g.R.Rank.key) (sym c.clear.ensures) (formed_less g.R.Rank.KEYS g.R.Rank.key tree v before.formed here);
       shapes = ap (λ (t : RawView g.row.R.Denot). t.shapes) c.clear.ensures ∙ before.shapes;
       rows = λ u h.
-          let other : u ≢ v = λ e. omega (arith, h, e) in
-          ap (λ (t : RawView g.row.R.Denot). rows_at t u) c.clear.ensures ∙ get_or-set_other tree.rows v u [] [] other ∙ before.rows u (omega (arith, h));
+          ap (λ (t : RawView g.row.R.Denot). rows_at t u) c.clear.ensures ∙ get_or-set_other tree.rows v u [] [] (less_apart u v h) ∙ before.rows u (less_before u c.loop-node.node h);
       reduced =
           subst (λ ps. AreReducedLast raw (length raw.shapes - v) (map node_view ps)) (sym c.in_ok-insert.ensures.items)
-          (subst (λ n. AreReducedLast raw n (part ∷ map node_view c.loop-node.nodes.items)) more
-          (from_more raw (length raw.shapes - c.loop-node.node) v part (map node_view c.loop-node.nodes.items) sum before.reduced reduced));
+          (subst (λ n. AreReducedLast raw n (part ∷ map node_view c.loop-node.nodes.items)) at.more
+          (from_more raw (length raw.shapes - c.loop-node.node) v part (map node_view c.loop-node.nodes.items) at.sum before.reduced reduced));
       links =
           ap (map links_of) c.in_ok-insert-2.ensures.items
-          ∙ links_more raw (length raw.shapes - c.loop-node.node) v links later sum before.links keys
-          ∙ ap (links_last raw) more;
+          ∙ links_more raw (length raw.shapes - c.loop-node.node) v links later at.sum before.links keys
+          ∙ ap (links_last raw) at.more;
       few = subst (λ ls. AreFew (map links_of ls)) (sym c.in_ok-insert-2.ensures.items) (few_more links later c.in_ok-grouped.ensures.few before.few);
-      count = omega (arith, ap length c.in_ok-insert-2.ensures.items, before.count);
-      counted = steps_more raw.rows v c.loop-node.node (length raw.shapes) c.args.steps.now c.loop-node.steps c.reduce_node.new.steps less is before.counted one;
+      count = count_down c.loop-node.node (length c.loop-node.later.items) _ (length raw.shapes) some before.count (ap length c.in_ok-insert-2.ensures.items);
+      counted = steps_more raw.rows v c.loop-node.node (length raw.shapes) c.args.steps.now c.loop-node.steps c.reduce_node.new.steps less at.is before.counted one;
     }
 
 pub returns : goal.returns
