@@ -16,7 +16,7 @@ insert_all_snoc ks [] x = refl
 insert_all_snoc ks (y ∷ ys) x = insert_all_snoc (insert_key nat_eq ks y) ys x
 
 -- steps of i rows, and of one more, are within those of n rows
-pub room : (i k n m : ℕ) → i < n → k + 1 ≤ m → i * (k + 1) + (k + 1) ≤ n * m
+room : (i k n m : ℕ) → i < n → k + 1 ≤ m → i * (k + 1) + (k + 1) ≤ n * m
 room i k n m h l =
     let one = mul-le-mul_left (i + 1) l in
     let two : i + 1 ≤ n = omega arith in
@@ -28,6 +28,17 @@ room_all i k n m h l =
     let one = mul-le-mul_left i l in
     let three = mul-le-mul_left m h in
     omega (arith, one, three)
+
+-- steps for a row that stays, and for one that does not; n is the number of children
+pub kept_steps : (i k n old before mid after now : ℕ) → n ≡ k → before ≤ old + i * (k + 1) → mid ≤ before + n → after ≤ mid + 1 → now ≡ after → now ≤ old + (i + 1) * (k + 1)
+kept_steps i k n old before mid after now same counted found kept is = omega (arith, same, counted, found, kept, is)
+
+pub missed_steps : (i k n old before mid now : ℕ) → n ≡ k → before ≤ old + i * (k + 1) → mid ≤ before + n → now ≡ mid → now ≤ old + (i + 1) * (k + 1)
+missed_steps i k n old before mid now same counted found is = omega (arith, same, counted, found, is)
+
+-- these are within the steps of all rows
+pub steps_within : (i k rows m old now : ℕ) → i < rows → k + 1 ≤ m → now ≤ old + (i + 1) * (k + 1) → now ≤ old + rows * m
+steps_within i k rows m old now h l counted = omega (arith, counted, room i k rows m h l)
 
 numbering_none : IsNumbering [] [] []
 numbering_none = record {

@@ -1,4 +1,4 @@
-use Rattle.std.proofs.Common.{◌≡◌, ◌<◌, ◌+◌, ◌≤◌, ◌++◌, ◌∷◌, [], map, length, sym, ap, subst, ◌∙◌, arith, true, nat_eq, IfSome}
+use Rattle.std.proofs.Common.{◌≡◌, ◌<◌, ◌+◌, ◌≤◌, ◌++◌, ◌∷◌, [], map, length, sym, ap, subst, refl, ◌∙◌, arith, true, nat_eq, IfSome}
 use Rattle.tdp_core.specs.RawView.{raw_len}
 use Rattle.tdp_core.proofs.RawReads.{length_within}
 use Rattle.semi_join.specs.Reduction.{links_of, child_nodes, has_partners, groups_named, EndsInPlaceOf}
@@ -6,7 +6,7 @@ use Rattle.indexmap.specs.IndexSet.{insert_key}
 use Rattle.semi_join.proofs.FirstOnes.{kept_first}
 use Rattle.semi_join.proofs.Rows.{length-map}
 use Rattle.semi_join.proofs.NamedGroups.{named_count}
-use Rattle.semi_join.proofs.SoFar.{IsSoFar, room, room_all, kids_below_lem, none_so_far, all_kept, few_links, missing_row, drop_row, keep_row_lem}
+use Rattle.semi_join.proofs.SoFar.{IsSoFar, all_kept, drop_row, few_links, keep_row_lem, kept_steps, kids_below_lem, missed_steps, missing_row, none_so_far, room_all, steps_within}
 use Rattle.semi_join.proofs.Handed.{failed}
 use Rattle.semi_join.proofs.node.add_rows.Goals as goal
 use Rattle.semi_join.proofs.node.add_rows.Goals.{in-Some+in_ok-keep_row+in-Heap-1, in-Some+in_ok-keep_row+in-Inline-1, in_default}
@@ -17,10 +17,10 @@ returns-in_err-named g c =
     let e = c.from_residual.ensures.0 in
     let all = ap length c.requires.children in
     let within : c.loop-i.i < raw_len c.args.raw.now c.args.node = omega (arith, c.len-i-end.ensures) in
-    let steps = room c.loop-i.i (length (child_nodes c.args.raw.now c.args.node)) (raw_len c.args.raw.now c.args.node) (length c.args.raw.now.shapes) within (kids_below_lem c.args.raw.now c.args.node [] c.requires.node) in
     record {
       kept = failed r _ e;
-      cost = omega (arith, all, steps, c.child_groups.ensures.cost, c.loop-i.invariant.counted);
+      cost = steps_within c.loop-i.i (length (child_nodes c.args.raw.now c.args.node)) (raw_len c.args.raw.now c.args.node) (length c.args.raw.now.shapes) c.args.steps.now _ within
+          (kids_below_lem c.args.raw.now c.args.node [] c.requires.node) (missed_steps c.loop-i.i (length (child_nodes c.args.raw.now c.args.node)) (length c.args.children.now) c.args.steps.now c.loop-i.steps c.child_groups.new.steps _ all c.loop-i.invariant.counted c.child_groups.ensures.cost refl);
     }
 
 pub keep_row-requires-clause-few : goal.keep_row-requires-clause-few
@@ -52,10 +52,10 @@ returns-in_err-keep_row g c =
     let e = c.from_residual-in_err-keep_row.ensures.0 in
     let all = ap length c.requires.children in
     let within : c.loop-i.i < raw_len c.args.raw.now c.args.node = omega (arith, c.len-i-end.ensures) in
-    let steps = room c.loop-i.i (length (child_nodes c.args.raw.now c.args.node)) (raw_len c.args.raw.now c.args.node) (length c.args.raw.now.shapes) within (kids_below_lem c.args.raw.now c.args.node [] c.requires.node) in
     record {
       kept = failed r _ e;
-      cost = omega (arith, all, steps, c.child_groups.ensures.cost, c.keep_row.ensures.cost, c.loop-i.invariant.counted);
+      cost = steps_within c.loop-i.i (length (child_nodes c.args.raw.now c.args.node)) (raw_len c.args.raw.now c.args.node) (length c.args.raw.now.shapes) c.args.steps.now _ within
+          (kids_below_lem c.args.raw.now c.args.node [] c.requires.node) (kept_steps c.loop-i.i (length (child_nodes c.args.raw.now c.args.node)) (length c.args.children.now) c.args.steps.now c.loop-i.steps c.child_groups.new.steps c.keep_row.new.steps _ all c.loop-i.invariant.counted c.child_groups.ensures.cost c.keep_row.ensures.cost refl);
     }
 
 pub loop-i-preserved : goal.loop-i-preserved
@@ -79,7 +79,8 @@ loop-i-preserved g c =
           record {
             so_far = subst (λ k. IsSoFar raw node later (i + 1) k.rows k.to_child.rows (links_of k.links) k.numbers.items) (sym w.kept-is) kept;
             width = ap (λ k. k.to_child.width) w.kept-is ∙ ap (λ v. v.width) w.in_ok-keep_row.ensures.to_child ∙ c.loop-i.invariant.width;
-            counted = omega (arith, all, c.child_groups.ensures.cost, w.keep_row.ensures.cost, c.loop-i.invariant.counted, w.steps-is);
+            counted = kept_steps i (length (child_nodes raw node)) (length c.args.children.now) c.args.steps.now c.loop-i.steps c.child_groups.new.steps w.keep_row.new.steps _ all c.loop-i.invariant.counted
+                c.child_groups.ensures.cost w.keep_row.ensures.cost w.steps-is;
           }
       | in-Some+in_ok-keep_row+in-Inline-1 w ↦
           let new = w.keep_row.new.kept in
@@ -92,14 +93,16 @@ loop-i-preserved g c =
           record {
             so_far = subst (λ k. IsSoFar raw node later (i + 1) k.rows k.to_child.rows (links_of k.links) k.numbers.items) (sym w.kept-is) kept;
             width = ap (λ k. k.to_child.width) w.kept-is ∙ ap (λ v. v.width) w.in_ok-keep_row.ensures.to_child ∙ c.loop-i.invariant.width;
-            counted = omega (arith, all, c.child_groups.ensures.cost, w.keep_row.ensures.cost, c.loop-i.invariant.counted, w.steps-is);
+            counted = kept_steps i (length (child_nodes raw node)) (length c.args.children.now) c.args.steps.now c.loop-i.steps c.child_groups.new.steps w.keep_row.new.steps _ all c.loop-i.invariant.counted
+                c.child_groups.ensures.cost w.keep_row.ensures.cost w.steps-is;
           }
       | in_default w ↦
           let gone = drop_row raw node later i old.rows children (links_of old.links) old.numbers.items c.loop-i.invariant.so_far (missing_row raw node later c.in_ok-named.field-0 i w.in_default.is c.in_ok-named.ensures.missing) in
           record {
             so_far = subst (λ k. IsSoFar raw node later (i + 1) k.rows k.to_child.rows (links_of k.links) k.numbers.items) (sym w.kept-is) gone;
             width = ap (λ k. k.to_child.width) w.kept-is ∙ c.loop-i.invariant.width;
-            counted = omega (arith, all, c.child_groups.ensures.cost, c.loop-i.invariant.counted, w.steps-is);
+            counted = missed_steps i (length (child_nodes raw node)) (length c.args.children.now) c.args.steps.now c.loop-i.steps c.child_groups.new.steps _ all c.loop-i.invariant.counted
+                c.child_groups.ensures.cost w.steps-is;
           }
     ]
 
