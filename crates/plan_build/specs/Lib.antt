@@ -1,5 +1,5 @@
-pub mod Plans
-pub mod Making
-pub mod Plan
-pub mod RankedPlan
 pub mod Faults
+pub mod Making
+pub mod RankedPlan
+pub mod Plan
+pub mod Plans
