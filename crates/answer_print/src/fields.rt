@@ -5,8 +5,8 @@ ghost use Rattle.anyk_model.specs.Output.{optional_field};
 ghost use Rattle.csv_tables.specs.WrittenRecords.{HasFields};
 
 use csv_tables::RecordWriter;
-use number_text::NumberText;
 use step_counter::NoMemory;
+use text_lines::NumberText;
 
 /// Writes a field, if there is one. `NoMemory` if memory is refused.
 pub fn push_optional(records: &mut RecordWriter, field: Option<&[u8]>) -> Result<(), NoMemory>

@@ -4,10 +4,15 @@ pub mod Filters
 pub mod Graph
 pub mod Inside
 pub mod Items
+pub mod JoinTreeView
 pub mod Parts
 pub mod QueryView
-pub mod StoredParts
+pub mod Report
+pub mod RunBounds
 pub mod SelectionView
+pub mod Shape
+pub mod Steps
+pub mod StoredParts
 pub mod WeighedQuery
 pub mod WeighedView
 pub mod Weights

@@ -6,7 +6,7 @@ use Rattle.anyk_model.specs.Table.{Table}
 use Rattle.anyk_model.specs.Query.{Query, IsCombination, row_counts}
 use Rattle.anyk_model.specs.Output.{cut}
 use Rattle.tdp_core.specs.AnswerView.{AnswerView}
-use Rattle.step_bounds.specs.Steps.{calls_for}
+use Rattle.bound_query.specs.Steps.{calls_for}
 use Rattle.witness_key.specs.WitnessKey.{AreCombinations, combinations_in}
 use Rattle.verdict.specs.Summary.{member_text, rows_in_all, summary_text}
 use Rattle.command_output.specs.Ends.{HasEnds, ends_text}

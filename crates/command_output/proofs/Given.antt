@@ -9,7 +9,7 @@ use Rattle.std.proofs.KnownBytes.{Appends-trans}
 use Rattle.anyk_model.specs.Output.{cut}
 use Rattle.refusal_lines.specs.declared.fault.PrintFault.{PrintFault}
 use Rattle.refusal_lines.specs.declared.fault.PrintFault.TheVariants as fault
-use Rattle.step_bounds.proofs.Calls.{HasCalled}
+use Rattle.bound_query.proofs.Calls.{HasCalled}
 use Rattle.refusal_lines.specs.Printing.{Printed}
 use Rattle.refusal_lines.specs.SinkState.{SinkState}
 use Rattle.refusal_lines.proofs.Prints.{printed_stopped, printed_then}

@@ -6,9 +6,9 @@ use Rattle.std.proofs.lemmas.Bool.{cases_lt}
 use Rattle.std.proofs.lemmas.List.{drop_all, drop_more, length-append, length-drop, take_all, take_more}
 use Rattle.anyk_model.specs.Output.{cut}
 use Rattle.tdp_core.specs.AnswerView.{AnswerView}
-use Rattle.step_bounds.specs.Steps.{steps_for}
-use Rattle.step_bounds.proofs.Pacing.{steps_more}
-use Rattle.step_bounds.proofs.Calls.{HasCalled, rises_from}
+use Rattle.bound_query.specs.Steps.{steps_for}
+use Rattle.bound_query.proofs.Pacing.{steps_more}
+use Rattle.bound_query.proofs.Calls.{HasCalled, rises_from}
 use Rattle.command_output.specs.Ends.{HasEnds}
 use Rattle.command_output.specs.declared.ends.Ends.{Ends}
 

@@ -3,8 +3,8 @@ use Rattle.std.proofs.Common.{◌≡◌, ◌+◌, ◌-◌, ◌*◌, ◌<◌, ◌
 use Rattle.std.proofs.lemmas.Bool.{cases_lt}
 use Rattle.std.proofs.lemmas.Nat.{mul-le}
 use Rattle.cursor_set.specs.CursorSet.{CursorSet, IsKnownAt, Keeps, place_of, seen_of}
-use Rattle.step_bounds.specs.Steps.{steps_for}
-use Rattle.step_bounds.proofs.Pacing.{steps_more}
+use Rattle.bound_query.specs.Steps.{steps_for}
+use Rattle.bound_query.proofs.Pacing.{steps_more}
 use Rattle.command_output.specs.SessionCosts.{IsWithin, Paid, Spent, engine_steps}
 
 module _ (share : List ℕ → ℕ → ℕ) (rises : (s : List ℕ) (c d : ℕ) → c ≤ d → share s c ≤ share s d) where

@@ -4,8 +4,8 @@ use Rattle.std.proofs.lemmas.Bool.{cases_eq, cases_lt, eq-eqb}
 use Rattle.std.proofs.lemmas.List.{get_or_past, length-append}
 use Rattle.std.proofs.lemmas.List.Elements.{filter-append}
 use Rattle.tdp_core.specs.AnswerView.{counted}
-use Rattle.step_bounds.specs.Steps.{steps_for}
-use Rattle.step_bounds.proofs.Pacing.{steps_more, steps_next}
+use Rattle.bound_query.specs.Steps.{steps_for}
+use Rattle.bound_query.proofs.Pacing.{steps_more, steps_next}
 use Rattle.anyk_model.specs.TaggedRows.{Tagged}
 use Rattle.anyk_model.specs.Union.{members_in}
 use Rattle.union_all.specs.Merge.{EngineView, IsCalled, MergeView, engine_at}

@@ -7,8 +7,8 @@ use Rattle.std.specs.List.{flat_map}
 use Rattle.std.specs.Io.KnownBytes.{Appends}
 use Rattle.std.proofs.KnownBytes.{Appends-trans}
 use Rattle.anyk_model.specs.Output.{cut}
-use Rattle.step_bounds.specs.Steps.{whole_lines}
-use Rattle.step_bounds.proofs.Pacing.{whole_front}
+use Rattle.bound_query.specs.Steps.{whole_lines}
+use Rattle.bound_query.proofs.Pacing.{whole_front}
 use Rattle.anyk_model.specs.TaggedRows.{Tagged}
 use Rattle.command_output.specs.UnionSteps.{UnionPaced}
 

@@ -1,7 +1,7 @@
 -- The cost of calls on a set of cursors.
 use Rattle.std.specs.Prelude.{◌≡◌, ◌+◌, ◌-◌, ◌*◌, ◌≤◌, ℕ, List, Option, None, Some, Result, OnOk, nat_lt, max, if◌then◌else◌}
 use Rattle.cursor_set.specs.CursorSet.{CursorSet, seen_of}
-use Rattle.step_bounds.specs.Steps.{steps_for}
+use Rattle.bound_query.specs.Steps.{steps_for}
 
 -- the greatest number of steps of the next `calls` calls of the engine, in this state of the set
 abbrev pub engine_steps : (List ℕ → ℕ → ℕ) → CursorSet → ℕ → ℕ

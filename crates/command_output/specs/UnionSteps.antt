@@ -3,7 +3,7 @@ use Rattle.std.specs.Prelude.{◌≡◌, ◌≤◌, ◌+◌, ◌<◌, ℕ, Optio
 use Rattle.std.specs.List.{AllByRecursion}
 use Rattle.anyk_model.specs.Query.{IsCombination, Query, row_counts}
 use Rattle.anyk_model.specs.Table.{Table}
-use Rattle.step_bounds.specs.Steps.{steps_for, whole_lines}
+use Rattle.bound_query.specs.Steps.{steps_for, whole_lines}
 use Rattle.anyk_model.specs.TaggedRows.{Tagged, branch_at}
 use Rattle.anyk_model.specs.Union.{members_in}
 use Rattle.union_all.specs.Merge.{EngineView}

@@ -1,7 +1,7 @@
 //! The first and the last of the answers.
 ghost use Rattle.std.specs.Prelude.{◌≡◌, ◌+◌, ◌++◌, ◌∷◌, ◌≤◌, ◌<◌, [], IfOk, List, length};
 ghost use Rattle.anyk_model.specs.Output.{cut};
-ghost use Rattle.step_bounds.specs.Steps.{calls_for, steps_for};
+ghost use Rattle.bound_query.specs.Steps.{calls_for, steps_for};
 ghost use Rattle.tdp_core.specs.AnswerView.{AnswerView};
 ghost use Rattle.command_output.specs.Ends.{HasEnds};
 

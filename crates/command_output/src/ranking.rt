@@ -5,7 +5,7 @@ ghost use Rattle.anyk_model.specs.Output.{cut, header_text, line_text, output_of
 ghost use Rattle.answer_print.specs.StyleView.{style_view};
 ghost use Rattle.bound_query.specs.WeighedQuery.{Fits};
 ghost use Rattle.witness_key.specs.WitnessKey.{AreCombinations, combinations_in};
-ghost use Rattle.step_bounds.specs.Steps.{Paced, calls_for, steps_for, whole_lines};
+ghost use Rattle.bound_query.specs.Steps.{Paced, calls_for, steps_for, whole_lines};
 ghost use Rattle.refusal_lines.specs.Printing.{Printed};
 ghost use Rattle.refusal_lines.specs.SinkState.{state_of};
 

@@ -8,7 +8,7 @@ ghost use Rattle.refusal_lines.specs.SinkState.{state_of};
 ghost use Rattle.session_script.specs.Script.{KeepsRules};
 ghost use Rattle.verdict.specs.Session.{Places, no_cursors, session_text};
 ghost use Rattle.verdict.specs.SessionCalls.{calls_of_steps, ends_by_itself, reach_of_steps};
-ghost use Rattle.step_bounds.specs.Steps.{steps_for};
+ghost use Rattle.bound_query.specs.Steps.{steps_for};
 ghost use Rattle.witness_key.specs.WitnessKey.{AreCombinations, combinations_in};
 ghost use Rattle.command_output.specs.OpenCursors.{IsHeld};
 ghost use Rattle.command_output.specs.SessionRules.{CanStep};

@@ -4,7 +4,7 @@ ghost use Rattle.anyk_model.specs.Output.{cut};
 ghost use Rattle.bound_query.specs.WeighedQuery.{Fits};
 ghost use Rattle.refusal_lines.specs.Printing.{Printed};
 ghost use Rattle.refusal_lines.specs.SinkState.{state_of};
-ghost use Rattle.step_bounds.specs.Steps.{calls_for, steps_for};
+ghost use Rattle.bound_query.specs.Steps.{calls_for, steps_for};
 ghost use Rattle.verdict.specs.Summary.{summary_text};
 ghost use Rattle.witness_key.specs.WitnessKey.{AreCombinations, combinations_in};
 

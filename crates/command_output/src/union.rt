@@ -4,7 +4,7 @@ ghost use Rattle.std.specs.List.{All, flat_map};
 ghost use Rattle.anyk_model.specs.Output.{cut};
 ghost use Rattle.answer_print.specs.StyleView.{style_view};
 ghost use Rattle.bound_query.specs.WeighedQuery.{Fits};
-ghost use Rattle.step_bounds.specs.Steps.{whole_lines};
+ghost use Rattle.bound_query.specs.Steps.{whole_lines};
 ghost use Rattle.refusal_lines.specs.Printing.{Printed};
 ghost use Rattle.refusal_lines.specs.SinkState.{state_of};
 ghost use Rattle.anyk_model.specs.UnionOutput.{union_header_text, union_line_text, union_output_of};

@@ -8,7 +8,7 @@ use Rattle.rankings.specs.Order.{BelowAll, IsAscending, IsMember}
 use Rattle.rankings.proofs.Members.{contains_member, member_contains}
 use Rattle.bound_query.specs.Classes.{Passes, row_field}
 use Rattle.bound_query.specs.Graph.{IsGraphOf}
-use Rattle.query_shape.specs.Shape.{HasNodeRows, HasTree, IsShape, Shape}
+use Rattle.bound_query.specs.Shape.{HasNodeRows, HasTree, IsShape, Shape}
 use Rattle.load_law.proofs.Bound.{four_tables, load_bound}
 use Rattle.load_law.proofs.Chain.{chain_are_variables, chain_free, chain_variable, chain_variables, one_place}
 use Rattle.load_law.proofs.ChainTree.{chain_above, chain_atoms, chain_graph, chain_is_graph, chain_join_tree, chain_order, chain_removal, chain_tree}

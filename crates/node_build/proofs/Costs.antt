@@ -9,7 +9,7 @@ use Rattle.anyk_model.specs.Table.{Table, table_at}
 use Rattle.anyk_model.specs.Query.{Item, Query, item_table, row_counts}
 use Rattle.bound_query.specs.Parts.{sum_of_all}
 use Rattle.bound_query.specs.WeighedQuery.{BoundQuery}
-use Rattle.step_bounds.proofs.NodeSums.{fewer_nodes, lengths_fewer, over}
+use Rattle.bound_query.proofs.NodeSums.{fewer_nodes, lengths_fewer, over}
 use Rattle.node_build.specs.Nodes.{IsJoinTreeOf, TellsFault, item_of}
 use Rattle.node_build.specs.Rows.{HaveRows, lists_of, table_rows}
 use Rattle.node_build.specs.declared.built.BuildFault.TheVariants as fault

@@ -17,7 +17,7 @@ use Rattle.anyk_model.specs.Table.{Table}
 use Rattle.bound_query.specs.WeighedQuery.{BoundQuery}
 use Rattle.bound_query.specs.Weights.{cap_of, key_at, part_of}
 use Rattle.bound_query.proofs.Parts.{part_capped}
-use Rattle.step_bounds.proofs.NodeSums.{fewer_nodes, over}
+use Rattle.bound_query.proofs.NodeSums.{fewer_nodes, over}
 use Rattle.node_build.specs.Nodes.{CapsBelow, cap_at, item_of, parent_of, row_parts}
 use Rattle.node_build.specs.Shapes.{AreShapesOf}
 use Rattle.node_build.proofs.Naming.{kids_ap}

@@ -13,7 +13,7 @@ use Rattle.anyk_model.specs.Query.{Query}
 use Rattle.bound_query.proofs.Sums.{sum_ap, sum_zero}
 use Rattle.bound_query.specs.WeighedQuery.{BoundQuery}
 use Rattle.bound_query.proofs.Parts.{counts}
-use Rattle.step_bounds.proofs.NodeSums.{fewer_nodes, over, sum_fewer, sum_same}
+use Rattle.bound_query.proofs.NodeSums.{fewer_nodes, over, sum_fewer, sum_same}
 use Rattle.node_build.specs.Nodes.{CapsBelow, IsJoinTreeOf, cap_at, item_of}
 use Rattle.node_build.specs.Shapes.{AreShapesOf}
 use Rattle.node_build.proofs.Shaped.{apart, item_known}

@@ -8,10 +8,10 @@ use Rattle.anyk_model.specs.Table.{Table}
 use Rattle.anyk_model.specs.Query.{Query}
 use Rattle.bound_query.specs.Parts.{sum_of_all}
 use Rattle.bound_query.specs.WeighedQuery.{BoundQuery}
-use Rattle.query_shape.specs.Shape.{HasNodeRows, HasShape, IsShape, Shape, too_many_rows}
+use Rattle.bound_query.specs.Shape.{HasNodeRows, HasShape, IsShape, Shape, too_many_rows}
 use Rattle.rankings.specs.NodeRows.{most_node_rows}
-use Rattle.query_shape.specs.JoinTreeView.{HasStoredTree}
-use Rattle.step_bounds.proofs.NodeSums.{sum_of_lengths}
+use Rattle.bound_query.specs.JoinTreeView.{HasStoredTree}
+use Rattle.bound_query.proofs.NodeSums.{sum_of_lengths}
 use Rattle.node_build.specs.Nodes.{AreNodeRows, AreRowsOfNodes, IsBuilt, IsJoinTreeOf, item_of}
 
 -- a stored tree of ear removal is a join tree with a node for each item

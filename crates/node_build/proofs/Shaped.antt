@@ -15,7 +15,7 @@ use Rattle.bound_query.specs.WeighedQuery.{BoundQuery, Fits}
 use Rattle.bound_query.specs.Weights.{KeyInRange, cap_of, key_at}
 use Rattle.bound_query.proofs.Parts.{caps_add}
 use Rattle.bound_query.proofs.Lists.{all_at}
-use Rattle.step_bounds.proofs.NodeSums.{AreApart, fewer_nodes, over, sum_same}
+use Rattle.bound_query.proofs.NodeSums.{AreApart, fewer_nodes, over, sum_same}
 use Rattle.node_build.specs.Nodes.{CapsBelow, IsJoinTreeOf, cap_at, item_of, parent_of}
 use Rattle.node_build.specs.Shapes.{AreShapesOf}
 

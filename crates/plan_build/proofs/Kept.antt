@@ -5,7 +5,7 @@ use Rattle.rankings.specs.KeyTuple.{KeyOf}
 use Rattle.rankings.specs.TreeProblem.{sum_from}
 use Rattle.tdp_core.specs.RawView.{RawView, raw_len, raw_row_at, row_total}
 use Rattle.tdp_core.specs.TreeView.{NodeView, node_at, rows}
-use Rattle.step_bounds.proofs.NodeSums.{lengths_in_all, sum_fewer}
+use Rattle.bound_query.proofs.NodeSums.{lengths_in_all, sum_fewer}
 use Rattle.semi_join.specs.ReducedTrees.{IsReduced}
 use Rattle.plan_build.proofs.Sizes.{few_below}
 

@@ -7,8 +7,8 @@ use Rattle.rankings.specs.KeyTuple.{KeyOf}
 use Rattle.anyk_model.specs.Table.{Table}
 use Rattle.bound_query.specs.WeighedQuery.{BoundQuery}
 use Rattle.join_tree.specs.Rerooting.{IsTree}
-use Rattle.query_shape.specs.Shape.{Shape}
-use Rattle.query_shape.specs.JoinTreeView.{HasItems}
+use Rattle.bound_query.specs.Shape.{Shape}
+use Rattle.bound_query.specs.JoinTreeView.{HasItems}
 use Rattle.plan_build.specs.Plan.{IsPlanFor, PlanView, shape_of}
 
 map_same : (ns : List ℕ) → map (λ (n : ℕ). n) ns ≡ ns

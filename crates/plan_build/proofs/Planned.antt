@@ -13,11 +13,11 @@ use Rattle.anyk_model.specs.Table.{Table}
 use Rattle.anyk_model.specs.Query.{row_counts}
 use Rattle.bound_query.specs.Parts.{sum_of_all}
 use Rattle.bound_query.specs.WeighedQuery.{BoundQuery, Fits}
-use Rattle.query_shape.specs.Shape.{HasShape, IsShape, too_many_rows}
-use Rattle.query_shape.specs.JoinTreeView.{HasItems, HasStoredTree}
+use Rattle.bound_query.specs.Shape.{HasShape, IsShape, too_many_rows}
+use Rattle.bound_query.specs.JoinTreeView.{HasItems, HasStoredTree}
 use Rattle.node_build.specs.Nodes.{IsBuilt, IsJoinTreeOf, PassesBudget, item_of, parent_of}
 use Rattle.node_build.proofs.ShapeOf.{flaw_if_many, join_tree_of, numbers_in_all, numbers_of, rows_of_built, same_lengths, shape_of_rows}
-use Rattle.step_bounds.proofs.NodeSums.{sum_fewer, sum_of_lengths}
+use Rattle.bound_query.proofs.NodeSums.{sum_fewer, sum_of_lengths}
 use Rattle.semi_join.specs.ReducedTrees.{IsReduced}
 use Rattle.tree_dp.specs.SolvedTrees.{IsSolved}
 use Rattle.plan_build.specs.Plan.{IsPlanFor, shape_view}

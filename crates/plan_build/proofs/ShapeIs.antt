@@ -5,9 +5,9 @@ use Rattle.tdp_core.specs.TreeView.{row_count}
 use Rattle.anyk_model.specs.Table.{Table}
 use Rattle.anyk_model.specs.Query.{Query}
 use Rattle.bound_query.specs.WeighedQuery.{BoundQuery}
-use Rattle.query_shape.specs.Shape.{Flaw, IsShape, Shape}
-use Rattle.query_shape.proofs.OneShape.{one_shape}
-use Rattle.query_shape.specs.Report.{total_rows}
+use Rattle.bound_query.specs.Shape.{Flaw, IsShape, Shape}
+use Rattle.bound_query.proofs.OneShape.{one_shape}
+use Rattle.bound_query.specs.Report.{total_rows}
 use Rattle.plan_build.specs.Plan.{IsPlanFor, PlanView, shape_of}
 
 -- a query has one shape

@@ -11,7 +11,7 @@ use Rattle.bound_query.specs.Parts.{sum_of_all}
 use Rattle.bound_query.specs.WeighedQuery.{BoundQuery, Fits}
 use Rattle.join_tree.specs.Rerooting.{IsTree}
 use Rattle.join_tree.specs.declared.tree.JoinTree.{JoinTree}
-use Rattle.query_shape.specs.JoinTreeView.{HasItems, HasStoredTree}
+use Rattle.bound_query.specs.JoinTreeView.{HasItems, HasStoredTree}
 use Rattle.node_build.specs.Nodes.{CapsBelow, IsBuilt, IsJoinTreeOf, item_of, parent_of}
 use Rattle.plan_build.specs.Plan.{IsPlanFor, PlanView}
 

@@ -15,11 +15,11 @@ use Rattle.bound_query.specs.Weights.{part_of}
 use Rattle.rank_key.specs.Keys.{row_key}
 use Rattle.join_tree.specs.Rerooting.{IsSameTree, IsTree}
 use Rattle.join_tree.specs.declared.tree.JoinTree.{JoinTree}
-use Rattle.query_shape.specs.Shape.{IsShape, Shape}
-use Rattle.query_shape.specs.JoinTreeView.{HasItems}
+use Rattle.bound_query.specs.Shape.{IsShape, Shape}
+use Rattle.bound_query.specs.JoinTreeView.{HasItems}
 use Rattle.node_build.specs.Nodes.{IsJoinTreeOf, RowsAgree, RowsAlike}
 use Rattle.semi_join.specs.ReducedTrees.{ShareGroup}
-use Rattle.query_shape.specs.Report.{total_rows}
+use Rattle.bound_query.specs.Report.{total_rows}
 use Rattle.witness_key.specs.WitnessKey.{witness_key}
 
 -- a solved tree, its join tree, the number of rows of each node before the reduction, and the

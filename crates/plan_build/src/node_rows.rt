@@ -1,7 +1,7 @@
 //! The numbers of rows of the nodes of a join tree, in the order of another one.
 ghost use Rattle.std.specs.Prelude.{◌≡◌, ◌<◌, ◌≤◌, length, slice_index, ℕ};
 ghost use Rattle.join_tree.specs.Rerooting.{IsTree};
-ghost use Rattle.query_shape.specs.JoinTreeView.{HasItems};
+ghost use Rattle.bound_query.specs.JoinTreeView.{HasItems};
 
 use join_tree::JoinTree;
 

@@ -3,7 +3,7 @@ ghost use Rattle.std.specs.Prelude.{◌↔◌, ◌^◌, ◌<◌, ◌≤◌, IfEr
 ghost use Rattle.anyk_model.specs.Table.{Table};
 ghost use Rattle.bound_query.specs.WeighedQuery.{Fits};
 ghost use Rattle.node_build.specs.Nodes.{CapsBelow};
-ghost use Rattle.step_bounds.specs.RunBounds.{IsPrepared};
+ghost use Rattle.bound_query.specs.RunBounds.{IsPrepared};
 ghost use Rattle.plan_build.specs.Making.{FitsRanks};
 ghost use Rattle.plan_build.specs.Plan.{IsPlanOf};
 ghost use Rattle.plan_build.specs.Faults.{TellsFlaw};

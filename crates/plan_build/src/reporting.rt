@@ -1,14 +1,14 @@
 //! The report of a plan's join tree, line by line.
 ghost use Rattle.std.specs.Prelude.{◌≡◌, ◌<◌, ◌≤◌, ◌+◌, ◌++◌, IfOk, List, OnOk, codes, decimal, length, slice_index, ℕ};
 ghost use Rattle.join_tree.specs.Rerooting.{IsTree};
-ghost use Rattle.query_shape.specs.Report.{node_line, node_text, parent_number, report_of};
-ghost use Rattle.query_shape.specs.JoinTreeView.{HasItems};
+ghost use Rattle.bound_query.specs.Report.{node_line, node_text, parent_number, report_of};
+ghost use Rattle.bound_query.specs.JoinTreeView.{HasItems};
 ghost use Rattle.plan_build.specs.Plan.{IsPlanFor, shape_of, shape_view};
 
 use crate::plan::Plan;
 use bound_query::Query;
 use join_tree::JoinTree;
-use query_tokens::name_text;
+use query_select::name_text;
 use rank_key::Rank;
 use std::alloc::Global;
 use step_counter::NoMemory;

@@ -4,16 +4,16 @@ use Rattle.std.proofs.lemmas.Nat.{mul-le}
 use Rattle.anyk_model.specs.Table.{Table}
 use Rattle.anyk_model.specs.Query.{Query, row_counts}
 use Rattle.bound_query.specs.Parts.{sum_of_all}
-use Rattle.query_shape.specs.Shape.{Shape}
+use Rattle.bound_query.specs.Shape.{Shape}
 use Rattle.rank_key.specs.Bits.{bit_length}
 use Rattle.rankings.specs.KeyTuple.{KeyOf}
 use Rattle.tdp_core.specs.TreeView.{NodeView, group_count, row_count}
 use Rattle.tdp_core.specs.Shares.{most_steps, share_of, size_of}
-use Rattle.step_bounds.specs.Steps.{steps_for}
-use Rattle.step_bounds.proofs.Shares.{shares}
+use Rattle.bound_query.specs.Steps.{steps_for}
+use Rattle.bound_query.proofs.Shares.{shares}
 use Rattle.plan_build.specs.Plan.{PlanView}
-use Rattle.query_shape.specs.Report.{total_rows}
-use Rattle.step_bounds.specs.RunBounds.{cost_over}
+use Rattle.bound_query.specs.Report.{total_rows}
+use Rattle.bound_query.specs.RunBounds.{cost_over}
 
 -- a call's share is within the share of the bound
 share_within : (m n g c : ℕ) → most_steps m n g c ≤ 24 * (m * (1 + bit_length (n + (c + 1) * m)))

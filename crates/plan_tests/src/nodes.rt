@@ -5,11 +5,10 @@ ghost use Rattle.bound_query.specs.WeighedQuery.{Fits};
 ghost use Rattle.node_build.specs.Nodes.{IsJoinTreeOf};
 
 use crate::fixtures::{TWO, query_of, read_two};
-use bound_query::Query;
+use bound_query::{Query, tree_shape};
 use csv_tables::TableReader;
 use join_tree::JoinTree;
 use node_build::{BuildFault, Built, build};
-use query_shape::tree_shape;
 use rank_key::{LexRank, Rank};
 use std::alloc::Global;
 use std::marker::Brand;

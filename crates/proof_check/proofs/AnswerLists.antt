@@ -3,9 +3,9 @@ use Rattle.std.proofs.Common.{◌≡◌, ℕ, ◌<◌, List, [], ◌∷◌, ◌+
 use Rattle.std.proofs.Math.ListN.{get_or-append}
 use Rattle.std.proofs.Math.Seq.{get_or-append_seam}
 use Rattle.std.proofs.lemmas.List.{get_or-map, length-map}
-use Rattle.proof_text.specs.Certificate.{AnswerLine}
-use Rattle.proof_text.specs.ProofView.{listed_view}
-use Rattle.proof_text.specs.declared.proof.Listed.{Listed}
+use Rattle.proof_model.specs.Certificate.{AnswerLine}
+use Rattle.proof_model.specs.ProofView.{listed_view}
+use Rattle.proof_model.specs.declared.proof.Listed.{Listed}
 
 pub seen_at : (items : List Listed) (i : ℕ) (x : Listed) (z : AnswerLine) → i < length items → x ≡ get_or items i x
     → get_or (map listed_view items) i z ≡ listed_view x

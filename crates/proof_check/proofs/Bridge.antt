@@ -12,7 +12,7 @@ use Rattle.rankings.specs.TreeProblem.{sum_from}
 use Rattle.rankings.proofs.Keys.{ascending_below}
 use Rattle.rankings.proofs.Sums.{sum_same}
 use Rattle.tdp_core.specs.RawView.{raw_len, raw_number, raw_rank, rows_at}
-use Rattle.proof_text.specs.Certificate.{Certificate}
+use Rattle.proof_model.specs.Certificate.{Certificate}
 use Rattle.proof_model.specs.Problem.{Problem}
 use Rattle.proof_model.specs.QueryProblem.{problem_in}
 use Rattle.proof_model.specs.Laws.{IsProblem}

@@ -11,7 +11,7 @@ use Rattle.rankings.specs.Remains.{AtMost}
 use Rattle.rankings.proofs.KeyNumbers.{not_less_at_most, at_most_not_less}
 use Rattle.rankings.proofs.KeyTuples.{tuple_keys}
 use Rattle.tdp_core.specs.RawView.{raw_len, raw_number}
-use Rattle.proof_text.specs.Certificate.{Certificate}
+use Rattle.proof_model.specs.Certificate.{Certificate}
 use Rattle.proof_model.specs.Problem.{Problem}
 use Rattle.proof_model.specs.QueryProblem.{problem_in}
 use Rattle.proof_model.specs.Valid.{IsCovered, bound_key}

@@ -12,7 +12,7 @@ use Rattle.rankings.proofs.KeyTuples.{tuple_keys}
 use Rattle.rankings.proofs.Sums.{sum_same}
 use Rattle.rank_key.specs.Keys.{KeyFits}
 use Rattle.tdp_core.specs.RawView.{IsRawFormed, raw_len, raw_number, raw_rank}
-use Rattle.proof_text.specs.Certificate.{Certificate}
+use Rattle.proof_model.specs.Certificate.{Certificate}
 use Rattle.proof_model.specs.Problem.{Problem, IsSolutionAt}
 use Rattle.proof_model.specs.QueryProblem.{problem_in}
 use Rattle.proof_model.specs.Laws.{IsProblem}

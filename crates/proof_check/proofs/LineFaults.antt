@@ -14,12 +14,12 @@ use Rattle.rankings.specs.KeyTuple.{KeyOf}
 use Rattle.rankings.proofs.Sums.{get_end, get_front, length_end}
 use Rattle.tdp_core.specs.RawView.{AreShapes, IsRawFormed, RawView, own_link, raw_len, raw_number}
 use Rattle.tdp_core.proofs.RawReads.{length_within}
-use Rattle.proof_text.specs.Certificate.{BoundLine, Certificate}
-use Rattle.proof_text.specs.ProofView.{bound_view, proof_view}
-use Rattle.proof_text.specs.declared.proof.Bound.{Bound}
-use Rattle.proof_text.specs.declared.proof.Proof.{Proof}
-use Rattle.proof_text.specs.declared.fault.ProofFault.{ProofFault}
-use Rattle.query_shape.specs.Shape.{IsShape, Shape}
+use Rattle.proof_model.specs.Certificate.{BoundLine, Certificate}
+use Rattle.proof_model.specs.ProofView.{bound_view, proof_view}
+use Rattle.proof_model.specs.declared.proof.Bound.{Bound}
+use Rattle.proof_model.specs.declared.proof.Proof.{Proof}
+use Rattle.proof_model.specs.declared.fault.ProofFault.{ProofFault}
+use Rattle.bound_query.specs.Shape.{IsShape, Shape}
 use Rattle.proof_model.specs.Faults.{TellsFlaw}
 use Rattle.proof_model.specs.Problem.{IsSolutionAt, Problem}
 use Rattle.proof_model.specs.QueryProblem.{problem_in}

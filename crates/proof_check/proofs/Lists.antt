@@ -8,7 +8,7 @@ use Rattle.std.proofs.lemmas.Bool.Decides.{nat_tests}
 use Rattle.std.proofs.lemmas.List.{get_or-take, length-take-le, take_all}
 use Rattle.rankings.specs.Order.{BelowAll, IsAscending, IsMember}
 use Rattle.anyk_model.specs.Output.{cut}
-use Rattle.step_bounds.specs.Steps.{reaches}
+use Rattle.bound_query.specs.Steps.{reaches}
 
 below_at : {K : Type 0} (Below : K → K → Type 0) (x : K) (xs : List K) (i : ℕ) (d : K) → BelowAll Below x xs
     → i < length xs

@@ -11,7 +11,7 @@ use Rattle.rankings.proofs.KeyTuples.{tuple_keys}
 use Rattle.rankings.proofs.SubtreeTies.{kid_yes, kid_no}
 use Rattle.rankings.proofs.Sums.{sum_same}
 use Rattle.tdp_core.specs.RawView.{raw_len, raw_number, raw_rank}
-use Rattle.proof_text.specs.Certificate.{Certificate}
+use Rattle.proof_model.specs.Certificate.{Certificate}
 use Rattle.proof_model.specs.Problem.{Problem}
 use Rattle.proof_model.specs.QueryProblem.{problem_in}
 use Rattle.proof_model.specs.Valid.{Serves, bound_key}

@@ -14,7 +14,7 @@ use Rattle.rankings.proofs.SubtreeTies.{kid_yes, kid_no}
 use Rattle.rankings.proofs.Sums.{sum_last, sum_same}
 use Rattle.rank_key.specs.Keys.{KeyFits}
 use Rattle.tdp_core.specs.RawView.{IsRawFormed, raw_len, raw_rank}
-use Rattle.proof_text.specs.Certificate.{Certificate}
+use Rattle.proof_model.specs.Certificate.{Certificate}
 use Rattle.proof_model.specs.Problem.{Problem, IsSolutionAt, row_in}
 use Rattle.proof_model.specs.QueryProblem.{problem_in}
 use Rattle.proof_model.specs.Valid.{bound_at, bound_key}

@@ -1,6 +1,6 @@
 -- That an answer is missed is the first flaw if each test before was passed.
 use Rattle.std.proofs.Common.{◌≡◌, ℕ, ◌+◌, ◌-◌, ◌<◌, suc, Option, length, subst, inl, inr, arith}
-use Rattle.proof_text.specs.Certificate.{Certificate}
+use Rattle.proof_model.specs.Certificate.{Certificate}
 use Rattle.proof_model.specs.Problem.{Problem, IsSolutionAt}
 use Rattle.proof_model.specs.Valid.{Flaw, no_solution, bound_twice, weak, no_answer, not_in_order, wrong_count, missed}
 use Rattle.proof_model.specs.Valid.{Holds, IsBoundOf, IsCount, IsCovered, IsEarlier, IsFirst, answer_at, answer_key}

@@ -9,7 +9,7 @@ use Rattle.join_tree.specs.declared.tree.JoinTree.{JoinTree}
 use Rattle.rankings.specs.KeyNumbers.{key_less}
 use Rattle.rankings.specs.KeyTuple.{KeyOf}
 use Rattle.rankings.proofs.KeyNumbers.{key_less_below, below_key_less}
-use Rattle.proof_text.specs.Certificate.{Certificate}
+use Rattle.proof_model.specs.Certificate.{Certificate}
 use Rattle.proof_model.specs.Problem.{Problem}
 use Rattle.proof_model.specs.QueryProblem.{problem_in}
 use Rattle.proof_model.specs.Valid.{answer_key}

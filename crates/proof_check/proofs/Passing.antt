@@ -7,7 +7,7 @@ use Rattle.anyk_model.specs.Query.{Query}
 use Rattle.join_tree.specs.Rerooting.{IsTree}
 use Rattle.join_tree.specs.declared.tree.JoinTree.{JoinTree}
 use Rattle.rankings.specs.KeyTuple.{KeyOf}
-use Rattle.proof_text.specs.Certificate.{Certificate}
+use Rattle.proof_model.specs.Certificate.{Certificate}
 use Rattle.proof_model.specs.Problem.{Problem}
 use Rattle.proof_model.specs.QueryProblem.{problem_in}
 use Rattle.proof_model.specs.Valid.{IsPassed, OpenChoice, answer_key, choice_key}

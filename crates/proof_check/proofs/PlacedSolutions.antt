@@ -10,7 +10,7 @@ use Rattle.rankings.specs.KeyTuple.{KeyOf}
 use Rattle.rankings.specs.TreeProblem.{sum_from}
 use Rattle.tdp_core.specs.RawView.{AreShapes, RawView, child_link, own_link, raw_len, raw_number}
 use Rattle.tdp_core.specs.RawView.{shape_child_place, shape_item, shape_parent}
-use Rattle.step_bounds.proofs.NodeSums.{sum_same}
+use Rattle.bound_query.proofs.NodeSums.{sum_same}
 use Rattle.proof_model.specs.Problem.{IsSolutionAt, Problem, place_in, row_in, size}
 use Rattle.proof_model.specs.QueryProblem.{problem_in}
 use Rattle.proof_check.specs.BoundedRows.{HasProblemRows}

@@ -11,15 +11,15 @@ use Rattle.rank_key.specs.Keys.{row_key}
 use Rattle.tdp_core.specs.RawView.{RawView, child_link, own_link, raw_len, raw_number, row_total, rows_at, shape_child_place}
 use Rattle.bound_query.specs.WeighedQuery.{BoundQuery, Fits}
 use Rattle.bound_query.specs.Weights.{part_of}
-use Rattle.query_shape.specs.Shape.{IsShape, Shape, too_many_rows}
-use Rattle.query_shape.specs.JoinTreeView.{HasStoredTree}
+use Rattle.bound_query.specs.Shape.{IsShape, Shape, too_many_rows}
+use Rattle.bound_query.specs.JoinTreeView.{HasStoredTree}
 use Rattle.node_build.specs.Nodes.{IsBuilt, PassesBudget, item_of, parent_of, row_parts}
 use Rattle.proof_model.specs.Problem.{Problem}
 use Rattle.proof_model.specs.QueryProblem.{IsPassing, RowsEqual, RowsMatch, problem_in, row_rank}
 use Rattle.proof_model.proofs.Wider.{wide_lists}
 use Rattle.proof_model.proofs.Matching.{equal_iff, match_iff}
 use Rattle.proof_check.specs.BoundedRows.{HasProblemRows, query_key}
-use Rattle.step_bounds.proofs.NodeSums.{sum_of_lengths}
+use Rattle.bound_query.proofs.NodeSums.{sum_of_lengths}
 use Rattle.node_build.proofs.ShapeOf.{flaw_if_many, nodes-count, numbers_in_all, numbers_of, rows_of_built, shape_if_few, shape_with}
 
 module _ (bound : BoundQuery) (tables : List Table) (join : JoinTree) (stored : HasStoredTree bound.query join)

@@ -11,10 +11,10 @@ use Rattle.anyk_model.specs.Output.{cut}
 use Rattle.anyk_model.specs.Ranking.{ranking_of}
 use Rattle.anyk_model.proofs.Exists.{ranking_is}
 use Rattle.bound_query.specs.Inside.{IsWithin}
-use Rattle.query_shape.specs.Shape.{HasTree}
+use Rattle.bound_query.specs.Shape.{HasTree}
 use Rattle.witness_key.specs.WitnessKey.{witness_key}
 use Rattle.witness_key.proofs.Rankings.{keys_tell_witnesses_lem, witness_length}
-use Rattle.proof_text.specs.Certificate.{AnswerLine, Certificate}
+use Rattle.proof_model.specs.Certificate.{AnswerLine, Certificate}
 use Rattle.proof_model.specs.FirstAnswers.{answer_keys}
 use Rattle.proof_model.specs.Problem.{Problem, IsSolutionAt, key_at}
 use Rattle.proof_model.specs.QueryProblem.{problem_of}

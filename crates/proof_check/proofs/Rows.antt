@@ -6,9 +6,9 @@ use Rattle.join_tree.specs.Rerooting.{IsTree}
 use Rattle.join_tree.specs.declared.tree.JoinTree.{JoinTree}
 use Rattle.anyk_model.specs.Query.{Query}
 use Rattle.anyk_model.specs.Table.{Table}
-use Rattle.proof_text.specs.declared.proof.Listed.{Listed}
-use Rattle.proof_text.specs.Certificate.{AnswerLine}
-use Rattle.proof_text.specs.ProofView.{listed_view}
+use Rattle.proof_model.specs.declared.proof.Listed.{Listed}
+use Rattle.proof_model.specs.Certificate.{AnswerLine}
+use Rattle.proof_model.specs.ProofView.{listed_view}
 use Rattle.proof_model.specs.Problem.{Problem, size}
 use Rattle.proof_model.specs.Laws.{IsProblem}
 use Rattle.proof_model.specs.QueryProblem.{problem_in}

@@ -11,7 +11,7 @@ use Rattle.anyk_model.specs.Table.{Table}
 use Rattle.anyk_model.specs.Query.{IsWitness, Query}
 use Rattle.anyk_model.specs.Ranking.{ranking_of}
 use Rattle.bound_query.specs.Inside.{IsWithin}
-use Rattle.query_shape.specs.Shape.{HasTree}
+use Rattle.bound_query.specs.Shape.{HasTree}
 use Rattle.witness_key.specs.WitnessKey.{witness_key}
 use Rattle.witness_key.proofs.Rankings.{keys_of_ranking}
 use Rattle.witness_key.specs.Laws.{item_key}

@@ -4,9 +4,9 @@ use Rattle.std.specs.Result.{IsErrAnd}
 use Rattle.anyk_model.specs.Table.{Table}
 use Rattle.anyk_model.specs.Query.{Query}
 use Rattle.join_tree.specs.declared.tree.JoinTree.{JoinTree}
-use Rattle.query_shape.specs.Shape.{IsShape, Shape}
-use Rattle.proof_text.specs.Certificate.{Certificate}
-use Rattle.proof_text.specs.declared.fault.ProofFault.{ProofFault}
+use Rattle.bound_query.specs.Shape.{IsShape, Shape}
+use Rattle.proof_model.specs.Certificate.{Certificate}
+use Rattle.proof_model.specs.declared.fault.ProofFault.{ProofFault}
 use Rattle.proof_model.specs.Faults.{TellsFlaw}
 use Rattle.proof_model.specs.QueryProblem.{problem_in}
 use Rattle.proof_model.specs.Valid.{IsFirst, no_answer, not_in_order}

@@ -6,7 +6,7 @@ use Rattle.rankings.specs.Below.{is_below}
 use Rattle.rankings.specs.TreeProblem.{sum_from, kid_key}
 use Rattle.rankings.proofs.Descent.{below_less}
 use Rattle.rankings.proofs.Sums.{none_add, sum_same, sum_add}
-use Rattle.proof_text.specs.Certificate.{Certificate}
+use Rattle.proof_model.specs.Certificate.{Certificate}
 use Rattle.proof_model.specs.Problem.{Problem, IsSolutionAt}
 use Rattle.proof_model.specs.Laws.{IsProblem}
 use Rattle.proof_model.specs.Valid.{IsBoundOf, bound_at, bound_key}

@@ -13,11 +13,11 @@ use Rattle.anyk_model.specs.Ranking.{IsBefore, Precedes, ranking_of}
 use Rattle.anyk_model.proofs.Exists.{ranking_is}
 use Rattle.anyk_model.specs.ListOrder.{before_irrefl}
 use Rattle.bound_query.specs.Inside.{IsWithin}
-use Rattle.query_shape.specs.Shape.{HasTree}
-use Rattle.step_bounds.specs.Steps.{reaches}
+use Rattle.bound_query.specs.Shape.{HasTree}
+use Rattle.bound_query.specs.Steps.{reaches}
 use Rattle.witness_key.specs.WitnessKey.{witness_key}
 use Rattle.witness_key.proofs.Rankings.{orders_agree, witness_length}
-use Rattle.proof_text.specs.Certificate.{AnswerLine, Certificate}
+use Rattle.proof_model.specs.Certificate.{AnswerLine, Certificate}
 use Rattle.proof_model.specs.Full.{IsFull}
 use Rattle.proof_model.specs.Laws.{IsProblem, IsSubtree, subtree_key}
 use Rattle.proof_model.specs.Problem.{Problem, IsSolutionAt, key_at, row_in}

@@ -9,14 +9,14 @@ use Rattle.anyk_model.specs.Query.{Query}
 use Rattle.anyk_model.specs.Output.{cut}
 use Rattle.anyk_model.specs.Ranking.{ranking_of}
 use Rattle.bound_query.specs.Inside.{IsWithin}
-use Rattle.query_shape.specs.Shape.{HasNodeRows, HasShape, HasTree, Shape}
-use Rattle.query_shape.proofs.OneShape.{one_tree}
-use Rattle.step_bounds.specs.Steps.{reaches}
-use Rattle.proof_text.specs.Certificate.{AnswerLine, BoundLine, Certificate}
-use Rattle.proof_text.specs.NumberedProofs.{AreAnswersFrom, AreBoundsFrom, AreRows, IsNumbered, IsShort}
-use Rattle.proof_text.specs.Reading.{proof_of}
-use Rattle.proof_text.specs.Writing.{proof_text}
-use Rattle.proof_text.proofs.RoundTrip.{written_read}
+use Rattle.bound_query.specs.Shape.{HasNodeRows, HasShape, HasTree, Shape}
+use Rattle.bound_query.proofs.OneShape.{one_tree}
+use Rattle.bound_query.specs.Steps.{reaches}
+use Rattle.proof_model.specs.Certificate.{AnswerLine, BoundLine, Certificate}
+use Rattle.proof_model.specs.NumberedProofs.{AreAnswersFrom, AreBoundsFrom, AreRows, IsNumbered, IsShort}
+use Rattle.proof_model.specs.Reading.{proof_of}
+use Rattle.proof_model.specs.Writing.{proof_text}
+use Rattle.proof_model.proofs.RoundTrip.{written_read}
 use Rattle.proof_model.specs.Parts.{HaveFewRows}
 use Rattle.proof_model.specs.Problem.{Problem, IsSolutionAt, row_in}
 use Rattle.proof_model.specs.ProofTexts.{IsProofText}

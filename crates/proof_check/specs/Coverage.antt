@@ -1,6 +1,6 @@
 -- Nodes whose rows are all covered by the bounds of their groups.
 use Rattle.std.specs.Prelude.{ℕ, ◌<◌}
-use Rattle.proof_text.specs.Certificate.{Certificate}
+use Rattle.proof_model.specs.Certificate.{Certificate}
 use Rattle.proof_model.specs.Problem.{Problem}
 use Rattle.proof_model.specs.Valid.{IsCovered}
 

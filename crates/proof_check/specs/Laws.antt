@@ -5,10 +5,10 @@ use Rattle.anyk_model.specs.Query.{IsWitness, Query}
 use Rattle.anyk_model.specs.Output.{cut}
 use Rattle.anyk_model.specs.Ranking.{ranking_of}
 use Rattle.bound_query.specs.Inside.{IsWithin}
-use Rattle.query_shape.specs.Shape.{HasTree}
+use Rattle.bound_query.specs.Shape.{HasTree}
 use Rattle.witness_key.specs.WitnessKey.{witness_key}
-use Rattle.proof_text.specs.Certificate.{AnswerLine, Certificate}
-use Rattle.proof_text.specs.Reading.{proof_of}
+use Rattle.proof_model.specs.Certificate.{AnswerLine, Certificate}
+use Rattle.proof_model.specs.Reading.{proof_of}
 use Rattle.proof_model.specs.Parts.{HaveFewRows}
 use Rattle.proof_model.specs.Problem.{IsSolutionAt, key_at}
 use Rattle.proof_model.specs.ProofTexts.{IsProofText}

@@ -6,7 +6,7 @@ use Rattle.anyk_model.specs.Query.{Query}
 use Rattle.join_tree.specs.declared.tree.JoinTree.{JoinTree}
 use Rattle.rankings.specs.KeyTuple.{KeyOf}
 use Rattle.tdp_core.specs.RawView.{RawView, child_link, own_link, raw_len, raw_number, shape_child_place, shape_parent}
-use Rattle.proof_text.specs.Certificate.{Certificate}
+use Rattle.proof_model.specs.Certificate.{Certificate}
 use Rattle.proof_model.specs.Problem.{IsSolutionAt}
 use Rattle.proof_model.specs.QueryProblem.{problem_in}
 use Rattle.proof_model.specs.Valid.{bound_at, bound_key, bound_row}

@@ -1,9 +1,9 @@
 //! The answers, told by the places of their rows.
 ghost use Rattle.std.specs.Prelude.{◌≡◌, ◌≤◌, ◌<◌, ℕ, length, option_map, IfErr, IfOk};
 ghost use Rattle.bound_query.specs.WeighedQuery.{Fits};
-ghost use Rattle.query_shape.specs.JoinTreeView.{HasItems, HasStoredTree};
+ghost use Rattle.bound_query.specs.JoinTreeView.{HasItems, HasStoredTree};
 ghost use Rattle.join_tree.specs.Rerooting.{IsTree};
-ghost use Rattle.proof_text.specs.ProofView.{proof_view};
+ghost use Rattle.proof_model.specs.ProofView.{proof_view};
 ghost use Rattle.proof_model.specs.Faults.{TellsFlaw};
 ghost use Rattle.proof_check.specs.BoundedRows.{IsBounded};
 ghost use Rattle.proof_check.specs.RowPlaces.{ArePlaced, IsLastKey};
@@ -15,7 +15,7 @@ use crate::order::last_rank;
 use crate::solutions::answer_places;
 use bound_query::Query;
 use join_tree::JoinTree;
-use proof_text::{Proof, ProofFault};
+use proof_model::{Proof, ProofFault};
 use rank_key::Rank;
 use std::alloc::Global;
 use std::sync::ledger::Ledger;

@@ -1,10 +1,10 @@
 //! The bounds of a certificate beside the rows of a query.
 ghost use Rattle.std.specs.Prelude.{◌≡◌, ◌≤◌, ◌<◌, ℕ, length, IfErr, IfOk};
 ghost use Rattle.bound_query.specs.WeighedQuery.{Fits};
-ghost use Rattle.query_shape.specs.JoinTreeView.{HasItems, HasStoredTree};
+ghost use Rattle.bound_query.specs.JoinTreeView.{HasItems, HasStoredTree};
 ghost use Rattle.join_tree.specs.Rerooting.{IsTree};
 ghost use Rattle.node_build.specs.Nodes.{CapsBelow};
-ghost use Rattle.proof_text.specs.ProofView.{proof_view};
+ghost use Rattle.proof_model.specs.ProofView.{proof_view};
 ghost use Rattle.proof_model.specs.Faults.{TellsFlaw};
 ghost use Rattle.proof_check.specs.BoundedRows.{IsBounded};
 
@@ -13,7 +13,7 @@ use crate::bounds::with_bounds;
 use crate::node_rows::query_rows;
 use bound_query::Query;
 use join_tree::JoinTree;
-use proof_text::{Proof, ProofFault};
+use proof_model::{Proof, ProofFault};
 use rank_key::Rank;
 use std::alloc::Global;
 use std::sync::ledger::Ledger;

@@ -1,7 +1,7 @@
 //! From a certificate to the bounds of groups.
 ghost use Rattle.std.specs.Prelude.{◌≡◌, ◌≤◌, ◌<◌, ℕ, length, IfErr, IfOk, Ok};
-ghost use Rattle.query_shape.specs.Shape.{IsShape, Shape};
-ghost use Rattle.proof_text.specs.ProofView.{proof_view};
+ghost use Rattle.bound_query.specs.Shape.{IsShape, Shape};
+ghost use Rattle.proof_model.specs.ProofView.{proof_view};
 ghost use Rattle.proof_model.specs.Faults.{TellsFlaw};
 ghost use Rattle.proof_check.specs.BoundedRows.{HasProblemRows, IsBounded};
 
@@ -11,7 +11,7 @@ use crate::lines::{PlacedLines, placed_lines};
 use crate::names::name_all;
 use bound_query::Query;
 use join_tree::JoinTree;
-use proof_text::{Proof, ProofFault};
+use proof_model::{Proof, ProofFault};
 use rank_key::Rank;
 use std::alloc::Global;
 use std::sync::ledger::Ledger;

@@ -1,16 +1,16 @@
 //! Whether a certificate is valid.
 ghost use Rattle.std.specs.Prelude.{◌≡◌, ◌≤◌, ◌<◌, ℕ, length, map, take, IfErr, IfOk, OnOk, Ok};
 ghost use Rattle.bound_query.specs.WeighedQuery.{Fits};
-ghost use Rattle.query_shape.specs.Shape.{IsShape, Shape};
-ghost use Rattle.query_shape.specs.JoinTreeView.{HasItems, HasStoredTree};
+ghost use Rattle.bound_query.specs.Shape.{IsShape, Shape};
+ghost use Rattle.bound_query.specs.JoinTreeView.{HasItems, HasStoredTree};
 ghost use Rattle.join_tree.specs.Rerooting.{IsTree};
 ghost use Rattle.node_build.specs.Nodes.{CapsBelow};
-ghost use Rattle.proof_text.specs.ProofView.{proof_view};
+ghost use Rattle.proof_model.specs.ProofView.{proof_view};
 ghost use Rattle.proof_model.specs.Faults.{TellsFlaw};
 ghost use Rattle.proof_model.specs.QueryProblem.{problem_in};
 ghost use Rattle.proof_model.specs.Valid.{IsValid};
 ghost use Rattle.proof_check.specs.RowLists.{item_rows, list_at};
-ghost use Rattle.proof_text.specs.declared.fault.ProofFault.TheVariants.{NoMemory};
+ghost use Rattle.proof_model.specs.declared.fault.ProofFault.TheVariants.{NoMemory};
 
 use crate::answers::placed_answers;
 use crate::bounded::BoundedTree;
@@ -18,7 +18,7 @@ use crate::bounding::bounded_tree;
 use crate::choices::check_choices;
 use bound_query::Query;
 use join_tree::JoinTree;
-use proof_text::{Listed, Proof, ProofFault};
+use proof_model::{Listed, Proof, ProofFault};
 use rank_key::Rank;
 use std::alloc::Global;
 use std::sync::ledger::Ledger;

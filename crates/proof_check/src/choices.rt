@@ -1,9 +1,9 @@
 //! Open choices, node by node.
 ghost use Rattle.std.specs.Prelude.{◌≡◌, ◌≤◌, ◌<◌, ◌+◌, ℕ, true, false, length, option_map, IfErr, IfOk, OnOk};
 ghost use Rattle.bound_query.specs.WeighedQuery.{Fits};
-ghost use Rattle.query_shape.specs.JoinTreeView.{HasItems, HasStoredTree};
+ghost use Rattle.bound_query.specs.JoinTreeView.{HasItems, HasStoredTree};
 ghost use Rattle.join_tree.specs.Rerooting.{IsTree};
-ghost use Rattle.proof_text.specs.ProofView.{proof_view};
+ghost use Rattle.proof_model.specs.ProofView.{proof_view};
 ghost use Rattle.proof_check.specs.BoundedRows.{IsBounded};
 ghost use Rattle.tdp_core.specs.RawView.{raw_len};
 ghost use Rattle.proof_check.specs.Lows.{IsBoundedTree};
@@ -18,7 +18,7 @@ use crate::prefixes::Prefixes;
 use crate::taken::TakenRows;
 use bound_query::Query;
 use join_tree::JoinTree;
-use proof_text::{Proof, ProofFault};
+use proof_model::{Proof, ProofFault};
 use rank_key::Rank;
 use std::alloc::Global;
 use std::sync::ledger::Ledger;

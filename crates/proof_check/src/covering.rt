@@ -5,7 +5,7 @@ ghost use Rattle.anyk_model.specs.Table.{Table};
 ghost use Rattle.anyk_model.specs.Query.{Query as SelectQuery};
 ghost use Rattle.join_tree.specs.Rerooting.{IsTree};
 ghost use Rattle.tdp_core.specs.RawView.{raw_len, raw_number};
-ghost use Rattle.proof_text.specs.Certificate.{Certificate};
+ghost use Rattle.proof_model.specs.Certificate.{Certificate};
 ghost use Rattle.proof_model.specs.QueryProblem.{problem_in};
 ghost use Rattle.proof_model.specs.Valid.{IsCovered};
 ghost use Rattle.proof_check.specs.BoundedRows.{IsBounded, bound_ranks, named_bound, own_bound, rank_of_bound};

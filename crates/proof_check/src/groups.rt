@@ -5,14 +5,14 @@ ghost use Rattle.anyk_model.specs.Table.{Table};
 ghost use Rattle.anyk_model.specs.Query.{Query as SelectQuery};
 ghost use Rattle.join_tree.specs.declared.tree.JoinTree.{JoinTree};
 ghost use Rattle.tdp_core.specs.RawView.{raw_len};
-ghost use Rattle.proof_text.specs.ProofView.{proof_view};
+ghost use Rattle.proof_model.specs.ProofView.{proof_view};
 ghost use Rattle.proof_check.specs.BoundedRows.{HasProblemRows};
 ghost use Rattle.proof_check.specs.Faults.{TellsBoundTwice};
 ghost use Rattle.proof_check.specs.Lines.{AreLineGroups, ArePlacedLines, HasPlacedLines, group_link};
 
 use counted_index::HashedIndex;
 use hash_keys::Keys;
-use proof_text::{Proof, ProofFault};
+use proof_model::{Proof, ProofFault};
 use rank_key::Rank;
 use std::alloc::{AllocError, Global};
 use std::sync::ledger::Ledger;

@@ -3,7 +3,7 @@ ghost use Rattle.std.specs.Prelude.{◌≡◌, ◌≤◌, ◌<◌, [], List, ℕ
 ghost use Rattle.anyk_model.specs.Table.{Table};
 ghost use Rattle.anyk_model.specs.Query.{Query as SelectQuery};
 ghost use Rattle.join_tree.specs.declared.tree.JoinTree.{JoinTree};
-ghost use Rattle.proof_text.specs.ProofView.{proof_view};
+ghost use Rattle.proof_model.specs.ProofView.{proof_view};
 ghost use Rattle.proof_model.specs.Problem.{IsSolutionAt};
 ghost use Rattle.proof_model.specs.QueryProblem.{problem_in};
 ghost use Rattle.proof_check.specs.BoundedRows.{HasProblemRows};
@@ -13,7 +13,7 @@ ghost use Rattle.proof_check.specs.Places.{ArePlacesOf};
 
 use crate::bounded::NodeBounds;
 use crate::places::{rank_of_places, solution_places};
-use proof_text::{Bound, Proof, ProofFault};
+use proof_model::{Bound, Proof, ProofFault};
 use rank_key::Rank;
 use std::alloc::{AllocError, Global};
 use std::sync::ledger::Ledger;

@@ -1,17 +1,17 @@
 //! The rows of the nodes of a query that pass.
 ghost use Rattle.std.specs.Prelude.{◌≡◌, ◌≤◌, length, IfErr, IfOk, OnOk, Ok};
 ghost use Rattle.bound_query.specs.WeighedQuery.{Fits};
-ghost use Rattle.query_shape.specs.Shape.{IsShape, Shape};
-ghost use Rattle.query_shape.specs.JoinTreeView.{HasStoredTree};
+ghost use Rattle.bound_query.specs.Shape.{IsShape, Shape};
+ghost use Rattle.bound_query.specs.JoinTreeView.{HasStoredTree};
 ghost use Rattle.node_build.specs.Nodes.{CapsBelow};
-ghost use Rattle.proof_text.specs.Certificate.{Certificate};
+ghost use Rattle.proof_model.specs.Certificate.{Certificate};
 ghost use Rattle.proof_model.specs.Faults.{TellsFlaw};
 ghost use Rattle.proof_check.specs.BoundedRows.{HasProblemRows};
 
 use bound_query::Query;
 use join_tree::JoinTree;
 use node_build::{BuildFault, build};
-use proof_text::ProofFault;
+use proof_model::ProofFault;
 use rank_key::Rank;
 use std::alloc::Global;
 use std::sync::ledger::Ledger;

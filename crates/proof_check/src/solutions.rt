@@ -3,13 +3,13 @@ ghost use Rattle.std.specs.Prelude.{◌<◌, List, length, IfErr, IfOk};
 ghost use Rattle.anyk_model.specs.Table.{Table};
 ghost use Rattle.anyk_model.specs.Query.{Query as SelectQuery};
 ghost use Rattle.join_tree.specs.declared.tree.JoinTree.{JoinTree};
-ghost use Rattle.proof_text.specs.ProofView.{proof_view};
+ghost use Rattle.proof_model.specs.ProofView.{proof_view};
 ghost use Rattle.proof_model.specs.QueryProblem.{problem_in};
 ghost use Rattle.proof_check.specs.BoundedRows.{HasProblemRows};
 ghost use Rattle.proof_check.specs.Solutions.{AreAnswers, TellsBad};
 
 use crate::places::solution_places;
-use proof_text::{Proof, ProofFault};
+use proof_model::{Proof, ProofFault};
 use rank_key::Rank;
 use std::alloc::Global;
 use tdp_core::RawTree;

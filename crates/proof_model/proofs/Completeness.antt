@@ -7,7 +7,7 @@ use Rattle.rankings.specs.Remains.{AtMost}
 use Rattle.rankings.specs.TreeProblem.{sum_from, kid_key}
 use Rattle.rankings.proofs.Descent.{below_less, below_once, below_parent}
 use Rattle.rankings.proofs.Sums.{sum_same}
-use Rattle.proof_text.specs.Certificate.{Certificate}
+use Rattle.proof_model.specs.Certificate.{Certificate}
 use Rattle.proof_model.specs.Problem.{Problem, row_in}
 use Rattle.proof_model.specs.Laws.{IsProblem, IsSubtree, subtree_key}
 use Rattle.proof_model.specs.Full.{IsFull}

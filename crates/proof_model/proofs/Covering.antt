@@ -8,7 +8,7 @@ use Rattle.rankings.specs.TreeProblem.{sum_from, kid_key}
 use Rattle.rankings.proofs.Descent.{below_itself, child_below}
 use Rattle.rankings.proofs.Keys.{add_at_most, at_most_trans}
 use Rattle.rankings.proofs.LeastKeys.{sum_at_most}
-use Rattle.proof_text.specs.Certificate.{Certificate}
+use Rattle.proof_model.specs.Certificate.{Certificate}
 use Rattle.proof_model.specs.Problem.{Problem}
 use Rattle.proof_model.specs.Laws.{IsProblem, IsSubtree, subtree_key}
 use Rattle.proof_model.specs.Valid.{IsValid, IsBoundOf, StandsFor, Serves, bound_key, bound_row}

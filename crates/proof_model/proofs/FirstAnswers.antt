@@ -9,7 +9,7 @@ use Rattle.anyk_model.specs.Output.{cut}
 use Rattle.rankings.specs.Below.{is_below}
 use Rattle.rankings.specs.Remains.{AtMost}
 use Rattle.rankings.proofs.Sums.{sum_same}
-use Rattle.proof_text.specs.Certificate.{AnswerLine, Certificate}
+use Rattle.proof_model.specs.Certificate.{AnswerLine, Certificate}
 use Rattle.proof_model.specs.FirstAnswers.{IsSolutionKey, answer_keys}
 use Rattle.proof_model.specs.Problem.{Problem, key_at, row_in}
 use Rattle.proof_model.specs.Laws.{IsProblem, subtree_key}

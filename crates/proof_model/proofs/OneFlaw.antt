@@ -1,7 +1,7 @@
 -- At most one flaw is told, and none of a valid certificate.
 use Rattle.std.proofs.Common.{◌≡◌, ℕ, zero, suc, refl, sym, ap, ◌∙◌, inl, inr, Option}
 use Rattle.std.proofs.lemmas.Bool.{cases_order}
-use Rattle.proof_text.specs.Certificate.{Certificate}
+use Rattle.proof_model.specs.Certificate.{Certificate}
 use Rattle.proof_model.specs.Problem.{Problem}
 use Rattle.proof_model.specs.Valid.{Flaw, no_solution, bound_twice, weak, no_answer, not_in_order, wrong_count, missed}
 use Rattle.proof_model.specs.Valid.{stage, place, IsFirst}

@@ -13,10 +13,10 @@ use Rattle.anyk_model.specs.Query.{Query}
 use Rattle.anyk_model.specs.Output.{cut}
 use Rattle.anyk_model.specs.Ranking.{IsBefore, ranking_of}
 use Rattle.anyk_model.specs.ListOrder.{before_asym}
-use Rattle.query_shape.specs.Shape.{Flaw, IsShape, Shape}
-use Rattle.query_shape.proofs.OneShape.{one_shape}
-use Rattle.proof_text.specs.Certificate.{AnswerLine, BoundLine, Certificate}
-use Rattle.proof_text.specs.Writing.{answer_text, bound_text, header_text, last_text, proof_text}
+use Rattle.bound_query.specs.Shape.{Flaw, IsShape, Shape}
+use Rattle.bound_query.proofs.OneShape.{one_shape}
+use Rattle.proof_model.specs.Certificate.{AnswerLine, BoundLine, Certificate}
+use Rattle.proof_model.specs.Writing.{answer_text, bound_text, header_text, last_text, proof_text}
 use Rattle.proof_model.specs.Problem.{Problem, key_at, row_in}
 use Rattle.proof_model.specs.ProofTexts.{IsProofText}
 use Rattle.proof_model.specs.QueryProblem.{problem_of}

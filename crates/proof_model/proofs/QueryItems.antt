@@ -13,7 +13,7 @@ use Rattle.rankings.proofs.KeyTuples.{slot_of_add, slot_of_none}
 use Rattle.anyk_model.specs.Table.{Table}
 use Rattle.anyk_model.specs.Query.{Query}
 use Rattle.bound_query.specs.Weights.{part_of}
-use Rattle.query_shape.specs.Shape.{HasTree}
+use Rattle.bound_query.specs.Shape.{HasTree}
 use Rattle.proof_model.specs.Problem.{Problem}
 use Rattle.proof_model.specs.QueryProblem.{problem_of}
 use Rattle.proof_model.specs.Laws.{IsProblem}

@@ -4,7 +4,7 @@ use Rattle.std.proofs.Common.{Option}
 use Rattle.rankings.proofs.KeyTuples.{tuple_keys}
 use Rattle.anyk_model.specs.Table.{Table}
 use Rattle.anyk_model.specs.Query.{Query}
-use Rattle.proof_text.specs.Certificate.{Certificate}
+use Rattle.proof_model.specs.Certificate.{Certificate}
 use Rattle.proof_model.specs.Problem.{Problem}
 use Rattle.proof_model.specs.QueryProblem.{problem_of}
 use Rattle.proof_model.specs.Laws.{IsProblem}

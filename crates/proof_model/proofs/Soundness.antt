@@ -7,7 +7,7 @@ use Rattle.rankings.specs.Remains.{AtMost}
 use Rattle.rankings.specs.TreeProblem.{sum_from}
 use Rattle.rankings.proofs.Descent.{below_itself, below_parent}
 use Rattle.rankings.proofs.LeastKeys.{sum_at_most}
-use Rattle.proof_text.specs.Certificate.{Certificate}
+use Rattle.proof_model.specs.Certificate.{Certificate}
 use Rattle.proof_model.specs.Problem.{Problem}
 use Rattle.proof_model.specs.Laws.{IsProblem, IsSubtree, subtree_key}
 use Rattle.proof_model.specs.Valid.{IsValid, IsPassed, OpenChoice, Begins, answer_key, answer_row, bound_key}

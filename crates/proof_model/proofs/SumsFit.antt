@@ -26,8 +26,8 @@ use Rattle.bound_query.specs.WeighedQuery.{BoundQuery, Fits}
 use Rattle.bound_query.specs.Weights.{cap_of, key_at, part_of}
 use Rattle.bound_query.proofs.Parts.{nat_abs_add, part_capped}
 use Rattle.bound_query.proofs.Range.{caps_fit}
-use Rattle.query_shape.specs.Shape.{HasTree}
-use Rattle.step_bounds.proofs.NodeSums.{AreApart, fewer_nodes, over, sum_range}
+use Rattle.bound_query.specs.Shape.{HasTree}
+use Rattle.bound_query.proofs.NodeSums.{AreApart, fewer_nodes, over, sum_range}
 use Rattle.proof_model.specs.Problem.{Problem}
 use Rattle.proof_model.specs.QueryProblem.{problem_of}
 use Rattle.proof_model.specs.Parts.{HaveFewRows, IsPart}

@@ -4,10 +4,10 @@ use Rattle.rankings.specs.NodeRows.{most_node_rows}
 use Rattle.anyk_model.specs.Table.{Table}
 use Rattle.anyk_model.specs.Query.{Query}
 use Rattle.join_tree.specs.declared.tree.JoinTree.{JoinTree}
-use Rattle.query_shape.specs.Shape.{IsShape, Shape, too_many_rows}
-use Rattle.proof_text.specs.Certificate.{Certificate}
-use Rattle.proof_text.specs.declared.fault.ProofFault.{ProofFault}
-use Rattle.proof_text.specs.declared.fault.ProofFault.TheVariants as fault
+use Rattle.bound_query.specs.Shape.{IsShape, Shape, too_many_rows}
+use Rattle.proof_model.specs.Certificate.{Certificate}
+use Rattle.proof_model.specs.declared.fault.ProofFault.{ProofFault}
+use Rattle.proof_model.specs.declared.fault.ProofFault.TheVariants as fault
 use Rattle.proof_model.specs.Problem.{Problem}
 use Rattle.proof_model.specs.QueryProblem.{problem_in}
 use Rattle.proof_model.specs.Valid.{Flaw, IsFirst, answer_at, bound_at}

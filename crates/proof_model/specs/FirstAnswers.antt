@@ -1,6 +1,6 @@
 -- The keys of the solutions of a tree problem, and those of the answers of a certificate.
 use Rattle.std.specs.Prelude.{◌≡◌, ℕ, List, map}
-use Rattle.proof_text.specs.Certificate.{AnswerLine, Certificate}
+use Rattle.proof_model.specs.Certificate.{AnswerLine, Certificate}
 use Rattle.proof_model.specs.Problem.{Problem, key_at}
 use Rattle.proof_model.specs.Laws.{IsSubtree, subtree_key}
 

@@ -2,7 +2,7 @@
 -- answers are the first solutions.
 use Rattle.std.specs.Prelude.{◌≡◌, ℕ, ◌+◌, ◌-◌, ◌<◌, suc, false, Option, length}
 use Rattle.rankings.specs.Remains.{AtMost}
-use Rattle.proof_text.specs.Certificate.{Certificate}
+use Rattle.proof_model.specs.Certificate.{Certificate}
 use Rattle.proof_model.specs.Problem.{Problem, IsSolutionAt}
 use Rattle.proof_model.specs.Laws.{IsSubtree, subtree_key}
 use Rattle.proof_model.specs.Valid.{IsBoundOf, IsCount, Begins, StandsFor}

@@ -4,10 +4,10 @@ use Rattle.anyk_model.specs.Table.{Table}
 use Rattle.anyk_model.specs.Query.{Query}
 use Rattle.anyk_model.specs.Output.{cut}
 use Rattle.anyk_model.specs.Ranking.{ranking_of}
-use Rattle.query_shape.specs.Shape.{IsShape, Shape}
-use Rattle.step_bounds.specs.Steps.{reaches}
-use Rattle.proof_text.specs.Certificate.{Certificate}
-use Rattle.proof_text.specs.Writing.{proof_text}
+use Rattle.bound_query.specs.Shape.{IsShape, Shape}
+use Rattle.bound_query.specs.Steps.{reaches}
+use Rattle.proof_model.specs.Certificate.{Certificate}
+use Rattle.proof_model.specs.Writing.{proof_text}
 use Rattle.proof_model.specs.QueryProblem.{problem_of}
 use Rattle.proof_model.specs.WrittenProofs.{IsWritten}
 

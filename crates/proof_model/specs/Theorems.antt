@@ -8,8 +8,8 @@ use Rattle.rankings.specs.KeyTuple.{KeyOf, key_add, key_below, key_none}
 use Rattle.rankings.specs.TreeProblem.{sum_from}
 use Rattle.rank_key.specs.Keys.{IsInRange}
 use Rattle.bound_query.specs.WeighedQuery.{BoundQuery, Fits}
-use Rattle.query_shape.specs.Shape.{HasTree}
-use Rattle.proof_text.specs.Certificate.{Certificate}
+use Rattle.bound_query.specs.Shape.{HasTree}
+use Rattle.proof_model.specs.Certificate.{Certificate}
 use Rattle.proof_model.specs.ProofTexts.{IsProofText}
 use Rattle.proof_model.specs.QueryProblem.{problem_of}
 use Rattle.proof_model.specs.Laws.{IsSubtree, subtree_key}

@@ -3,7 +3,7 @@ use Rattle.std.specs.Prelude.{◌≡◌, ◌≢◌, ◌⊎◌, ℕ, ◌-◌, ◌
 use Rattle.std.specs.Prelude.{Option, None, Some, [], length, slice_index_or}
 use Rattle.rankings.specs.Remains.{AtMost}
 use Rattle.rankings.specs.TreeProblem.{sum_from, kid_key}
-use Rattle.proof_text.specs.Certificate.{BoundLine, AnswerLine, Certificate}
+use Rattle.proof_model.specs.Certificate.{BoundLine, AnswerLine, Certificate}
 use Rattle.proof_model.specs.Problem.{Problem, row_in, key_at, IsSolutionAt}
 
 -- why a certificate is not valid; bounds, nodes and answers are told by their places, from 0

@@ -1,5 +1,11 @@
-//! Certificates of the first answers of a query: when one is valid, and what a valid one shows. No
-//! code.
+//! Certificates of the first answers of a query: the text of one is read and written here, and here
+//! it is said when one is valid, and what a valid one shows.
+//!
+//! The text has a first line `anyk-proof 1`; lines `bound NODE ROW ..`; lines `answer ROW ..`; a last
+//! line `more` or `end`. One space is between two parts, and a number has 1 to 7 digits. Lines are
+//! split as `str::lines` of Rust's library splits them, but in bytes. An answer with a text that
+//! shows that it is right, and that is easily checked, is what McConnell, Mehlhorn, Naher and
+//! Schweitzer call certifying ("Certifying algorithms", 2011).
 //!
 //! A certificate has a bound for each group of rows, and the answers. Each row is compared with the
 //! bounds of the groups below it, as in dynamic programming over trees. Each way to leave the
@@ -11,6 +17,20 @@
 
 ghost use Rattle.proof_model.specs.Theorems.{AnswersAreFirst, FullIsValid, OneFirstFlaw, OneText};
 ghost use Rattle.proof_model.specs.Theorems.{SumsFit, UnlistedComeAfter, ValidHasNoFlaw, WideKeysAgree};
+
+mod fault;
+mod line;
+mod number;
+mod proof;
+mod reading;
+mod text_laws;
+mod writing;
+
+pub use fault::ProofFault;
+pub use proof::{Bound, Listed, Proof};
+pub use reading::read_proof;
+pub use text_laws::written_is_read;
+pub use writing::{push_answer, push_bound, push_header, push_last};
 
 /// Of a valid certificate each solution is listed, or it comes after the last answer.
 pub fn unlisted_come_after()

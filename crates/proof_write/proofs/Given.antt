@@ -5,8 +5,8 @@ use Rattle.std.specs.List.{flat_map}
 use Rattle.std.proofs.lemmas.Bool.Decides.{nat_tests}
 use Rattle.std.proofs.lemmas.List.{flat_map_more, take_all, take_at}
 use Rattle.anyk_model.specs.Output.{cut}
-use Rattle.step_bounds.specs.Steps.{reaches}
-use Rattle.proof_text.specs.Writing.{answer_text}
+use Rattle.bound_query.specs.Steps.{reaches}
+use Rattle.proof_model.specs.Writing.{answer_text}
 
 -- i members of `all` were given, and `rest` is left
 pub record HasListed (all : List (List ℕ)) (i : ℕ) (rest : List (List ℕ)) (old new : List ℕ) : Type 0 where

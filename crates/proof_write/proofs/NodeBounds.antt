@@ -20,8 +20,8 @@ use Rattle.tdp_core.specs.TreeView.{members, node_at, number, parent, rows}
 use Rattle.tdp_core.specs.WellFormed.{IsFormed}
 use Rattle.tdp_core.proofs.TreeFacts.{member_is_row}
 use Rattle.anyk_model.specs.Ranking.{IsBefore}
-use Rattle.proof_text.specs.Certificate.{BoundLine}
-use Rattle.proof_text.specs.Writing.{bound_text}
+use Rattle.proof_model.specs.Certificate.{BoundLine}
+use Rattle.proof_model.specs.Writing.{bound_text}
 use Rattle.proof_model.specs.WrittenProofs.{BoundBefore}
 use Rattle.proof_write.specs.Firsts.{AreBounds, AreFirsts, AreTold, IsBound, IsFirst, IsUnder, bound_at, listed}
 use Rattle.proof_write.proofs.Groups.{distinct_moved, one_group}

@@ -14,14 +14,14 @@ use Rattle.anyk_model.specs.Table.{Table}
 use Rattle.anyk_model.specs.Output.{cut}
 use Rattle.anyk_model.specs.Ranking.{ranking_of}
 use Rattle.bound_query.specs.WeighedQuery.{BoundQuery, Fits}
-use Rattle.query_shape.specs.Shape.{HasTree, Shape}
-use Rattle.step_bounds.specs.Steps.{reaches}
+use Rattle.bound_query.specs.Shape.{HasTree, Shape}
+use Rattle.bound_query.specs.Steps.{reaches}
 use Rattle.witness_key.specs.WitnessKey.{combinations_in}
 use Rattle.witness_key.proofs.Combinations.{ranking_tells}
 use Rattle.plan_build.specs.Plan.{IsPlan, PlanView}
 use Rattle.plan_build.proofs.AnswersAgree.{answers_agree}
-use Rattle.proof_text.specs.Certificate.{BoundLine, Certificate}
-use Rattle.proof_text.specs.Writing.{answer_text, bound_text, header_text, last_text, proof_text}
+use Rattle.proof_model.specs.Certificate.{BoundLine, Certificate}
+use Rattle.proof_model.specs.Writing.{answer_text, bound_text, header_text, last_text, proof_text}
 use Rattle.proof_model.specs.Laws.{IsProblem}
 use Rattle.proof_model.specs.ProofTexts.{IsProofText}
 use Rattle.proof_model.specs.WrittenProofs.{IsWritten}

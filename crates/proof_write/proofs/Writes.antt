@@ -18,8 +18,8 @@ use Rattle.bound_query.specs.WeighedQuery.{BoundQuery}
 use Rattle.bound_query.specs.Weights.{part_of}
 use Rattle.rank_key.specs.Keys.{row_key}
 use Rattle.plan_build.specs.Plan.{HasReducedRows, numbers}
-use Rattle.proof_text.specs.Certificate.{AnswerLine, BoundLine, Certificate}
-use Rattle.proof_text.specs.Writing.{answer_text}
+use Rattle.proof_model.specs.Certificate.{AnswerLine, BoundLine, Certificate}
+use Rattle.proof_model.specs.Writing.{answer_text}
 use Rattle.proof_model.specs.Problem.{Problem, IsSolutionAt, key_at, row_in}
 use Rattle.proof_model.specs.Laws.{IsProblem}
 use Rattle.proof_model.specs.Wide.{wide}

@@ -6,7 +6,7 @@ use Rattle.std.specs.Ordering.{nat_cmp}
 use Rattle.std.specs.Cmp.Lexicographic.{slice_cmp}
 use Rattle.rankings.specs.Below.{is_below}
 use Rattle.tdp_core.specs.TreeView.{NodeView, group, group_count, item, members, number, parent, rows}
-use Rattle.proof_text.specs.Certificate.{BoundLine}
+use Rattle.proof_model.specs.Certificate.{BoundLine}
 use Rattle.proof_model.specs.WrittenProofs.{BoundBefore}
 
 -- the rows that there are, if rows count from 1 and 0 stands for none

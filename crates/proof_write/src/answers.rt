@@ -2,12 +2,12 @@
 ghost use Rattle.std.specs.Prelude.{◌≡◌, ◌++◌, IfOk, not};
 ghost use Rattle.std.specs.List.{flat_map};
 ghost use Rattle.anyk_model.specs.Output.{cut};
-ghost use Rattle.step_bounds.specs.Steps.{reaches};
+ghost use Rattle.bound_query.specs.Steps.{reaches};
 ghost use Rattle.witness_key.specs.WitnessKey.{combinations_in};
-ghost use Rattle.proof_text.specs.Writing.{answer_text};
+ghost use Rattle.proof_model.specs.Writing.{answer_text};
 
 use bound_query::Query;
-use proof_text::push_answer;
+use proof_model::push_answer;
 use std::alloc::Global;
 use std::sync::ledger::Ledger;
 use step_counter::{NoMemory, Steps};

@@ -11,7 +11,7 @@ ghost use Rattle.proof_model.specs.ProofTexts.{IsProofText};
 use crate::answers::push_answers;
 use crate::bounds::push_bounds;
 use bound_query::Query;
-use proof_text::{push_header, push_last};
+use proof_model::{push_header, push_last};
 use rank_key::Rank;
 use std::alloc::Global;
 use std::sync::ledger::Ledger;

@@ -3,8 +3,8 @@ use Rattle.std.proofs.Common.{◌≡◌, ◌≢◌, ℕ, ◌<◌, List, length, 
 use Rattle.std.specs.Option.{option_map}
 use Rattle.query_grammar.specs.declared.fault.ParseFault.{ParseFault}
 use Rattle.query_grammar.specs.declared.fault.ParseFault.TheVariants as fault
-use Rattle.query_tokens.specs.declared.token.Token.{Token}
-use Rattle.query_tokens.specs.Lexeme.{Lexeme, lexemes}
+use Rattle.query_select.specs.declared.token.Token.{Token}
+use Rattle.query_select.specs.Lexeme.{Lexeme, lexemes}
 use Rattle.query_grammar.specs.Reading.{Steps, Read, Next, all_at, Fails, Gives, Added}
 use Rattle.query_grammar.proofs.Loops.{with_front, goes_on, ends, is_done}
 use Rattle.query_grammar.proofs.Stepping.{fewer}

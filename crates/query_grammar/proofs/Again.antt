@@ -1,7 +1,7 @@
 -- What is in the grammar is read as what it is.
 use Rattle.std.proofs.Common.{◌≡◌, ℕ, zero, suc, ◌≤◌, List, [], length, Option, Some, None, Ok, Bool, true, false, refl, ap, ◌∙◌, arith, unwrap_or}
-use Rattle.query_tokens.specs.declared.token.Kind.{Kind}
-use Rattle.query_tokens.specs.declared.token.Kind.TheVariants as kind
+use Rattle.query_select.specs.declared.token.Kind.{Kind}
+use Rattle.query_select.specs.declared.token.Kind.TheVariants as kind
 use Rattle.query_select.specs.declared.select.ColumnRef.{ColumnRef}
 use Rattle.query_select.specs.declared.select.SelectList.{SelectList}
 use Rattle.query_select.specs.declared.select.Side.TheVariants.{Column, Constant}
@@ -10,11 +10,11 @@ use Rattle.query_select.specs.declared.select.ItemRef.{ItemRef}
 use Rattle.query_select.specs.declared.select.KeyRef.{KeyRef}
 use Rattle.query_select.specs.declared.select.Term.{Term}
 use Rattle.query_select.specs.declared.select.Select.{Select}
-use Rattle.query_tokens.specs.Lexeme.{Lexeme}
-use Rattle.query_tokens.specs.Kinds.{same}
+use Rattle.query_select.specs.Lexeme.{Lexeme}
+use Rattle.query_select.specs.Kinds.{same}
 use Rattle.query_grammar.specs.Reading.{Next, Joined, Clauses, Branches, expect_at, optional_at, many_at, column_at, next_column_at, columns_at, list_at, side_at, condition_at, next_condition_at, conditions_at, item_at, plain_item_at, joined_item_at, inner_item_at, next_item_at, items_at, where_at, sign_at, term_at, next_term_at, direction_at, terms_at, key_at, next_key_at, keys_at, order_at, limit_at, finish_at, selection_at, sources_at, branch_at, query_at, next_branch_at, branches_at, queries_at}
 use Rattle.query_grammar.specs.Grammar.{One, one, Many, none, more, Behind, after_sign, IsColumn, bare, qualified, IsColumns, columns, IsList, star, listed, IsConstant, text, digits, negative, IsCondition, two_columns, constant_left, constant_right, IsConditions, conditions, IsItem, named, aliased, aliased_as, IsJoined, joined, IsNextItem, comma, join, inner_join, IsItems, items, IsWhere, no_where, some_where, IsSigned, plus, minus, IsFirstTerm, unsigned, signed, IsDirection, unsaid, ascending, descending, IsKey, key, IsOrder, no_order, some_order, IsLimit, no_limit, some_limit, IsEnd, no_sign, semicolon, IsBranch, branch, IsQuery, query, IsNextBranch, next_branch, IsQueries, queries}
-use Rattle.query_tokens.proofs.SameKind.{same_self}
+use Rattle.query_select.proofs.SameKind.{same_self}
 use Rattle.query_grammar.proofs.Outcomes.{Shortens}
 use Rattle.query_grammar.proofs.Shorter.{column_shortens, behind_shortens, condition_shortens, next_item_shortens, signed_shortens, key_shortens, next_branch_shortens}
 

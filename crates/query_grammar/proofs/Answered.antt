@@ -2,9 +2,9 @@
 use Rattle.std.proofs.Common.{◌≡◌, ℕ, ◌≤◌, List, length, Option, Ok, Err, true, sym, ap, ◌∙◌}
 use Rattle.query_grammar.specs.declared.fault.ParseFault.{ParseFault}
 use Rattle.query_grammar.specs.declared.fault.ParseFault.TheVariants as fault
-use Rattle.query_tokens.specs.Lexeme.{Lexeme}
+use Rattle.query_select.specs.Lexeme.{Lexeme}
 use Rattle.query_grammar.specs.Reading.{Clauses, Branches, Fails, query_at, queries_at}
-use Rattle.query_tokens.specs.Tokens.{tokens_of}
+use Rattle.query_select.specs.Tokens.{tokens_of}
 use Rattle.query_grammar.specs.Parse.{Says, SaysAll, Faults, FaultsAll, IsParsed, IsParsedAll, Limits, LimitsAll}
 use Rattle.query_grammar.proofs.Stuck.{queries_found, first_fault_of}
 use Rattle.query_grammar.proofs.OneQuery.{query_found, first_fault}

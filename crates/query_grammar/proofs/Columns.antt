@@ -2,9 +2,9 @@
 use Rattle.std.proofs.Common.{◌≡◌, ℕ, List, Option, Some, None, Result, Ok, true, false, sym, ap}
 use Rattle.std.specs.Option.{is_some, option_map}
 use Rattle.query_select.specs.declared.select.ColumnRef.{ColumnRef}
-use Rattle.query_tokens.specs.declared.token.Kind.TheVariants as kind
-use Rattle.query_tokens.specs.declared.token.Token.{Token}
-use Rattle.query_tokens.specs.Lexeme.{Lexeme, lexeme}
+use Rattle.query_select.specs.declared.token.Kind.TheVariants as kind
+use Rattle.query_select.specs.declared.token.Token.{Token}
+use Rattle.query_select.specs.Lexeme.{Lexeme, lexeme}
 use Rattle.query_grammar.specs.declared.fault.ParseFault.{ParseFault}
 use Rattle.query_grammar.specs.declared.fault.ParseFault.TheVariants as fault
 use Rattle.query_grammar.specs.Reading.{◌>>=◌, Fails, Gives, Read, behind, column_at, expect_at, found, optional_at, some_lexeme}

@@ -8,10 +8,10 @@ use Rattle.query_grammar.specs.declared.fault.ParseFault.{ParseFault}
 use Rattle.query_grammar.specs.declared.fault.ParseFault.TheVariants as fault
 use Rattle.query_select.specs.declared.select.Select.{Select}
 use Rattle.query_select.specs.declared.select.SelectAll.{SelectAll}
-use Rattle.query_tokens.specs.Lexeme.{Lexeme}
+use Rattle.query_select.specs.Lexeme.{Lexeme}
 use Rattle.query_grammar.specs.Reading.{Clauses, Branches, place_of, query_at, queries_at}
 use Rattle.query_grammar.specs.Grammar.{AreQuery, AreQueries}
-use Rattle.query_tokens.specs.Tokens.{tokens_of}
+use Rattle.query_select.specs.Tokens.{tokens_of}
 use Rattle.query_grammar.specs.FirstFault.{Begins, Stops, IsFirstFault}
 use Rattle.query_grammar.specs.Parse.{Says, SaysAll, Faults, FaultsAll, Parses, ParsesAll, Agree, IsTooGreat, HasFewKeys, items_in, decimal, limit_of, select_of, all_of}
 use Rattle.query_grammar.proofs.Again.{query_again, queries_again}

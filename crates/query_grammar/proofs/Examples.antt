@@ -3,9 +3,9 @@ use Rattle.std.proofs.Common.{◌≡◌, ℕ, List, [], ◌∷◌, length, Some,
 use Rattle.std.specs.Prelude.{codes}
 use Rattle.query_select.specs.declared.select.SelectList.TheVariants.{Star}
 use Rattle.query_select.specs.declared.select.Select.{Select}
-use Rattle.query_tokens.specs.Lexeme.{Lexeme}
+use Rattle.query_select.specs.Lexeme.{Lexeme}
 use Rattle.query_grammar.specs.Reading.{place_of, query_at, queries_at}
-use Rattle.query_tokens.specs.Tokens.{tokens_of}
+use Rattle.query_select.specs.Tokens.{tokens_of}
 use Rattle.query_grammar.specs.Parse.{IsParsedAll}
 use Rattle.query_grammar.proofs.Literals.{parsed_all_as}
 use Rattle.query_grammar.proofs.OnLiterals.{query_grammar_on_literals}

@@ -1,10 +1,10 @@
 -- The first of some tokens, and those after it.
 use Rattle.std.proofs.Common.{◌≡◌, ℕ, ◌-◌, ◌<◌, ◌≤◌, List, [], ◌∷◌, length, take, drop, get_or, Some, None, Ok, true, false, refl, sym, ap, arith}
 use Rattle.std.proofs.lemmas.List.{take_all}
-use Rattle.query_tokens.specs.declared.token.Kind.{Kind}
-use Rattle.query_tokens.specs.declared.token.Token.{Token}
-use Rattle.query_tokens.specs.Kinds.{same}
-use Rattle.query_tokens.specs.Lexeme.{lexeme, lexemes}
+use Rattle.query_select.specs.declared.token.Kind.{Kind}
+use Rattle.query_select.specs.declared.token.Token.{Token}
+use Rattle.query_select.specs.Kinds.{same}
+use Rattle.query_select.specs.Lexeme.{lexeme, lexemes}
 use Rattle.query_grammar.specs.Reading.{expect_at, optional_at, place_of}
 
 pub first_place : (end : ℕ) (ts : List Token) (d : Token) → 1 ≤ length ts → (get_or ts 0 d).at ≡ place_of end (lexemes ts)

@@ -3,7 +3,7 @@ use Rattle.std.proofs.Common.{ℕ, List, Result, Ok, Err, refl}
 use Rattle.std.specs.Option.{option_map}
 use Rattle.query_grammar.specs.declared.fault.ParseFault.{ParseFault}
 use Rattle.query_grammar.specs.declared.fault.ParseFault.TheVariants as fault
-use Rattle.query_tokens.specs.Lexeme.{Lexeme}
+use Rattle.query_select.specs.Lexeme.{Lexeme}
 use Rattle.query_grammar.specs.Reading.{Gives, found}
 
 pub found_gives : {X Y : Type 0} (end : ℕ) (view : X → Y) (r : Result X ParseFault) (read : Result Y (List Lexeme)) → Gives end view r read → Gives end (option_map view) (found r) (found read)

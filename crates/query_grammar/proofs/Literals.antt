@@ -8,9 +8,9 @@ use Rattle.query_grammar.specs.declared.fault.ParseFault.{ParseFault}
 use Rattle.query_grammar.specs.declared.fault.ParseFault.TheVariants as fault
 use Rattle.query_select.specs.declared.select.Select.{Select}
 use Rattle.query_select.specs.declared.select.SelectAll.{SelectAll}
-use Rattle.query_tokens.specs.Lexeme.{Lexeme}
+use Rattle.query_select.specs.Lexeme.{Lexeme}
 use Rattle.query_grammar.specs.Reading.{Clauses, Branches, query_at, queries_at}
-use Rattle.query_tokens.specs.Tokens.{tokens_of}
+use Rattle.query_select.specs.Tokens.{tokens_of}
 use Rattle.query_grammar.specs.Parse.{IsParsed, IsParsedAll, Says, SaysAll, decimal, limit_of, select_of, all_of, items_in}
 use Rattle.query_grammar.proofs.Answered.{says_read, says_all_read}
 use Rattle.query_grammar.proofs.Exactly.{answer, answer_read, answer_limit, answer_all, answer_read_all, answer_keys}

@@ -6,7 +6,7 @@ use Rattle.query_grammar.specs.declared.fault.ParseFault.TheVariants as fault
 use Rattle.std.specs.List.{flat_map}
 use Rattle.query_select.specs.declared.select.ItemRef.{ItemRef}
 use Rattle.query_select.specs.declared.select.Equality.{Equality}
-use Rattle.query_tokens.specs.Lexeme.{Lexeme}
+use Rattle.query_select.specs.Lexeme.{Lexeme}
 use Rattle.query_grammar.specs.Reading.{Read, Next, ◌>>=◌, one_more, many_at, all_at, Fails, Joined, Steps, next_item_at}
 use Rattle.query_grammar.specs.Places.{Choice}
 use Rattle.query_grammar.proofs.Outcomes.{Shortens, NextOut, further, stop, failed}

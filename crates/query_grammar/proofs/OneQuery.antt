@@ -3,7 +3,7 @@ use Rattle.std.proofs.Common.{◌≡◌, ℕ, zero, suc, ◌^◌, ◌<◌, ◌�
 use Rattle.std.specs.Prelude.{IfSome}
 use Rattle.std.proofs.lemmas.Bool.{false≢true}
 use Rattle.query_select.specs.declared.select.Select.{Select}
-use Rattle.query_tokens.specs.Lexeme.{Lexeme}
+use Rattle.query_select.specs.Lexeme.{Lexeme}
 use Rattle.query_grammar.specs.Reading.{Read, Clauses, Branches, ◌>>=◌, many_at, all_at, limit_at, finish_at, branch_at, query_at, next_branch_at, branches_at, queries_at}
 use Rattle.query_grammar.specs.Grammar.{none, more, branch, IsQuery, query, next_branch, IsQueries, queries, AreQuery, AreQueries}
 use Rattle.query_grammar.specs.Parse.{IsParsed, IsParsedAll, limit_of, select_of, as_one_branch}

@@ -1,12 +1,12 @@
 -- What reading gives: a thing of the grammar and a walk over its tokens, or the token at which the
 -- walk ends.
 use Rattle.std.proofs.Common.{◌≡◌, ℕ, zero, suc, ◌≤◌, ◌<◌, List, [], ◌∷◌, length, Option, Some, None, Ok, Err, Bool, true, false, cond, refl, sym, ◌∙◌, arith}
-use Rattle.query_tokens.specs.declared.token.Kind.{Kind}
-use Rattle.query_tokens.specs.Lexeme.{Lexeme}
+use Rattle.query_select.specs.declared.token.Kind.{Kind}
+use Rattle.query_select.specs.Lexeme.{Lexeme}
 use Rattle.query_grammar.specs.Reading.{Read, Next, ◌>>=◌, expect_at, optional_at, one_more, many_at, all_at, found, behind}
-use Rattle.query_tokens.specs.Kinds.{same}
+use Rattle.query_select.specs.Kinds.{same}
 use Rattle.query_grammar.specs.Grammar.{One, one, Many, none, more, Behind, after_sign}
-use Rattle.query_tokens.proofs.SameKind.{same_true}
+use Rattle.query_select.proofs.SameKind.{same_true}
 use Rattle.query_grammar.specs.Places.{Place, Choice, on, nothing, choice_of, Walked, ended, stepped, walk}
 
 -- what is left after a thing is shorter

@@ -2,9 +2,9 @@
 use Rattle.std.proofs.Common.{◌≡◌, ◌∙◌, ℕ, List, Ok, refl, sym, ap}
 use Rattle.query_select.specs.declared.select.ItemRef.{ItemRef}
 use Rattle.query_select.specs.declared.select.Side.{Side}
-use Rattle.query_tokens.specs.declared.token.Kind.TheVariants as kind
-use Rattle.query_tokens.specs.declared.token.Token.{Token}
-use Rattle.query_tokens.specs.Lexeme.{Lexeme, lexeme}
+use Rattle.query_select.specs.declared.token.Kind.TheVariants as kind
+use Rattle.query_select.specs.declared.token.Token.{Token}
+use Rattle.query_select.specs.Lexeme.{Lexeme, lexeme}
 use Rattle.query_grammar.specs.declared.fault.ParseFault.{ParseFault}
 use Rattle.query_grammar.specs.Reading.{◌>>=◌, Fails, Read, alias_at, condition_at, expect_at, item_at, side_at, with_left}
 use Rattle.query_grammar.proofs.Columns.{fails_on}

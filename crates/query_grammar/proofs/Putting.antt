@@ -6,8 +6,8 @@ use Rattle.query_grammar.specs.declared.fault.ParseFault.{ParseFault}
 use Rattle.query_grammar.specs.declared.fault.ParseFault.TheVariants as fault
 use Rattle.query_select.specs.declared.select.ItemRef.{ItemRef}
 use Rattle.query_select.specs.declared.select.Equality.{Equality}
-use Rattle.query_tokens.specs.declared.token.Token.{Token}
-use Rattle.query_tokens.specs.Lexeme.{Lexeme, lexemes}
+use Rattle.query_select.specs.declared.token.Token.{Token}
+use Rattle.query_select.specs.Lexeme.{Lexeme, lexemes}
 use Rattle.query_grammar.specs.Reading.{Read, Next, ◌>>=◌, all_at, Gives, Fails, Joined, Steps, found, item_at, plain_item_at, next_item_at, items_at, put_after, put_next}
 use Rattle.query_grammar.proofs.Loops.{with_items, items_go_on, items_end, items_done}
 use Rattle.query_grammar.proofs.Stepping.{fewer}

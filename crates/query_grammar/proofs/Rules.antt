@@ -1,7 +1,7 @@
 -- Each reading function gives a thing of its rule, or stops where the walk stops.
 use Rattle.std.proofs.Common.{◌≡◌, ◌++◌, ◌&&◌, cond, ℕ, List, [], ◌∷◌, Option, Some, None, Result, Ok, Err, Bool, true, false, refl, sym, ◌∙◌, subst, unwrap_or}
-use Rattle.query_tokens.specs.declared.token.Kind.{Kind}
-use Rattle.query_tokens.specs.declared.token.Kind.TheVariants as kind
+use Rattle.query_select.specs.declared.token.Kind.{Kind}
+use Rattle.query_select.specs.declared.token.Kind.TheVariants as kind
 use Rattle.query_select.specs.declared.select.ColumnRef.{ColumnRef}
 use Rattle.query_select.specs.declared.select.Equality.{Equality}
 use Rattle.query_select.specs.declared.select.ItemRef.{ItemRef}
@@ -11,9 +11,9 @@ use Rattle.query_select.specs.declared.select.Side.{Side}
 use Rattle.query_select.specs.declared.select.Side.TheVariants.{Column, Constant}
 use Rattle.query_select.specs.declared.select.Term.{Term}
 use Rattle.query_select.specs.declared.select.Select.{Select}
-use Rattle.query_tokens.specs.Lexeme.{Lexeme}
+use Rattle.query_select.specs.Lexeme.{Lexeme}
 use Rattle.query_grammar.specs.Reading.{Read, Branches, ◌>>=◌, expect_at, behind, with_column, column_at, next_column_at, columns_at, with_star, list_at, with_digits, with_minus, with_text, side_at, with_left, condition_at, next_condition_at, conditions_at, with_alias, with_as, alias_at, item_at, plain_item_at, joined_item_at, inner_item_at, with_inner, with_comma, next_item_at, items_at, with_where, where_at, with_plus, with_sign, sign_at, term_at, with_next_sign, next_term_at, with_desc, direction_at, with_direction, terms_at, key_at, next_key_at, keys_at, with_order, order_at, with_limit, limit_at, nothing_left, finish_at, selection_at, sources_at, branch_at, all_branch_at, with_union, next_branch_at, branches_at, queries_at}
-use Rattle.query_tokens.specs.Kinds.{same}
+use Rattle.query_select.specs.Kinds.{same}
 use Rattle.query_grammar.specs.Grammar.{One, Many, Behind, IsColumn, bare, qualified, IsColumns, columns, IsList, star, listed, IsConstant, text, digits, negative, IsCondition, two_columns, constant_left, constant_right, IsConditions, conditions, IsItem, named, aliased, aliased_as, IsJoined, joined, IsNextItem, comma, join, inner_join, IsItems, items, IsWhere, no_where, some_where, IsSigned, plus, minus, IsFirstTerm, unsigned, signed, IsDirection, unsaid, ascending, descending, IsKey, key, IsOrder, no_order, some_order, IsLimit, no_limit, some_limit, IsEnd, no_sign, semicolon, IsBranch, branch, IsNextBranch, next_branch, IsQueries, queries}
 use Rattle.query_grammar.specs.Places as place
 use Rattle.query_grammar.specs.Places.{Place, Choice, Clause, on_clause, where_clause, Use, on_left, on_right, ranked, Item, a_column, after_column, after_list, after_condition, after_conditions, after_one_item, after_item, after_items, after_where, after_branches, after_order, after_limit, after_term, after_terms, after_key, ending, on, nothing, on_if, choice_of, stepped, walk}

@@ -1,12 +1,12 @@
 -- What is left after each thing of the grammar is shorter.
 use Rattle.std.proofs.Common.{◌≤◌, List, length, arith, Bool}
-use Rattle.query_tokens.specs.declared.token.Kind.{Kind}
-use Rattle.query_tokens.specs.declared.token.Kind.TheVariants as kind
+use Rattle.query_select.specs.declared.token.Kind.{Kind}
+use Rattle.query_select.specs.declared.token.Kind.TheVariants as kind
 use Rattle.query_select.specs.declared.select.SelectList.{SelectList}
 use Rattle.query_select.specs.declared.select.ItemRef.{ItemRef}
 use Rattle.query_select.specs.declared.select.Equality.{Equality}
 use Rattle.query_select.specs.declared.select.KeyRef.{KeyRef}
-use Rattle.query_tokens.specs.Lexeme.{Lexeme}
+use Rattle.query_select.specs.Lexeme.{Lexeme}
 use Rattle.query_grammar.specs.Grammar.{One, one, Many, none, more, Behind, after_sign, IsColumn, bare, qualified, IsConstant, text, digits, negative, IsCondition, two_columns, constant_left, constant_right, IsConditions, conditions, IsItem, named, aliased, aliased_as, IsJoined, joined, IsNextItem, comma, join, inner_join, IsSigned, plus, minus, IsFirstTerm, unsigned, signed, IsDirection, unsaid, ascending, descending, IsKey, key, columns, IsList, star, listed, IsItems, items, IsWhere, no_where, some_where, IsOrder, no_order, some_order, IsBranch, branch, IsNextBranch, next_branch}
 use Rattle.query_grammar.proofs.Outcomes.{Shortens}
 

@@ -1,9 +1,9 @@
 -- Each search for one more thing takes at least a token.
 use Rattle.std.proofs.Common.{◌≡◌, ◌<◌, List, length, Some, Ok, true, false, refl, arith}
 use Rattle.std.proofs.lemmas.List.{length-map}
-use Rattle.query_tokens.specs.declared.token.Kind.TheVariants as kind
-use Rattle.query_tokens.specs.declared.token.Token.{Token}
-use Rattle.query_tokens.specs.Lexeme.{Lexeme, lexeme, lexemes}
+use Rattle.query_select.specs.declared.token.Kind.TheVariants as kind
+use Rattle.query_select.specs.declared.token.Token.{Token}
+use Rattle.query_select.specs.Lexeme.{Lexeme, lexeme, lexemes}
 use Rattle.query_grammar.specs.Places.{where_clause}
 use Rattle.query_grammar.specs.Reading.{Steps, Next, optional_at, next_column_at, next_condition_at, next_item_at, next_term_at, sign_at, next_key_at, next_branch_at}
 use Rattle.query_grammar.proofs.Loops.{steps_from}

@@ -2,7 +2,7 @@
 -- be several, and with the next one they are not.
 use Rattle.std.proofs.Common.{◌≡◌, List, [], ◌∷◌, ◌++◌, Option, Some, None, Result, Ok, Err, Bool, true, false, refl, sym, ap, ◌∙◌, subst}
 use Rattle.std.proofs.lemmas.List.{append-nil}
-use Rattle.query_tokens.specs.Lexeme.{Lexeme}
+use Rattle.query_select.specs.Lexeme.{Lexeme}
 use Rattle.query_grammar.specs.Reading.{Branches, queries_at}
 use Rattle.query_grammar.specs.Grammar.{IsQueries, AreQueries}
 use Rattle.query_grammar.specs.Places as place

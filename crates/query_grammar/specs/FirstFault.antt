@@ -1,6 +1,6 @@
 -- The place where a list of tokens stops being the beginning of a text of a grammar.
 use Rattle.std.specs.Prelude.{◌≡◌, List, [], ◌∷◌, ◌++◌}
-use Rattle.query_tokens.specs.Lexeme.{Lexeme}
+use Rattle.query_select.specs.Lexeme.{Lexeme}
 
 -- `Is` says which lists of tokens are texts.
 module _ (Is : List Lexeme → Type 0) where

@@ -5,10 +5,10 @@ use Rattle.query_grammar.specs.declared.fault.ParseFault.{ParseFault}
 use Rattle.query_grammar.specs.declared.fault.ParseFault.TheVariants as fault
 use Rattle.query_select.specs.declared.select.Select.{Select}
 use Rattle.query_select.specs.declared.select.SelectAll.{SelectAll}
-use Rattle.query_tokens.specs.Lexeme.{Lexeme}
+use Rattle.query_select.specs.Lexeme.{Lexeme}
 use Rattle.query_grammar.specs.Reading.{Clauses, Branches, place_of}
 use Rattle.query_grammar.specs.Grammar.{IsQuery, IsQueries, AreQuery, AreQueries}
-use Rattle.query_tokens.specs.Tokens.{tokens_of}
+use Rattle.query_select.specs.Tokens.{tokens_of}
 use Rattle.query_grammar.specs.FirstFault.{IsFirstFault}
 
 -- the value of digits that follow a number

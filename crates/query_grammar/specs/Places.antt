@@ -1,9 +1,9 @@
 -- The places at which a reader of a query can be, and the tokens that each allows.
 use Rattle.std.specs.Prelude.{List, [], ◌∷◌, map, Option, Some, None, Result, Ok, Err, ◌&&◌, Bool, true, false, if◌then◌else◌}
-use Rattle.query_tokens.specs.declared.token.Kind.{Kind}
-use Rattle.query_tokens.specs.declared.token.Kind.TheVariants as kind
-use Rattle.query_tokens.specs.Lexeme.{Lexeme}
-use Rattle.query_tokens.specs.Kinds.{same}
+use Rattle.query_select.specs.declared.token.Kind.{Kind}
+use Rattle.query_select.specs.declared.token.Kind.TheVariants as kind
+use Rattle.query_select.specs.Lexeme.{Lexeme}
+use Rattle.query_select.specs.Kinds.{same}
 
 -- the clause in which conditions are
 pub data Clause : Type 0 where

@@ -1,8 +1,8 @@
 -- Reading from left to right. An error is what is left when the next token is not allowed.
 use Rattle.std.specs.Prelude.{◌≡◌, ◌≢◌, ◌<◌, ℕ, zero, suc, List, [], ◌∷◌, ◌++◌, length, map, Option, Some, None, Result, Ok, Err, Bool, true, false, if◌then◌else◌, ◌==◌, unwrap_or}
 use Rattle.std.specs.List.{flat_map}
-use Rattle.query_tokens.specs.declared.token.Kind.{Kind}
-use Rattle.query_tokens.specs.declared.token.Kind.TheVariants as kind
+use Rattle.query_select.specs.declared.token.Kind.{Kind}
+use Rattle.query_select.specs.declared.token.Kind.TheVariants as kind
 use Rattle.query_grammar.specs.declared.fault.ParseFault.{ParseFault}
 use Rattle.query_grammar.specs.declared.fault.ParseFault.TheVariants as fault
 use Rattle.query_select.specs.declared.select.ColumnRef.{ColumnRef}
@@ -15,9 +15,9 @@ use Rattle.query_select.specs.declared.select.Equality.{Equality}
 use Rattle.query_select.specs.declared.select.Term.{Term}
 use Rattle.query_select.specs.declared.select.KeyRef.{KeyRef}
 use Rattle.query_select.specs.declared.select.Select.{Select}
-use Rattle.query_tokens.specs.declared.token.Token.{Token}
-use Rattle.query_tokens.specs.Kinds.{same}
-use Rattle.query_tokens.specs.Lexeme.{Lexeme, lexeme}
+use Rattle.query_select.specs.declared.token.Token.{Token}
+use Rattle.query_select.specs.Kinds.{same}
+use Rattle.query_select.specs.Lexeme.{Lexeme, lexeme}
 
 abbrev pub Read : Type 0 → Type 0
 Read A = Result (A × List Lexeme) (List Lexeme)

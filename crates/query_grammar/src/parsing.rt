@@ -13,7 +13,7 @@ ghost use Rattle.query_select.specs.declared.select.SelectAll.{SelectAll};
 use crate::fault::ParseFault;
 use crate::reader::{queries, query};
 use query_select::select::{Select, SelectAll};
-use query_tokens::{Token, tokens};
+use query_select::{Token, tokens};
 use std::alloc::Global;
 
 /// The greatest length of a query, in bytes.

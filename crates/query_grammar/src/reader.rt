@@ -2,15 +2,15 @@
 
 ghost use Rattle.std.specs.Prelude.{◌≡◌, length, ◌≤◌, ◌++◌, ◌∷◌, [], MatchOption, Some, None, true, IfOk, option_copied, Option, Bool, List, ℕ};
 ghost use Rattle.std.specs.Option.{option_map};
-ghost use Rattle.query_tokens.specs.Lexeme.{Lexeme, lexeme, lexemes};
+ghost use Rattle.query_select.specs.Lexeme.{Lexeme, lexeme, lexemes};
 ghost use Rattle.query_grammar.specs.Reading.{Gives, Added, found, expect_at, optional_at, place_of, column_at, next_column_at, undoubled, undoubled_from, side_at, condition_at, next_condition_at, alias_at, item_at, plain_item_at, joined_item_at, next_item_at, items_at, put_after, put_next, where_at, sign_at, next_term_at, direction_at, key_at, next_key_at, order_at, limit_at, selection_at, sources_at, branch_at, ended_at, query_at, next_branch_at, queries_at, some_lexeme, with_left, Read, Next, Steps, behind, several_at, first_term_at};
-ghost use Rattle.query_tokens.specs.Kinds.{same};
+ghost use Rattle.query_select.specs.Kinds.{same};
 
 use crate::fault::ParseFault;
 use query_select::name::{Bytes, Name};
 use query_select::select::{ColumnRef, Equality, ItemRef, KeyRef, Select, SelectList, Side, Term};
 use query_select::sequence::Sequence;
-use query_tokens::{Kind, Token};
+use query_select::{Kind, Token};
 use std::alloc::{AllocError, Global};
 
 /// Whether a token is of this kind.

@@ -7,18 +7,18 @@ use Rattle.std.specs.Prelude.{codes}
 use Rattle.std.proofs.lemmas.List.{take_at, take-append-drop, length-append, append-nil}
 use Rattle.std.proofs.lemmas.List.Folds.{length-prefix_len}
 use Rattle.std.proofs.lemmas.Bool.{eqb-true, ltb-true, ltb-false, and_parts}
-use Rattle.query_tokens.specs.declared.token.Kind.{Kind}
-use Rattle.query_tokens.specs.declared.token.Kind.TheVariants as kind
-use Rattle.query_tokens.specs.Kinds.{same}
-use Rattle.query_tokens.specs.Tokens.{is_blank, is_letter, is_word_byte, is_word, kind_of_word, kind_of_sign, closing, Scan, quoted_scan, word_scan, digits_scan, scan_of}
+use Rattle.query_select.specs.declared.token.Kind.{Kind}
+use Rattle.query_select.specs.declared.token.Kind.TheVariants as kind
+use Rattle.query_select.specs.Kinds.{same}
+use Rattle.query_select.specs.Tokens.{is_blank, is_letter, is_word_byte, is_word, kind_of_word, kind_of_sign, closing, Scan, quoted_scan, word_scan, digits_scan, scan_of}
 use Rattle.query_parse.specs.Text.{doubled}
 use Rattle.query_parse.specs.TokenForms.{IsTokenForm, word, quoted_name, string, digits, sign, NoToken, IsLongestToken, IsLongestScan, ScansLongest}
-use Rattle.query_tokens.proofs.SameKind.{same_true, same_self}
+use Rattle.query_select.proofs.SameKind.{same_true, same_self}
 use Rattle.query_parse.proofs.NameScan.{prefix_ends, quoted_scans}
-use Rattle.query_tokens.proofs.ScanLength.{letter_in_word}
+use Rattle.query_select.proofs.ScanLength.{letter_in_word}
 use Rattle.query_parse.proofs.TextScan.{text_scans}
 use Rattle.query_parse.proofs.Written.{word_scans, digits_scan_as}
-use Rattle.query_tokens.proofs.Strings.{Found, found_of}
+use Rattle.query_select.proofs.Strings.{Found, found_of}
 use Rattle.query_parse.proofs.Strings.{string_ends, closing_string}
 
 -- ---- fronts that pass a test

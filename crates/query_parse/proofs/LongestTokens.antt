@@ -2,12 +2,12 @@
 use Rattle.std.proofs.Common.{◌≡◌, ℕ, zero, suc, ◌+◌, ◌≤◌, List, [], ◌∷◌, ◌++◌, length, take, drop, Bool, true, false, refl, sym, ap, subst, ◌∙◌, inl, inr, arith}
 use Rattle.std.specs.Prelude.{◌↔◌}
 use Rattle.std.proofs.lemmas.List.{take_at, drop_at, length-append}
-use Rattle.query_tokens.specs.declared.token.Kind.{Kind}
-use Rattle.query_tokens.specs.declared.token.Kind.TheVariants as kind
-use Rattle.query_tokens.specs.Lexeme.{Lexeme}
-use Rattle.query_tokens.specs.Tokens.{is_blank, Scan, stray, scan_of, tokens_from, tokens_of}
+use Rattle.query_select.specs.declared.token.Kind.{Kind}
+use Rattle.query_select.specs.declared.token.Kind.TheVariants as kind
+use Rattle.query_select.specs.Lexeme.{Lexeme}
+use Rattle.query_select.specs.Tokens.{is_blank, Scan, stray, scan_of, tokens_from, tokens_of}
 use Rattle.query_parse.specs.TokenForms.{NoToken, IsLongestToken, IsLongestScan, ScansLongest, AreTokens, no_more, after_blank, after_token, after_stray}
-use Rattle.query_tokens.proofs.ScanLength.{lexeme_of, tokens_at_token, tokens_at_blank}
+use Rattle.query_select.proofs.ScanLength.{lexeme_of, tokens_at_token, tokens_at_blank}
 use Rattle.query_parse.proofs.Longest.{first_byte, no_token_in_nothing, scan_longest, blank_begins_none, form_scans, token_known}
 
 -- ---- any bytes are scanned

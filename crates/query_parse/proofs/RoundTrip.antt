@@ -8,14 +8,14 @@ use Rattle.std.specs.Char.{is_ascii_digit}
 use Rattle.std.proofs.lemmas.List.{append-nil, length-map}
 use Rattle.std.proofs.lemmas.Str.Parse.{IsNumeralModel, numerals_by_fold, tells_all_ascii_digits}
 use Rattle.std.proofs.lemmas.Fmt.{decimal_nonempty, digits_decimal, digits_value-decimal}
-use Rattle.query_tokens.specs.declared.token.Kind.TheVariants as kind
+use Rattle.query_select.specs.declared.token.Kind.TheVariants as kind
 use Rattle.query_select.specs.declared.select.ItemRef.{ItemRef}
 use Rattle.query_select.specs.declared.select.Equality.{Equality}
 use Rattle.query_select.specs.declared.select.KeyRef.{KeyRef}
 use Rattle.query_select.specs.declared.select.Select.{Select}
 use Rattle.query_grammar.specs.Reading.{Clauses}
 use Rattle.query_grammar.specs.Grammar.{IsLimit, no_limit, some_limit, IsEnd, no_sign, branch, IsQuery, query}
-use Rattle.query_tokens.specs.Tokens.{tokens_from, tokens_of, kind_of_word}
+use Rattle.query_select.specs.Tokens.{tokens_from, tokens_of, kind_of_word}
 use Rattle.query_grammar.specs.Parse.{decimal_from, limit_of, select_of, IsParsed}
 use Rattle.query_parse.specs.Text.{list_text, items_text, where_text, order_text, limit_text, text_of}
 use Rattle.query_select.specs.Same.{placeless_item, placeless_key, placeless}

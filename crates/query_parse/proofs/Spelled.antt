@@ -2,7 +2,7 @@
 use Rattle.std.proofs.Common.{◌≡◌, ℕ, ◌+◌, List, [], ◌∷◌, ◌++◌, map, Option, Some, None, Bool, true, false, cond, refl, sym, ap, subst, ◌∙◌, append_assoc}
 use Rattle.std.specs.Prelude.{codes}
 use Rattle.std.specs.List.{flat_map}
-use Rattle.query_tokens.specs.declared.token.Kind.TheVariants as kind
+use Rattle.query_select.specs.declared.token.Kind.TheVariants as kind
 use Rattle.query_select.specs.declared.select.ColumnRef.{ColumnRef}
 use Rattle.query_select.specs.declared.select.SelectList.{SelectList}
 use Rattle.query_select.specs.declared.select.SelectList.TheVariants.{Star, Columns}
@@ -12,14 +12,14 @@ use Rattle.query_select.specs.declared.select.Side.TheVariants.{Column, Constant
 use Rattle.query_select.specs.declared.select.Equality.{Equality}
 use Rattle.query_select.specs.declared.select.Term.{Term}
 use Rattle.query_select.specs.declared.select.KeyRef.{KeyRef}
-use Rattle.query_tokens.specs.Lexeme.{Lexeme}
+use Rattle.query_select.specs.Lexeme.{Lexeme}
 use Rattle.query_grammar.specs.Reading.{Joined, undoubled}
 use Rattle.query_grammar.specs.Grammar.{Many, none, more, Behind, after_sign, IsColumn, bare, qualified, columns, IsList, star, listed, text, IsCondition, two_columns, constant_right, conditions, IsItem, aliased_as, IsNextItem, comma, IsItems, items, IsWhere, no_where, some_where, IsSigned, plus, minus, IsFirstTerm, unsigned, signed, IsDirection, unsaid, descending, IsKey, key, IsOrder, no_order, some_order}
-use Rattle.query_tokens.specs.Tokens.{tokens_from, kind_of_word}
-use Rattle.query_tokens.specs.Text.{name_text_of}
+use Rattle.query_select.specs.Tokens.{tokens_from, kind_of_word}
+use Rattle.query_select.specs.Text.{name_text_of}
 use Rattle.query_parse.specs.Text.{constant_text, alias_text, column_text, more_columns_text, columns_text, list_text, item_text, more_items_text, items_text, side_text, equality_text, more_equalities_text, where_text, first_term_text, term_text, terms_text, key_text, more_keys_text, order_text}
 use Rattle.query_select.specs.Same.{placeless_column, placeless_list, placeless_item, placeless_side, placeless_equality, placeless_term, placeless_key}
-use Rattle.query_tokens.proofs.ScanLength.{tokens_at_blank}
+use Rattle.query_select.proofs.ScanLength.{tokens_at_blank}
 use Rattle.query_parse.proofs.TextScan.{undoubled_doubled}
 use Rattle.query_parse.proofs.Plain.{Each, EachOfSome, PlainAlias, PlainColumn, PlainItem, PlainSide, PlainEquality, PlainTerm, PlainKey, PlainList}
 use Rattle.query_parse.proofs.Written.{Ends, HasNoQuote, after_blank, word_written, name_written, constant_written, comma_written, dot_written, equals_written, plus_written, minus_written, star_written}

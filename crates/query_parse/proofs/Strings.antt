@@ -1,8 +1,8 @@
 -- A string between two quotes is bytes whose quotes are doubled.
 use Rattle.std.proofs.Common.{◌≡◌, ℕ, suc, List, [], ◌∷◌, ◌++◌, length, Some, Bool, true, false, cond, eqb, refl, sym, ap, ◌∙◌}
 use Rattle.std.proofs.lemmas.Bool.{eqb-true}
-use Rattle.query_tokens.specs.Tokens.{closing}
-use Rattle.query_tokens.proofs.Strings.{EndsAt, ends, plain, pair, ends_at}
+use Rattle.query_select.specs.Tokens.{closing}
+use Rattle.query_select.proofs.Strings.{EndsAt, ends, plain, pair, ends_at}
 use Rattle.query_parse.specs.Text.{doubled}
 
 ends_by : (x : ℕ) (t : Bool) (ds more : List ℕ) → eqb x 39 ≡ t → EndsAt (ds ++ 39 ∷ more) (length ds) → EndsAt (cond t (x ∷ x ∷ ds) (x ∷ ds) ++ 39 ∷ more) (length (cond t (x ∷ x ∷ ds) (x ∷ ds)))

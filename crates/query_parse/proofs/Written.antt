@@ -4,18 +4,18 @@ use Rattle.std.specs.List.{list_all, prefix_len}
 use Rattle.std.specs.Char.{is_ascii_digit}
 use Rattle.std.proofs.lemmas.List.{take_at, drop_at, length-append}
 use Rattle.std.proofs.lemmas.Bool.{eqb-true, false≢true, leb-true, lt-leb, and_parts}
-use Rattle.query_tokens.specs.declared.token.Kind.{Kind}
-use Rattle.query_tokens.specs.declared.token.Kind.TheVariants as kind
-use Rattle.query_tokens.specs.Lexeme.{Lexeme}
-use Rattle.query_tokens.specs.Kinds.{same}
+use Rattle.query_select.specs.declared.token.Kind.{Kind}
+use Rattle.query_select.specs.declared.token.Kind.TheVariants as kind
+use Rattle.query_select.specs.Lexeme.{Lexeme}
+use Rattle.query_select.specs.Kinds.{same}
 use Rattle.query_grammar.specs.Grammar.{One, one}
-use Rattle.query_tokens.specs.Tokens.{Scan, is_blank, is_letter, is_word_byte, kind_of_word, scan_of, tokens_from}
-use Rattle.query_tokens.specs.Text.{is_bare, name_text_of}
+use Rattle.query_select.specs.Tokens.{Scan, is_blank, is_letter, is_word_byte, kind_of_word, scan_of, tokens_from}
+use Rattle.query_select.specs.Text.{is_bare, name_text_of}
 use Rattle.query_parse.specs.Text.{doubled, constant_text}
-use Rattle.query_tokens.proofs.SameKind.{same_true}
+use Rattle.query_select.proofs.SameKind.{same_true}
 use Rattle.query_parse.proofs.NameScan.{quoted_scans}
 use Rattle.query_parse.proofs.TextScan.{NoQuote, text_scans}
-use Rattle.query_tokens.proofs.ScanLength.{letter_in_word, lexeme_of, tokens_at_token, tokens_at_blank}
+use Rattle.query_select.proofs.ScanLength.{letter_in_word, lexeme_of, tokens_at_token, tokens_at_blank}
 
 -- The tokens of the bytes begin with one of this kind and body, and those of the rest follow it.
 pub record Written (k : Kind) (body bytes rest : List ℕ) (at : ℕ) : Type 0 where

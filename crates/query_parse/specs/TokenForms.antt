@@ -2,10 +2,10 @@
 use Rattle.std.specs.Prelude.{◌≡◌, ◌≢◌, ℕ, ◌+◌, ◌≤◌, List, [], ◌∷◌, ◌++◌, length, IsTrue, false, not, ◌==◌, ◌⊎◌}
 use Rattle.std.specs.List.{list_all}
 use Rattle.std.specs.Char.{is_ascii_digit}
-use Rattle.query_tokens.specs.declared.token.Kind.{Kind}
-use Rattle.query_tokens.specs.declared.token.Kind.TheVariants as kind
-use Rattle.query_tokens.specs.Lexeme.{Lexeme}
-use Rattle.query_tokens.specs.Tokens.{is_blank, is_letter, is_word_byte, kind_of_word, kind_of_sign, Scan, stray}
+use Rattle.query_select.specs.declared.token.Kind.{Kind}
+use Rattle.query_select.specs.declared.token.Kind.TheVariants as kind
+use Rattle.query_select.specs.Lexeme.{Lexeme}
+use Rattle.query_select.specs.Tokens.{is_blank, is_letter, is_word_byte, kind_of_word, kind_of_sign, Scan, stray}
 use Rattle.query_parse.specs.Text.{doubled}
 
 -- the kind of a token, the bytes that it stands for, and its text

@@ -1,8 +1,8 @@
 //! Laws of the tokens of any bytes that the definitions alone give.
 
 ghost use Rattle.std.specs.Prelude.{◌≡◌, ◌↔◌, List, ℕ};
-ghost use Rattle.query_tokens.specs.Lexeme.{Lexeme};
-ghost use Rattle.query_tokens.specs.Tokens.{scan_of, stray, tokens_of};
+ghost use Rattle.query_select.specs.Lexeme.{Lexeme};
+ghost use Rattle.query_select.specs.Tokens.{scan_of, stray, tokens_of};
 ghost use Rattle.query_parse.specs.TokenForms.{AreTokens, NoToken, ScansLongest};
 
 /// A scan gives the longest form of a token that begins the bytes. It gives a stray byte exactly if

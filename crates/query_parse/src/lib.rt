@@ -11,6 +11,6 @@ pub use laws::{scans_are_longest, tokens_are_longest};
 pub use query_grammar::{MAX_BYTES, MAX_ITEMS, MAX_KEYS, ParseFault, parse};
 pub use query_select::{
     Bytes, ColumnRef, Equality, ItemRef, KeyRef, Name, Select, SelectList, Sequence, Side, Term,
+    name_text,
 };
-pub use query_tokens::name_text;
 pub use writing::text;

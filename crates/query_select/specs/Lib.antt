@@ -1,3 +1,9 @@
+pub mod Keywords
+pub mod Kinds
+pub mod Lexeme
 pub mod Same
 pub mod SameLaws
+pub mod Scans
+pub mod Text
 pub mod TextOrder
+pub mod Tokens

@@ -3,11 +3,11 @@ ghost use Rattle.std.specs.Prelude.{◌≡◌, ◌<◌, ◌≤◌, length};
 ghost use Rattle.std.specs.List.{AllByRecursion};
 
 use crate::fixtures::{R, S, parse_small, read_two};
+use bound_query::{ShapeFault, tree_shape};
 use csv_tables::TableReader;
 use join_tree::JoinTree;
 use query_bind::bind;
 use query_select::select::Select;
-use query_shape::{ShapeFault, tree_shape};
 use std::alloc::Global;
 use table_store::Tables;
 

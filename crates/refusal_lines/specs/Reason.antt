@@ -2,7 +2,7 @@
 -- Branches, items, keys, columns, rows and lines count from 1. The branch is named only if the
 -- query has several.
 use Rattle.std.specs.Prelude.{ℕ, List, [], ◌++◌, Option, None, Some, codes, decimal}
-pub use Rattle.number_text.specs.SpacedNumbers.{spaced}
+pub use Rattle.text_lines.specs.SpacedNumbers.{spaced}
 
 pub data Reason : Type 0 where
   Usage : Reason

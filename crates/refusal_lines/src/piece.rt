@@ -4,8 +4,8 @@ ghost use Rattle.refusal_lines.specs.Pieces.{text_of_piece, text_of_pieces};
 ghost use Rattle.refusal_lines.specs.SinkText.{Sent};
 ghost use Rattle.refusal_lines.specs.SinkState.{state_of};
 
-use number_text::write_digits;
 use outer_io::{Sink, Unwritten, write_all};
+use text_lines::write_digits;
 
 /// A part of a text.
 #[derive(Clone, Copy, Drop)]

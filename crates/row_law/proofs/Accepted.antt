@@ -3,8 +3,8 @@ use Rattle.std.proofs.Common.{◌≡◌, ◌≤◌, ◌+◌, ℕ, [], ◌∷◌,
 use Rattle.rank_key.specs.Bits.{bit_length, bits_within}
 use Rattle.query_grammar.specs.Parse.{as_one_branch}
 use Rattle.query_grammar.proofs.OneQuery.{one_branch}
-use Rattle.step_bounds.specs.Steps.{calls_for, cost}
-use Rattle.step_bounds.proofs.Rising.{calls_few, cost_rises}
+use Rattle.bound_query.specs.Steps.{calls_for, cost}
+use Rattle.bound_query.proofs.Rising.{calls_few, cost_rises}
 use Rattle.verdict.specs.Bound.{IsBounded}
 use Rattle.verdict.specs.AcceptedInput.{Found, found_of}
 use Rattle.verdict.specs.Loading.{Loaded, no_certificate, with_steps}

@@ -12,7 +12,7 @@ use Rattle.join_tree.proofs.FromRemoval.{removal_done, tree_from_removal}
 use Rattle.bound_query.specs.Classes.{AreVariables, ColumnBefore, HasVariable, IsFixedTo, IsLeast, IsShared, Linked, Passes, back, forth, row_field, same}
 use Rattle.bound_query.specs.Graph.{IsGraphOf}
 use Rattle.bound_query.proofs.ColumnOrder.{before_self}
-use Rattle.query_shape.specs.Shape.{HasNodeRows, HasTree, IsShape, Shape}
+use Rattle.bound_query.specs.Shape.{HasNodeRows, HasTree, IsShape, Shape}
 use Rattle.row_law.proofs.Loaded.{column, row_equality, row_query, row_tables}
 
 -- ---- the classes of columns

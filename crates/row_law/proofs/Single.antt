@@ -9,7 +9,7 @@ use Rattle.join_tree.specs.Removal.{HasOne, IsRun, IsTreeOf}
 use Rattle.join_tree.proofs.FromRemoval.{removal_done, tree_from_removal}
 use Rattle.bound_query.specs.Classes.{AreVariables, IsFixedTo, IsShared, Linked, Passes, back, forth, row_field, same}
 use Rattle.bound_query.specs.Graph.{IsGraphOf}
-use Rattle.query_shape.specs.Shape.{HasNodeRows, HasTree, IsShape, Shape}
+use Rattle.bound_query.specs.Shape.{HasNodeRows, HasTree, IsShape, Shape}
 use Rattle.row_law.proofs.Shaped.{low_high, member, numbers}
 
 -- without equalities a column is linked to itself alone

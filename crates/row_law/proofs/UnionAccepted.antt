@@ -3,7 +3,7 @@ use Rattle.std.proofs.Common.{◌≡◌, ◌≤◌, ◌+◌, ◌∙◌, ℕ, Lis
 use Rattle.std.specs.Prelude.{codes}
 use Rattle.rankings.specs.Order.{put_in, ranked}
 use Rattle.rank_key.specs.Bits.{bit_length, bits_within}
-use Rattle.step_bounds.specs.Steps.{cost}
+use Rattle.bound_query.specs.Steps.{cost}
 use Rattle.anyk_model.specs.TaggedRows.{Tagged}
 use Rattle.anyk_model.specs.Union.{members_in}
 use Rattle.verdict.specs.Bound.{IsBounded}

@@ -9,7 +9,7 @@ use Rattle.anyk_model.specs.Output.{cut}
 use Rattle.anyk_model.specs.Query.{Query}
 use Rattle.anyk_model.specs.Table.{Table}
 use Rattle.outer_io.specs.Files.{Files}
-use Rattle.query_shape.specs.Shape.{Shape}
+use Rattle.bound_query.specs.Shape.{Shape}
 use Rattle.refusal_lines.specs.Reason.{Reason}
 use Rattle.verdict.specs.SessionCalls.{session_reach}
 use Rattle.anyk_model.specs.TaggedRows.{Tagged, branch_at}

@@ -7,10 +7,10 @@ use Rattle.anyk_model.specs.Query.{Query, row_counts}
 use Rattle.anyk_model.specs.Table.{Table}
 use Rattle.plan_build.specs.Plans.{preparation_of}
 use Rattle.bound_query.specs.Parts.{sum_of_all}
-use Rattle.query_shape.specs.Shape.{Shape}
+use Rattle.bound_query.specs.Shape.{Shape}
 use Rattle.rank_key.specs.Bits.{bit_length}
-use Rattle.query_shape.specs.Report.{total_rows}
-use Rattle.step_bounds.specs.RunBounds.{IsPrepared, cost_over}
+use Rattle.bound_query.specs.Report.{total_rows}
+use Rattle.bound_query.specs.RunBounds.{IsPrepared, cost_over}
 use Rattle.anyk_model.specs.TaggedRows.{Tagged}
 use Rattle.anyk_model.specs.Union.{members_in}
 use Rattle.verdict.specs.UnionBound.{HaveShapes, union_cost}

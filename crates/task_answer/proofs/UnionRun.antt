@@ -18,10 +18,10 @@ use Rattle.plan_build.proofs.ShapeIs.{rows_counted}
 use Rattle.plan_build.proofs.Rooted.{whole_of}
 use Rattle.plan_build.specs.Plans.{ArePrepared, HavePlans, preparation_of}
 use Rattle.bound_query.specs.WeighedQuery.{BoundQuery, Fits}
-use Rattle.query_shape.specs.Shape.{IsShape, Shape}
+use Rattle.bound_query.specs.Shape.{IsShape, Shape}
 use Rattle.rankings.specs.Order.{IsMember}
-use Rattle.step_bounds.specs.RunBounds.{cost_over}
-use Rattle.step_bounds.specs.Steps.{steps_for}
+use Rattle.bound_query.specs.RunBounds.{cost_over}
+use Rattle.bound_query.specs.Steps.{steps_for}
 use Rattle.tdp_core.specs.RisingShares.{shares_rise}
 use Rattle.tdp_core.specs.AnswerView.{counted}
 use Rattle.tdp_core.specs.Shares.{share_of, size_of}

@@ -3,12 +3,12 @@ ghost use Rattle.std.specs.Prelude.{◌<◌, [], ◌∷◌, IfErr, OnOk, length}
 ghost use Rattle.task_plan.specs.Input.{loaded_of};
 ghost use Rattle.plan_build.specs.Plan.{IsPlanOf, shape_of};
 ghost use Rattle.plan_build.specs.Plans.{ArePrepared, HavePlans};
-ghost use Rattle.proof_text.specs.Certificate.{Certificate};
+ghost use Rattle.proof_model.specs.Certificate.{Certificate};
 ghost use Rattle.bound_query.specs.WeighedQuery.{Fits};
 ghost use Rattle.refusal_lines.specs.RefusalReasons.{reason_of};
 ghost use Rattle.refusal_lines.specs.SinkState.{state_of};
 ghost use Rattle.session_script.specs.Script.{KeepsRules};
-ghost use Rattle.step_bounds.specs.RunBounds.{IsPrepared};
+ghost use Rattle.bound_query.specs.RunBounds.{IsPrepared};
 ghost use Rattle.verdict.specs.Bound.{IsBounded, IsPrompt};
 ghost use Rattle.verdict.specs.AcceptedInput.{found_of, queries_in};
 ghost use Rattle.verdict.specs.MadeFiles.{known_to};

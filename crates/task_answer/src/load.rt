@@ -6,7 +6,7 @@ ghost use Rattle.plan_build.specs.Plan.{IsPlanOf};
 ghost use Rattle.bound_query.specs.WeighedQuery.{Fits};
 ghost use Rattle.refusal_lines.specs.Printing.{Printed};
 ghost use Rattle.refusal_lines.specs.SinkState.{state_of};
-ghost use Rattle.step_bounds.specs.RunBounds.{IsPrepared, KeepsBound};
+ghost use Rattle.bound_query.specs.RunBounds.{IsPrepared, KeepsBound};
 ghost use Rattle.verdict.specs.Summary.{summary_text};
 
 use crate::planned_query::PlannedQuery;

@@ -1,6 +1,6 @@
 //! The command `plan`.
 ghost use Rattle.plan_build.specs.Plan.{IsPlanFor, shape_of};
-ghost use Rattle.query_shape.specs.Report.{report_of};
+ghost use Rattle.bound_query.specs.Report.{report_of};
 ghost use Rattle.refusal_lines.specs.Printing.{Printed};
 ghost use Rattle.refusal_lines.specs.SinkState.{state_of};
 

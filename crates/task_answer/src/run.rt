@@ -7,7 +7,7 @@ ghost use Rattle.plan_build.specs.Plan.{IsPlanOf};
 ghost use Rattle.bound_query.specs.WeighedQuery.{Fits};
 ghost use Rattle.refusal_lines.specs.Printing.{Printed};
 ghost use Rattle.refusal_lines.specs.SinkState.{state_of};
-ghost use Rattle.step_bounds.specs.RunBounds.{IsPrepared, KeepsBound, KeepsPace};
+ghost use Rattle.bound_query.specs.RunBounds.{IsPrepared, KeepsBound, KeepsPace};
 
 use crate::planned_query::PlannedQuery;
 use answer_print::Style;

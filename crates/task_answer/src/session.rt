@@ -8,7 +8,7 @@ ghost use Rattle.bound_query.specs.WeighedQuery.{Fits};
 ghost use Rattle.refusal_lines.specs.Printing.{Printed};
 ghost use Rattle.refusal_lines.specs.SinkState.{state_of};
 ghost use Rattle.session_script.specs.Script.{KeepsRules};
-ghost use Rattle.step_bounds.specs.RunBounds.{IsPrepared};
+ghost use Rattle.bound_query.specs.RunBounds.{IsPrepared};
 ghost use Rattle.verdict.specs.Session.{session_text};
 ghost use Rattle.verdict.specs.SessionBound.{KeepsSessionBound};
 

@@ -16,10 +16,10 @@ use Rattle.anyk_model.specs.Table.{Flaw, Table, flaw_of, records_of, table_of, n
 use Rattle.session_script.specs.declared.fault.ScriptFault.{ScriptFault}
 use Rattle.session_script.specs.declared.fault.ScriptFault.TheVariants as script
 use Rattle.session_script.specs.declared.step.Step.{Step}
-use Rattle.proof_text.specs.declared.fault.ProofFault.{ProofFault}
-use Rattle.proof_text.specs.declared.fault.ProofFault.TheVariants as proof
-use Rattle.proof_text.specs.Certificate.{Certificate}
-use Rattle.proof_text.specs.Reading.{Fails as FailsToRead, proof_of}
+use Rattle.proof_model.specs.declared.fault.ProofFault.{ProofFault}
+use Rattle.proof_model.specs.declared.fault.ProofFault.TheVariants as proof
+use Rattle.proof_model.specs.Certificate.{Certificate}
+use Rattle.proof_model.specs.Reading.{Fails as FailsToRead, proof_of}
 use Rattle.session_script.specs.Script.{Fails, steps_of}
 use Rattle.verdict.specs.Faults.{of_bind, of_flaw, of_parse, of_proof, of_script}
 use Rattle.verdict.specs.Loading.{IsParse, IsParseAll, IsReading, all_items, branches_of, proof_said, sound_table, steps_said, told_proof, told_steps}
@@ -33,7 +33,7 @@ use Rattle.task_plan.specs.StageViews.{table_reason}
 use Rattle.task_plan.proofs.AllItems.{all_items_cons}
 use Rattle.query_grammar.specs.Grammar.{IsBranch, IsItems, IsQuery, branch, items, query}
 use Rattle.query_grammar.specs.Reading.{Clauses}
-use Rattle.query_tokens.specs.Lexeme.{Lexeme}
+use Rattle.query_select.specs.Lexeme.{Lexeme}
 use Rattle.query_select.specs.declared.select.Equality.{Equality}
 use Rattle.query_select.specs.declared.select.ItemRef.{ItemRef}
 use Rattle.query_select.specs.declared.select.Select.{Select}

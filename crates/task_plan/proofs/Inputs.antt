@@ -1,5 +1,5 @@
 -- An input, as contracts see it, from its parts.
-use Rattle.proof_text.specs.ProofView.{proof_view}
+use Rattle.proof_model.specs.ProofView.{proof_view}
 use Rattle.task_plan.specs.Input.{InputView}
 use Rattle.task_plan.specs.declared.binding.Input.TheInside.{Inside}
 

@@ -7,13 +7,13 @@ use Rattle.anyk_model.specs.Query.{Query}
 use Rattle.anyk_model.specs.Table.{Table}
 use Rattle.outer_io.specs.Files.{Files}
 use Rattle.bound_query.specs.WeighedQuery.{BoundQuery}
-use Rattle.query_shape.specs.Shape.{Shape}
+use Rattle.bound_query.specs.Shape.{Shape}
 use Rattle.anyk_model.specs.TaggedRows.{branch_at}
 use Rattle.task_plan.specs.Input.{InputView, loaded_of}
 use Rattle.task_plan.specs.Turns.{IsTurn}
 use Rattle.plan_build.specs.Plans.{ArePrepared, preparation_of}
 use Rattle.refusal_lines.specs.Reason.{Reason}
-use Rattle.step_bounds.specs.RunBounds.{IsPrepared}
+use Rattle.bound_query.specs.RunBounds.{IsPrepared}
 use Rattle.verdict.specs.AcceptedInput.{Found, found_of, queries_in}
 use Rattle.verdict.specs.Loading.{Loaded}
 use Rattle.verdict.specs.MadeFiles.{known_to, made_files}

@@ -26,10 +26,10 @@ use Rattle.plan_build.specs.Plans.{ArePrepared, HavePlans, preparation_of}
 use Rattle.node_build.specs.Nodes.{CapsBelow}
 use Rattle.node_build.proofs.Shaped.{caps_small}
 use Rattle.bound_query.specs.WeighedQuery.{BoundQuery, Fits}
-use Rattle.query_shape.specs.Shape.{Flaw, IsShape, Shape, cyclic, too_many_rows}
+use Rattle.bound_query.specs.Shape.{Flaw, IsShape, Shape, cyclic, too_many_rows}
 use Rattle.refusal_lines.specs.Reason.{Reason}
 use Rattle.session_script.specs.declared.step.Step.{Step}
-use Rattle.step_bounds.specs.RunBounds.{IsPrepared}
+use Rattle.bound_query.specs.RunBounds.{IsPrepared}
 use Rattle.rankings.specs.KeyTuple.{KeyOf}
 use Rattle.anyk_model.specs.TaggedRows.{HaveKeys}
 use Rattle.task_plan.specs.Input.{InputView, loaded_of}

@@ -3,7 +3,7 @@ use Rattle.std.specs.Prelude.{◌<◌, ◌≤◌, ℕ, List, [], length, Option,
 use Rattle.std.specs.List.{All, AllByRecursion}
 use Rattle.anyk_model.specs.Table.{Table}
 use Rattle.bound_query.specs.WeighedQuery.{BoundQuery, Fits}
-use Rattle.proof_text.specs.Certificate.{Certificate}
+use Rattle.proof_model.specs.Certificate.{Certificate}
 use Rattle.session_script.specs.declared.step.Step.{Step}
 use Rattle.session_script.specs.Script.{KeepsRules}
 use Rattle.anyk_model.specs.TaggedRows.{HaveKeys}

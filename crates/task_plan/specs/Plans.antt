@@ -13,15 +13,15 @@ use Rattle.plan_build.specs.declared.fault.PlanFault.TheVariants as fault
 use Rattle.plan_build.specs.declared.ranked_plan.RankedPlan.{RankedPlan}
 use Rattle.plan_build.specs.declared.ranked_plan.RankedPlan.TheVariants.{Lex, MiddleSum, Packed, SmallLex, Sum}
 use Rattle.bound_query.specs.WeighedQuery.{BoundQuery}
-use Rattle.query_shape.specs.Shape.{Shape}
-use Rattle.proof_text.specs.Certificate.{Certificate}
+use Rattle.bound_query.specs.Shape.{Shape}
+use Rattle.proof_model.specs.Certificate.{Certificate}
 use Rattle.session_script.specs.declared.step.Step.{Step}
 use Rattle.rankings.specs.KeyTuple.{KeyOf}
 use Rattle.refusal_lines.specs.declared.refusal.Refusal.{Refusal}
 use Rattle.refusal_lines.specs.Reason as reason
 use Rattle.refusal_lines.specs.Reason.{Reason}
 use Rattle.refusal_lines.specs.RefusalReasons.{reason_of}
-use Rattle.step_bounds.specs.RunBounds.{IsPrepared}
+use Rattle.bound_query.specs.RunBounds.{IsPrepared}
 use Rattle.task_plan.specs.Input.{InputView, loaded_of}
 use Rattle.verdict.specs.AcceptedInput.{Found, found_of, query_of}
 use Rattle.verdict.specs.Loading.{Loaded}

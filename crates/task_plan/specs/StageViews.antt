@@ -8,7 +8,7 @@ use Rattle.outer_io.specs.declared.reading.FileFault.{FileFault}
 use Rattle.outer_io.specs.declared.reading.FileFault.TheVariants as file
 use Rattle.anyk_model.specs.Table.{Table}
 use Rattle.anyk_model.specs.Query.{Query}
-use Rattle.proof_text.specs.ProofView.{proof_view}
+use Rattle.proof_model.specs.ProofView.{proof_view}
 use Rattle.bound_query.specs.WeighedQuery.{BoundQuery, Fits}
 use Rattle.query_bind.specs.declared.fault.BindFault.{BindFault}
 use Rattle.query_grammar.specs.declared.fault.ParseFault.{ParseFault}

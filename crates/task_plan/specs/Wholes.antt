@@ -1,6 +1,6 @@
 -- Queries that are bound to their tables, and the input that they are with what is read beside them.
 use Rattle.std.specs.Prelude.{List, [], Result, Ok, Err}
-use Rattle.proof_text.specs.Certificate.{Certificate}
+use Rattle.proof_model.specs.Certificate.{Certificate}
 use Rattle.refusal_lines.specs.declared.refusal.Refusal.{Refusal}
 use Rattle.refusal_lines.specs.Reason.{Reason}
 use Rattle.refusal_lines.specs.RefusalReasons.{reason_of}

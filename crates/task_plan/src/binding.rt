@@ -21,7 +21,7 @@ ghost use Rattle.task_plan.specs.Sought.{sought_view};
 
 use crate::sought::Sought;
 use bound_query::Query;
-use proof_text::Proof;
+use proof_model::Proof;
 use query_bind::{BindFault, bind};
 use query_select::select::Select;
 use refusal_lines::Refusal;
@@ -48,7 +48,7 @@ pub struct Input {
 
 impl Model for Input {
     ghost use Rattle.task_plan.specs.Input.{InputView, IsSound};
-    ghost use Rattle.proof_text.specs.ProofView.{proof_view};
+    ghost use Rattle.proof_model.specs.ProofView.{proof_view};
 
     ghost Value = { InputView };
 

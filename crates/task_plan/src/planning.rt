@@ -6,7 +6,7 @@ ghost use Rattle.node_build.specs.Nodes.{CapsBelow};
 ghost use Rattle.plan_build.specs.Plans.{ArePrepared, HavePlans};
 ghost use Rattle.bound_query.specs.WeighedQuery.{Fits};
 ghost use Rattle.refusal_lines.specs.RefusalReasons.{reason_of};
-ghost use Rattle.step_bounds.specs.RunBounds.{IsPrepared};
+ghost use Rattle.bound_query.specs.RunBounds.{IsPrepared};
 ghost use Rattle.verdict.specs.AcceptedInput.{queries_in};
 ghost use Rattle.verdict.specs.MadeFiles.{known_to};
 ghost use Rattle.verdict.specs.StageResults.{Pure, shelved};

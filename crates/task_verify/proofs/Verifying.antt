@@ -8,9 +8,9 @@ use Rattle.anyk_model.specs.Ranking.{ranking_of}
 use Rattle.anyk_model.proofs.Exists.{ranking_is}
 use Rattle.join_tree.specs.declared.tree.JoinTree.{JoinTree}
 use Rattle.anyk_model.specs.Table.{Table}
-use Rattle.proof_text.specs.Certificate.{Certificate}
-use Rattle.proof_text.specs.declared.fault.ProofFault.{ProofFault}
-use Rattle.proof_text.specs.declared.fault.ProofFault.TheVariants as fault
+use Rattle.proof_model.specs.Certificate.{Certificate}
+use Rattle.proof_model.specs.declared.fault.ProofFault.{ProofFault}
+use Rattle.proof_model.specs.declared.fault.ProofFault.TheVariants as fault
 use Rattle.proof_check.specs.RowLists.{item_rows}
 use Rattle.proof_check.proofs.Ranked.{cut_member}
 use Rattle.proof_model.specs.Faults.{TellsFirst, TellsFlaw, fault_of}
@@ -18,10 +18,10 @@ use Rattle.proof_model.specs.QueryProblem.{problem_in, problem_of}
 use Rattle.proof_model.specs.Valid.{Flaw, IsFirst, IsValid}
 use Rattle.bound_query.specs.WeighedQuery.{BoundQuery}
 use Rattle.hyper_graph.specs.Items.{items_of}
-use Rattle.query_shape.specs.declared.fault.ShapeFault.{ShapeFault}
-use Rattle.query_shape.specs.declared.fault.ShapeFault.TheVariants as cycle
-use Rattle.query_shape.specs.Shape.{HasNodeRows, HasShape, HasTree, IsShape, Shape, cyclic, too_many_rows}
-use Rattle.query_shape.specs.JoinTreeView.{HasStoredTree, TellsCycle}
+use Rattle.bound_query.specs.declared.fault.ShapeFault.{ShapeFault}
+use Rattle.bound_query.specs.declared.fault.ShapeFault.TheVariants as cycle
+use Rattle.bound_query.specs.Shape.{HasNodeRows, HasShape, HasTree, IsShape, Shape, cyclic, too_many_rows}
+use Rattle.bound_query.specs.JoinTreeView.{HasStoredTree, TellsCycle}
 use Rattle.rankings.specs.Order.{IsMember}
 use Rattle.outer_io.specs.Files.{Files}
 use Rattle.refusal_lines.proofs.Prints.{appends_nothing, printed_some}
@@ -31,7 +31,7 @@ use Rattle.refusal_lines.specs.SinkState.{SinkState}
 use Rattle.refusal_lines.specs.declared.fault.PrintFault.{PrintFault}
 use Rattle.refusal_lines.specs.declared.refusal.Refusal.{Refusal}
 use Rattle.refusal_lines.specs.RefusalReasons.{reason_of}
-use Rattle.query_shape.proofs.OneShape.{one_tree}
+use Rattle.bound_query.proofs.OneShape.{one_tree}
 use Rattle.refusal_lines.specs.Reason as reason
 use Rattle.refusal_lines.specs.Reason.{Reason}
 use Rattle.session_script.specs.declared.step.Step.{Step}

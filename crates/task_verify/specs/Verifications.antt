@@ -6,12 +6,12 @@ use Rattle.anyk_model.specs.Query.{Query}
 use Rattle.anyk_model.specs.Ranking.{ranking_of}
 use Rattle.anyk_model.specs.Table.{Table}
 use Rattle.proof_check.specs.RowLists.{item_rows}
-use Rattle.proof_text.specs.Certificate.{Certificate}
+use Rattle.proof_model.specs.Certificate.{Certificate}
 use Rattle.bound_query.specs.WeighedQuery.{BoundQuery}
 use Rattle.hyper_graph.specs.Items.{items_of}
-use Rattle.query_shape.specs.Shape.{Shape as ShapeView}
-use Rattle.query_shape.specs.declared.fault.ShapeFault.{ShapeFault}
-use Rattle.query_shape.specs.declared.fault.ShapeFault.TheVariants as shape_fault
+use Rattle.bound_query.specs.Shape.{Shape as ShapeView}
+use Rattle.bound_query.specs.declared.fault.ShapeFault.{ShapeFault}
+use Rattle.bound_query.specs.declared.fault.ShapeFault.TheVariants as shape_fault
 use Rattle.refusal_lines.specs.declared.fault.PrintFault.{PrintFault}
 use Rattle.refusal_lines.specs.declared.refusal.Refusal.{Refusal}
 use Rattle.refusal_lines.specs.Printing.{Printed, refused}

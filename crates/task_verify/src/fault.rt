@@ -3,8 +3,8 @@ ghost use Rattle.std.specs.Prelude.{◌≡◌};
 ghost use Rattle.refusal_lines.specs.RefusalReasons.{reason_of};
 ghost use Rattle.task_verify.specs.Verifications.{check_reason};
 
-use proof_text::ProofFault;
-use query_shape::ShapeFault;
+use bound_query::ShapeFault;
+use proof_model::ProofFault;
 use refusal_lines::Refusal;
 use task_plan::proof_refusal;
 

@@ -2,7 +2,7 @@
 ghost use Rattle.std.specs.Prelude.{◌≡◌, ◌∷◌, [], IfErr, None, OnOk, length};
 ghost use Rattle.cmd_words.specs.ArgumentMeaning.{words_view};
 ghost use Rattle.task_plan.specs.Input.{loaded_of};
-ghost use Rattle.query_shape.specs.Shape.{Shape};
+ghost use Rattle.bound_query.specs.Shape.{Shape};
 ghost use Rattle.refusal_lines.specs.Printing.{Printed};
 ghost use Rattle.refusal_lines.specs.RefusalReasons.{reason_of};
 ghost use Rattle.refusal_lines.specs.SinkState.{state_of};

@@ -1,5 +1,5 @@
 //! Numbers as digits.
-use number_text::write_digits;
+use text_lines::write_digits;
 
 #[test]
 fn numbers_are_written(rt: HostRuntime) {

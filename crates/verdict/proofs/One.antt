@@ -6,13 +6,13 @@ use Rattle.query_grammar.specs.declared.fault.ParseFault.TheVariants.{NoMemory a
 use Rattle.query_select.specs.declared.select.Select.{Select}
 use Rattle.query_grammar.specs.Parse.{Agree, Parses, ParsesAll}
 use Rattle.query_grammar.proofs.Exactly.{parses_agree, parses_all_agree}
-use Rattle.query_shape.specs.Shape.{Flaw, Shape}
-use Rattle.query_shape.proofs.OneShape.{one_shape}
+use Rattle.bound_query.specs.Shape.{Flaw, Shape}
+use Rattle.bound_query.proofs.OneShape.{one_shape}
 use Rattle.anyk_model.specs.Query.{Query}
 use Rattle.anyk_model.specs.Table.{Table}
 use Rattle.refusal_lines.specs.Reason.{Reason, Usage}
 use Rattle.verdict.specs.MadeFiles.{files_of}
-use Rattle.proof_text.specs.Certificate.{Certificate}
+use Rattle.proof_model.specs.Certificate.{Certificate}
 use Rattle.proof_model.specs.QueryProblem.{problem_of}
 use Rattle.proof_model.specs.Faults.{fault_of}
 use Rattle.proof_model.specs.Valid.{Flaw as ProofFlaw}

@@ -2,7 +2,7 @@
 use Rattle.std.proofs.Common.{◌≡◌, ◌+◌, ℕ, Bool, List, [], ◌∷◌, ◌++◌, length, Option, Result, Ok, Err, refl, sym, subst, arith}
 use Rattle.anyk_model.specs.Query.{Query}
 use Rattle.anyk_model.specs.Table.{Table}
-use Rattle.query_shape.specs.Shape.{Flaw, IsShape, Shape, cyclic, too_many_rows}
+use Rattle.bound_query.specs.Shape.{Flaw, IsShape, Shape, cyclic, too_many_rows}
 use Rattle.refusal_lines.specs.Reason.{Reason}
 use Rattle.verdict.specs.Faults.{of_shape}
 use Rattle.verdict.specs.AcceptedInput.{found_of}

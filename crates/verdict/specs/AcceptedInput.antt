@@ -3,9 +3,9 @@ use Rattle.std.specs.Prelude.{ℕ, nat_lt, List, [], Bool, Option, get_or, lengt
 use Rattle.anyk_model.specs.Table.{Table}
 use Rattle.anyk_model.specs.Query.{Query}
 use Rattle.bound_query.specs.WeighedQuery.{BoundQuery}
-use Rattle.query_shape.specs.Shape.{Shape}
+use Rattle.bound_query.specs.Shape.{Shape}
 use Rattle.session_script.specs.declared.step.Step.{Step}
-use Rattle.proof_text.specs.Certificate.{Certificate}
+use Rattle.proof_model.specs.Certificate.{Certificate}
 use Rattle.anyk_model.specs.TaggedRows.{branch_at}
 use Rattle.verdict.specs.Loading.{Loaded}
 

@@ -1,8 +1,8 @@
 -- The bound on the counted steps of an accepted input.
 use Rattle.std.specs.Prelude.{◌≡◌, ◌+◌, ◌*◌, ◌++◌, ◌≤◌, ℕ, if◌then◌else◌, List, Option, Some, None, IfSome, Ok, take}
 use Rattle.outer_io.specs.Files.{Files}
-use Rattle.step_bounds.specs.RunBounds.{cost_over, records_in}
-use Rattle.step_bounds.specs.Steps.{calls_for}
+use Rattle.bound_query.specs.RunBounds.{cost_over, records_in}
+use Rattle.bound_query.specs.Steps.{calls_for}
 use Rattle.verdict.specs.AcceptedInput.{Found, is_union, query_of, structure_of}
 use Rattle.verdict.specs.Output.{asked_list, style_of, tagged_of}
 use Rattle.verdict.specs.UnionBound.{union_cost, union_records}

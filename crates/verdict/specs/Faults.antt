@@ -4,12 +4,12 @@ use Rattle.query_grammar.specs.declared.fault.ParseFault.{ParseFault}
 use Rattle.query_grammar.specs.declared.fault.ParseFault.TheVariants as parse
 use Rattle.session_script.specs.declared.fault.ScriptFault.{ScriptFault}
 use Rattle.session_script.specs.declared.fault.ScriptFault.TheVariants as script
-use Rattle.proof_text.specs.declared.fault.ProofFault.{ProofFault}
-use Rattle.proof_text.specs.declared.fault.ProofFault.TheVariants as proof
+use Rattle.proof_model.specs.declared.fault.ProofFault.{ProofFault}
+use Rattle.proof_model.specs.declared.fault.ProofFault.TheVariants as proof
 use Rattle.query_bind.specs.declared.fault.BindFault.{BindFault}
 use Rattle.query_bind.specs.declared.fault.BindFault.TheVariants as bind
 use Rattle.anyk_model.specs.Table.{Flaw, no_header, too_many_columns, duplicate_name, too_many_rows, ragged}
-use Rattle.query_shape.specs.Shape.{Flaw as ShapeFlaw, cyclic, too_many_rows as too_many_node_rows}
+use Rattle.bound_query.specs.Shape.{Flaw as ShapeFlaw, cyclic, too_many_rows as too_many_node_rows}
 use Rattle.refusal_lines.specs.Reason as reason
 use Rattle.refusal_lines.specs.Reason.{Reason}
 

@@ -19,9 +19,9 @@ use Rattle.refusal_lines.specs.Reason.{Reason, BranchShape, NoFile, TooLarge, Un
 use Rattle.session_script.specs.declared.fault.ScriptFault.{ScriptFault}
 use Rattle.session_script.specs.declared.step.Step.{Step}
 use Rattle.session_script.specs.Script.{steps_of}
-use Rattle.proof_text.specs.declared.fault.ProofFault.{ProofFault}
-use Rattle.proof_text.specs.Certificate.{Certificate}
-use Rattle.proof_text.specs.Reading.{proof_of}
+use Rattle.proof_model.specs.declared.fault.ProofFault.{ProofFault}
+use Rattle.proof_model.specs.Certificate.{Certificate}
+use Rattle.proof_model.specs.Reading.{proof_of}
 use Rattle.verdict.specs.Faults.{of_parse, of_script, of_proof, of_bind, of_flaw}
 use Rattle.session_script.specs.Script.{unless}
 use Rattle.verdict.specs.Stages.{Then, Is, then_by}

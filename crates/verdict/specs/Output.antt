@@ -2,7 +2,7 @@
 use Rattle.std.specs.Prelude.{◌≡◌, ℕ, List, None, if◌then◌else◌}
 use Rattle.anyk_model.specs.Output.{Style, output_of, cut}
 use Rattle.anyk_model.specs.BestList.{list_of}
-use Rattle.query_shape.specs.Report.{report_of}
+use Rattle.bound_query.specs.Report.{report_of}
 use Rattle.proof_model.specs.ProofTexts.{IsProofText}
 use Rattle.verdict.specs.Words.{Words, Command, run, plan, session, load, prove, verify}
 use Rattle.anyk_model.specs.TaggedRows.{Tagged}

@@ -2,9 +2,9 @@
 use Rattle.std.specs.Prelude.{◌+◌, ◌*◌, ◌≤◌, ℕ, List, Ok}
 use Rattle.anyk_model.specs.Table.{Table}
 use Rattle.anyk_model.specs.Query.{Query}
-use Rattle.query_shape.specs.Shape.{IsShape, Shape}
+use Rattle.bound_query.specs.Shape.{IsShape, Shape}
 use Rattle.session_script.specs.declared.step.Step.{Step}
-use Rattle.step_bounds.specs.RunBounds.{cost_over}
+use Rattle.bound_query.specs.RunBounds.{cost_over}
 use Rattle.verdict.specs.SessionCalls.{session_calls, session_reach}
 
 -- no more steps than the bound for as many calls as the script reaches far, and 4 more for each

@@ -4,7 +4,7 @@ use Rattle.std.specs.Prelude.{ℕ, ◌+◌, ◌&&◌, Bool, not, nat_lt, min, ma
 use Rattle.session_script.specs.declared.step.Step.{Step}
 use Rattle.session_script.specs.declared.step.Step.TheVariants.{Open, Next, Fork, Rewind, Close}
 use Rattle.anyk_model.specs.Output.{cut}
-use Rattle.step_bounds.specs.Steps.{reaches}
+use Rattle.bound_query.specs.Steps.{reaches}
 use Rattle.verdict.specs.Session.{Places, no_cursors, place_in, places_after}
 
 -- the list ends where the ranking does, before the limit

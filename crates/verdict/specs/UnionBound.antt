@@ -3,9 +3,9 @@ use Rattle.std.specs.Prelude.{◌≡◌, ◌+◌, ◌++◌, ◌≤◌, ℕ, List
 use Rattle.anyk_model.specs.Output.{Style}
 use Rattle.anyk_model.specs.Table.{Table}
 use Rattle.anyk_model.specs.Query.{Query}
-use Rattle.query_shape.specs.Shape.{IsShape, Shape}
-use Rattle.step_bounds.specs.RunBounds.{cost_over}
-use Rattle.step_bounds.specs.Steps.{whole_lines}
+use Rattle.bound_query.specs.Shape.{IsShape, Shape}
+use Rattle.bound_query.specs.RunBounds.{cost_over}
+use Rattle.bound_query.specs.Steps.{whole_lines}
 use Rattle.anyk_model.specs.TaggedRows.{Tagged}
 use Rattle.anyk_model.specs.Union.{members_in}
 use Rattle.anyk_model.specs.UnionOutput.{union_header_text, union_line_text}

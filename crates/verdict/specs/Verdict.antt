@@ -6,8 +6,8 @@ use Rattle.query_select.specs.declared.select.Select.{Select}
 use Rattle.anyk_model.specs.Query.{Query}
 use Rattle.anyk_model.specs.Table.{Table}
 use Rattle.refusal_lines.specs.Reason.{Reason, Usage}
-use Rattle.query_shape.specs.Shape.{Flaw, IsShape, Shape}
-use Rattle.proof_text.specs.Certificate.{Certificate}
+use Rattle.bound_query.specs.Shape.{Flaw, IsShape, Shape}
+use Rattle.proof_model.specs.Certificate.{Certificate}
 use Rattle.proof_model.specs.QueryProblem.{problem_of}
 use Rattle.proof_model.specs.Faults.{fault_of}
 use Rattle.proof_model.specs.Valid.{Flaw as ProofFlaw, IsFirst, IsValid}

@@ -1,8 +1,8 @@
 use Rattle.std.proofs.Common.{◌≡◌, ◌≤◌, ◌+◌, ℕ, Option, None, IfSome, subst, sym, refl, arith, rules}
 use Rattle.std.proofs.lemmas.List.{length-take-le}
 use Rattle.std.proofs.lemmas.Result.{IfOk-from_err}
-use Rattle.step_bounds.proofs.Pacing.{calls_more, calls_same}
-use Rattle.step_bounds.proofs.Calls.{called_more, counted_few, limit_below, limit_reached, limit_within}
+use Rattle.bound_query.proofs.Pacing.{calls_more, calls_same}
+use Rattle.bound_query.proofs.Calls.{called_more, counted_few, limit_below, limit_reached, limit_within}
 use Rattle.command_output.proofs.GivenEnds.{calls_within, taken_all, taken_limit, taken_more}
 use Rattle.command_output.proofs.Spending.{same_most}
 use Rattle.command_output.proofs.ends.take_ends.Goals as goal

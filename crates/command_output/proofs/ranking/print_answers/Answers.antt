@@ -5,9 +5,9 @@ use Rattle.answer_print.specs.StyleView.{style_view}
 use Rattle.tdp_core.specs.AnswerView.{AnswerView}
 use Rattle.refusal_lines.specs.declared.fault.PrintFault.TheVariants as fault
 use Rattle.witness_key.specs.WitnessKey.{combinations_in}
-use Rattle.step_bounds.proofs.Pacing.{calls_more, calls_same, paced}
+use Rattle.bound_query.proofs.Pacing.{calls_more, calls_same, paced}
 use Rattle.refusal_lines.proofs.Prints.{appends_nothing}
-use Rattle.step_bounds.proofs.Calls.{called_more, counted_few, limit_below, limit_reached, limit_within, rises_from}
+use Rattle.bound_query.proofs.Calls.{called_more, counted_few, limit_below, limit_reached, limit_within, rises_from}
 use Rattle.command_output.proofs.Given.{cut_short, first_left, given_more, printed_all, printed_limit, stopped_short}
 use Rattle.command_output.proofs.Spending.{at_most_one, same_most}
 use Rattle.command_output.proofs.HandedOn.{handed_on}

@@ -2,7 +2,7 @@ use Rattle.std.proofs.Common.{◌≡◌, ◌≤◌, [], ℕ, Option, None, IfSom
 use Rattle.answer_print.specs.StyleView.{style_view}
 use Rattle.bound_query.specs.WeighedQuery.{BoundQuery}
 use Rattle.refusal_lines.specs.declared.fault.PrintFault.TheVariants as fault
-use Rattle.step_bounds.proofs.Calls.{limit_below, limit_reached, limit_within}
+use Rattle.bound_query.proofs.Calls.{limit_below, limit_reached, limit_within}
 use Rattle.refusal_lines.proofs.Prints.{appends_nothing}
 use Rattle.anyk_model.specs.TaggedRows.{tagged}
 use Rattle.anyk_model.specs.UnionOutput.{union_line_text}

@@ -1,7 +1,7 @@
 use Rattle.std.proofs.Common.{◌≡◌, ◌∙◌, ℕ, ap, slice_index, sym, take}
 use Rattle.std.proofs.lemmas.List.{get_or-take}
 use Rattle.bound_query.specs.Items.{item_at}
-use Rattle.query_tokens.specs.Text.{name_text_of}
+use Rattle.query_select.specs.Text.{name_text_of}
 use Rattle.plan_build.proofs.reporting.push_node.Goals as goal
 
 pub returns : goal.returns

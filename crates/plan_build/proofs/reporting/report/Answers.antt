@@ -1,8 +1,8 @@
 use Rattle.std.proofs.Common.{◌≡◌, ◌∙◌, ◌++◌, ℕ, List, ap, sym, subst, length, codes, decimal, arith}
 use Rattle.std.specs.List.{flat_map, range_with_len}
-use Rattle.query_shape.specs.Shape.{Shape}
+use Rattle.bound_query.specs.Shape.{Shape}
 use Rattle.plan_build.specs.Plan.{shape_of, shape_view}
-use Rattle.query_shape.specs.Report.{node_line, total_line, total_rows}
+use Rattle.bound_query.specs.Report.{node_line, total_line, total_rows}
 use Rattle.plan_build.proofs.Lines.{atoms_same, count_same, lines_more, nodes_counted, ordered_same, rows_counted, rows_same, shape_same, total_same}
 use Rattle.plan_build.proofs.reporting.report.Goals as goal
 

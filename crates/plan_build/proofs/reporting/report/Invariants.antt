@@ -1,7 +1,7 @@
 use Rattle.std.proofs.Common.{◌≡◌}
 use Rattle.std.specs.List.{flat_map, range_with_len}
 use Rattle.plan_build.specs.Plan.{shape_of}
-use Rattle.query_shape.specs.Report.{node_line}
+use Rattle.bound_query.specs.Report.{node_line}
 use Rattle.plan_build.proofs.reporting.report.Given as goal
 
 abbrev pub invariant-loop-node : goal.invariant-loop-node

@@ -1,5 +1,5 @@
 use Rattle.std.proofs.lemmas.Result.{IfOk-from_err}
-use Rattle.proof_text.specs.ProofView.{proof_view}
+use Rattle.proof_model.specs.ProofView.{proof_view}
 use Rattle.proof_check.proofs.Tellings.{told_err}
 use Rattle.proof_check.proofs.bounding.bounded_tree.Goals as goal
 

@@ -1,13 +1,13 @@
 use Rattle.std.proofs.Common.{◌≡◌, ◌++◌, drop, take, [], length, map, get_or, sym, ap, subst, ◌∙◌}
 use Rattle.std.proofs.lemmas.List.{length-map}
-use Rattle.proof_text.specs.ProofView.{bound_view, proof_view}
+use Rattle.proof_model.specs.ProofView.{bound_view, proof_view}
 use Rattle.proof_check.specs.BoundedRows.{IsBounded}
 use Rattle.proof_check.specs.Lines.{AreLineGroups, ArePlacedLines}
 use Rattle.proof_check.proofs.LineFaults.{groups_few, rows_few, tells_bad, tells_twice}
 use Rattle.proof_check.proofs.NumberedGroups.{bounded}
 use Rattle.proof_check.proofs.Pushed.{take_front}
 use Rattle.proof_check.proofs.Tellings.{told_err}
-use Rattle.proof_text.specs.declared.fault.ProofFault.TheVariants as fault
+use Rattle.proof_model.specs.declared.fault.ProofFault.TheVariants as fault
 use Rattle.std.proofs.lemmas.Result.{IfOk-from_err}
 use Rattle.proof_check.proofs.Counts.{few_more, no_more}
 use Rattle.proof_check.proofs.bounds.with_bounds.Goals as goal

@@ -1,6 +1,6 @@
 use Rattle.std.proofs.Common.{◌≡◌, ◌<◌, ℕ, List, [], ◌∷◌, ◌++◌, length, map, take, get_or, sym, ap, ◌∙◌, arith}
 use Rattle.std.proofs.lemmas.List.{get_or-map, length-map, map-append, take_all, take_more}
-use Rattle.proof_text.specs.declared.proof.Listed.{Listed}
+use Rattle.proof_model.specs.declared.proof.Listed.{Listed}
 use Rattle.proof_check.proofs.checking.rows_of.Goals as goal
 
 pub first_items-requires : goal.first_items-requires

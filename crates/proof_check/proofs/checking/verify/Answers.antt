@@ -4,13 +4,13 @@ use Rattle.std.proofs.lemmas.Result.{IfErr-weaker, IfOk-from_err, IfOk-weaker}
 use Rattle.anyk_model.specs.Query.{Query}
 use Rattle.anyk_model.specs.Table.{Table}
 use Rattle.join_tree.specs.declared.tree.JoinTree.{JoinTree}
-use Rattle.query_shape.specs.Shape.{IsShape, Shape}
+use Rattle.bound_query.specs.Shape.{IsShape, Shape}
 use Rattle.std.specs.Prelude.{Ok}
-use Rattle.proof_text.specs.declared.fault.ProofFault.{ProofFault}
-use Rattle.proof_text.specs.declared.fault.ProofFault.TheVariants as fault
-use Rattle.proof_text.specs.declared.proof.Listed.{Listed}
-use Rattle.proof_text.specs.Certificate.{AnswerLine, Certificate}
-use Rattle.proof_text.specs.ProofView.{listed_view, proof_view}
+use Rattle.proof_model.specs.declared.fault.ProofFault.{ProofFault}
+use Rattle.proof_model.specs.declared.fault.ProofFault.TheVariants as fault
+use Rattle.proof_model.specs.declared.proof.Listed.{Listed}
+use Rattle.proof_model.specs.Certificate.{AnswerLine, Certificate}
+use Rattle.proof_model.specs.ProofView.{listed_view, proof_view}
 use Rattle.proof_model.specs.Faults.{TellsFlaw}
 use Rattle.proof_model.specs.QueryProblem.{problem_in}
 use Rattle.proof_model.specs.Valid.{IsFirst, IsValid, missed}

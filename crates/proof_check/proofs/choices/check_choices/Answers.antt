@@ -1,7 +1,7 @@
 use Rattle.std.proofs.Common.{◌≡◌, ◌<◌, not, option_map, length, refl, sym, ap, subst, ◌∙◌, arith}
 use Rattle.std.proofs.Common.{inl, inr}
 use Rattle.std.proofs.lemmas.Bool.{false≢true}
-use Rattle.proof_text.specs.ProofView.{proof_view}
+use Rattle.proof_model.specs.ProofView.{proof_view}
 use Rattle.tdp_core.specs.RawView.{raw_len}
 use Rattle.proof_check.specs.Levels.{IsMissedAt, IsPassedAt}
 use Rattle.proof_check.specs.RowPlaces.{place_at}

@@ -2,9 +2,9 @@ use Rattle.std.proofs.Common.{◌≡◌, ◌≢◌, ◌+◌, ◌-◌, ◌<◌, �
 use Rattle.std.proofs.Math.ListN.{set}
 use Rattle.std.proofs.lemmas.List.{get_or-replicate, length-map, length-replicate}
 use Rattle.tdp_core.proofs.RawReads.{list_read}
-use Rattle.proof_text.specs.Certificate.{BoundLine}
-use Rattle.proof_text.specs.ProofView.{bound_view, proof_view}
-use Rattle.proof_text.specs.declared.fault.ProofFault.TheVariants as fault
+use Rattle.proof_model.specs.Certificate.{BoundLine}
+use Rattle.proof_model.specs.ProofView.{bound_view, proof_view}
+use Rattle.proof_model.specs.declared.fault.ProofFault.TheVariants as fault
 use Rattle.proof_check.specs.Lines.{AreLineGroups}
 use Rattle.proof_check.proofs.LineFaults.{groups_few, groups_more, line_is, node_read, node_within, rows_few, some_node_lem, twice}
 use Rattle.std.proofs.lemmas.Result.{IfOk-from_err}

@@ -1,4 +1,4 @@
-use Rattle.proof_text.specs.ProofView.{proof_view}
+use Rattle.proof_model.specs.ProofView.{proof_view}
 use Rattle.proof_check.specs.Lines.{AreLineGroups}
 use Rattle.proof_check.proofs.groups.line_groups.Given as goal
 

@@ -1,9 +1,9 @@
 use Rattle.std.proofs.Common.{◌≡◌, ◌+◌, ◌-◌, ◌<◌, ◌++◌, ◌∷◌, [], ℕ, suc, length, map, get_or, refl, sym, ap, subst, ◌∙◌, inl, inr}
 use Rattle.std.proofs.Math.ListN.{length-set, set}
 use Rattle.std.proofs.lemmas.List.{length-map}
-use Rattle.proof_text.specs.Certificate.{BoundLine}
-use Rattle.proof_text.specs.ProofView.{proof_view}
-use Rattle.proof_text.specs.declared.fault.ProofFault.TheVariants as fault
+use Rattle.proof_model.specs.Certificate.{BoundLine}
+use Rattle.proof_model.specs.ProofView.{proof_view}
+use Rattle.proof_model.specs.declared.fault.ProofFault.TheVariants as fault
 use Rattle.proof_model.specs.QueryProblem.{problem_in}
 use Rattle.proof_model.specs.Valid.{bound_at}
 use Rattle.proof_check.specs.Lines.{ArePlacedLines, line_node}

@@ -1,7 +1,7 @@
 use Rattle.std.proofs.Common.{◌≡◌, ◌<◌, option_map, [], length, refl, sym, ap, arith}
-use Rattle.proof_text.specs.Certificate.{AnswerLine}
-use Rattle.proof_text.specs.ProofView.{listed_view, proof_view}
-use Rattle.proof_text.specs.declared.fault.ProofFault.TheVariants as fault
+use Rattle.proof_model.specs.Certificate.{AnswerLine}
+use Rattle.proof_model.specs.ProofView.{listed_view, proof_view}
+use Rattle.proof_model.specs.declared.fault.ProofFault.TheVariants as fault
 use Rattle.proof_model.specs.QueryProblem.{problem_in}
 use Rattle.proof_model.specs.Valid.{answer_at, answer_key}
 use Rattle.proof_check.specs.BoundedRows.{query_key}

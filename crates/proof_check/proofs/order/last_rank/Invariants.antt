@@ -2,7 +2,7 @@ use Rattle.std.proofs.Common.{◌≤◌, List, length, option_map}
 use Rattle.anyk_model.specs.Table.{Table}
 use Rattle.anyk_model.specs.Query.{Query}
 use Rattle.join_tree.specs.declared.tree.JoinTree.{JoinTree}
-use Rattle.proof_text.specs.ProofView.{proof_view}
+use Rattle.proof_model.specs.ProofView.{proof_view}
 use Rattle.proof_model.specs.QueryProblem.{problem_in}
 use Rattle.proof_check.specs.BoundedRows.{HasProblemRows}
 use Rattle.proof_check.specs.Solutions.{AreAnswers, AreOrdered}

@@ -1,9 +1,9 @@
 use Rattle.std.proofs.Common.{◌≡◌, ◌+◌, ◌<◌, ℕ, List, [], ◌∷◌, ◌++◌, length, get_or, sym, ap, subst, ◌∙◌, inr, arith}
 use Rattle.std.proofs.Common.{refl, inl, below_more, length-append}
 use Rattle.std.proofs.lemmas.Result.{IfOk-from_err}
-use Rattle.proof_text.specs.Certificate.{AnswerLine}
-use Rattle.proof_text.specs.ProofView.{listed_view, proof_view}
-use Rattle.proof_text.specs.declared.fault.ProofFault.TheVariants as fault
+use Rattle.proof_model.specs.Certificate.{AnswerLine}
+use Rattle.proof_model.specs.ProofView.{listed_view, proof_view}
+use Rattle.proof_model.specs.declared.fault.ProofFault.TheVariants as fault
 use Rattle.proof_model.specs.Problem.{IsSolutionAt}
 use Rattle.proof_model.specs.QueryProblem.{problem_in}
 use Rattle.proof_model.specs.Valid.{answer_at}

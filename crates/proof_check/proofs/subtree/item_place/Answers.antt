@@ -1,6 +1,6 @@
 use Rattle.std.proofs.Common.{◌+◌, ◌<◌, length, sym, ap, ◌∙◌, arith}
 use Rattle.rankings.specs.TreeProblem.{sum_from}
-use Rattle.step_bounds.proofs.NodeSums.{sum_none}
+use Rattle.bound_query.proofs.NodeSums.{sum_none}
 use Rattle.proof_check.proofs.Subtrees.{before, below_small, place_more, place_same, place_within}
 use Rattle.proof_check.proofs.Counts.{below_count, ended, few_added, few_same}
 use Rattle.proof_check.proofs.subtree.item_place.Goals as goal

@@ -1,7 +1,7 @@
 use Rattle.std.proofs.Common.{◌+◌, ◌<◌, length, refl, sym, ap, ◌∙◌, arith}
 use Rattle.rankings.specs.TreeProblem.{sum_from}
 use Rattle.proof_check.specs.Subtrees.{raw_below}
-use Rattle.step_bounds.proofs.NodeSums.{sum_none}
+use Rattle.bound_query.proofs.NodeSums.{sum_none}
 use Rattle.proof_check.proofs.Subtrees.{below_small, size_more}
 use Rattle.proof_check.proofs.Counts.{below_count, ended, few_added}
 use Rattle.proof_check.proofs.subtree.size.Goals as goal

@@ -1,8 +1,8 @@
 use Rattle.std.proofs.Common.{◌++◌, length, take, ap, ◌∙◌}
 use Rattle.std.proofs.lemmas.Result.{IfOk-from_err}
 use Rattle.witness_key.specs.WitnessKey.{combinations_in}
-use Rattle.proof_text.specs.Writing.{answer_text}
-use Rattle.step_bounds.proofs.Calls.{limit_below, limit_reached}
+use Rattle.proof_model.specs.Writing.{answer_text}
+use Rattle.bound_query.proofs.Calls.{limit_below, limit_reached}
 use Rattle.proof_write.proofs.Given.{ended_early, ended_text, listed_more, met_limit, met_text}
 use Rattle.proof_write.proofs.answers.push_answers.Goals as goal
 

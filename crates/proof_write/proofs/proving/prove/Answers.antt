@@ -3,8 +3,8 @@ use Rattle.anyk_model.specs.Output.{cut}
 use Rattle.tdp_core.specs.TreeView.{NodeView}
 use Rattle.tdp_core.specs.Solutions.{IsTreeRanking}
 use Rattle.witness_key.specs.WitnessKey.{combinations_in}
-use Rattle.proof_text.specs.Certificate.{BoundLine}
-use Rattle.proof_text.specs.Writing.{header_text}
+use Rattle.proof_model.specs.Certificate.{BoundLine}
+use Rattle.proof_model.specs.Writing.{header_text}
 use Rattle.tdp_core.specs.WellFormed.{IsFormed}
 use Rattle.proof_write.specs.Firsts.{AreBounds, AreTold}
 use Rattle.proof_write.proofs.PlanProblem.{told}

@@ -5,7 +5,7 @@ use Rattle.std.proofs.lemmas.Result.{err_from_is_err_and}
 use Rattle.query_grammar.specs.declared.fault.ParseFault.{ParseFault}
 use Rattle.query_select.specs.declared.select.Select.{Select}
 use Rattle.query_select.specs.declared.select.SelectAll.{SelectAll}
-use Rattle.query_tokens.specs.Lexeme.{lexemes}
+use Rattle.query_select.specs.Lexeme.{lexemes}
 use Rattle.query_grammar.specs.Reading.{Branches, some_lexeme}
 use Rattle.query_grammar.specs.Parse.{Agree, LimitsAll, ParsesAll}
 use Rattle.query_grammar.proofs.Answered.{fails_faults_all, says_all_read, limit_faults_all, parsed_all}

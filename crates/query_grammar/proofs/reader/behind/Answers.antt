@@ -1,5 +1,5 @@
 use Rattle.std.proofs.Common.{◌∙◌, ap, not}
-use Rattle.query_tokens.specs.Lexeme.{lexemes}
+use Rattle.query_select.specs.Lexeme.{lexemes}
 use Rattle.query_grammar.proofs.Columns.{behind_found, behind_none}
 use Rattle.query_grammar.proofs.reader.behind.Goals as goal
 

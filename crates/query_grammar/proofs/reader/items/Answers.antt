@@ -1,5 +1,5 @@
 use Rattle.std.proofs.lemmas.Result.{err_from_is_err_and}
-use Rattle.query_tokens.specs.Lexeme.{lexemes}
+use Rattle.query_select.specs.Lexeme.{lexemes}
 use Rattle.query_grammar.specs.Reading.{items_at}
 use Rattle.query_grammar.proofs.Putting.{items_begin, first_ends, putting_goes_on, putting_shortens, putting_ends, putting_done}
 use Rattle.query_grammar.proofs.Stepping.{item_steps}

@@ -1,5 +1,5 @@
 use Rattle.std.proofs.Common.{◌≡◌, length}
-use Rattle.query_tokens.specs.Lexeme.{lexemes}
+use Rattle.query_select.specs.Lexeme.{lexemes}
 use Rattle.query_grammar.specs.Reading.{all_at, next_item_at, items_at}
 use Rattle.query_grammar.proofs.Loops.{with_items}
 use Rattle.query_grammar.proofs.reader.items.Given as goal

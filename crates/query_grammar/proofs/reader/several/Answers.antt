@@ -1,6 +1,6 @@
 use Rattle.std.proofs.Common.{refl}
 use Rattle.std.proofs.lemmas.Result.{err_from_is_err_and}
-use Rattle.query_tokens.specs.Lexeme.{lexemes}
+use Rattle.query_select.specs.Lexeme.{lexemes}
 use Rattle.query_grammar.specs.Reading.{several_at}
 use Rattle.query_grammar.proofs.Adding.{adding_goes_on, adding_shortens, adding_ends, adding_done}
 use Rattle.query_grammar.proofs.reader.several.Goals as goal

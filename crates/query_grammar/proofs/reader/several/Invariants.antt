@@ -1,5 +1,5 @@
 use Rattle.std.proofs.Common.{◌≡◌, length}
-use Rattle.query_tokens.specs.Lexeme.{lexemes}
+use Rattle.query_select.specs.Lexeme.{lexemes}
 use Rattle.query_grammar.specs.Reading.{all_at, several_at}
 use Rattle.query_grammar.proofs.Loops.{with_front}
 use Rattle.query_grammar.proofs.reader.several.Given as goal

@@ -4,7 +4,7 @@ use Rattle.answer_print.specs.StyleView.{style_view}
 use Rattle.anyk_model.specs.BestList.{list_of}
 use Rattle.plan_build.specs.Plan.{IsPlanOf, shape_of}
 use Rattle.refusal_lines.proofs.Prints.{printed_some}
-use Rattle.step_bounds.specs.RunBounds.{IsPrepared, KeepsPace}
+use Rattle.bound_query.specs.RunBounds.{IsPrepared, KeepsPace}
 use Rattle.verdict.specs.Session.{session_text}
 use Rattle.verdict.specs.Summary.{summary_text}
 use Rattle.task_plan.specs.Judgement.{IsUnnamed}

@@ -3,7 +3,7 @@ use Rattle.anyk_model.specs.BestList.{list_of}
 use Rattle.plan_engine.specs.Engines.{calls_of, tree_of}
 use Rattle.refusal_lines.specs.declared.fault.PrintFault.TheVariants as fault
 use Rattle.refusal_lines.proofs.Prints.{unprinted}
-use Rattle.step_bounds.specs.Steps.{steps_for}
+use Rattle.bound_query.specs.Steps.{steps_for}
 use Rattle.tdp_core.specs.Shares.{share_of, size_of}
 use Rattle.verdict.specs.SessionCalls.{session_calls, session_reach}
 use Rattle.plan_build.proofs.Rooted.{whole_of}

@@ -1,6 +1,6 @@
 use Rattle.std.proofs.Common.{◌∙◌, [], List, Result, Ok, Err, sym, ap, subst}
-use Rattle.proof_text.specs.Certificate.{Certificate}
-use Rattle.proof_text.specs.ProofView.{proof_view}
+use Rattle.proof_model.specs.Certificate.{Certificate}
+use Rattle.proof_model.specs.ProofView.{proof_view}
 use Rattle.session_script.specs.declared.step.Step.{Step}
 use Rattle.refusal_lines.specs.Reason.{Reason}
 use Rattle.refusal_lines.specs.RefusalReasons.{reason_of}

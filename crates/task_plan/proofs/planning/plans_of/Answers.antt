@@ -18,7 +18,7 @@ returns-in-Err g c =
     let input = input_view c.input.inside in
     let query = c.index-queries-0.result in
     let only = sym c.as_slice-queries.ensures.value ∙ only_one c.as_slice-queries.result.now query
-        c.if-queries-eq1.true c.index-queries-0.is in
+    c.if-queries-eq1.true c.index-queries-0.is in
     let reason = plan_reason None c.in-Err.fault in
     record {
       shaped = subst (λ (i : InputView). Pure (IsShaped (loaded_of i)) (Err reason)) c.input.view_is
@@ -33,7 +33,7 @@ returns-in-Ok g c =
     let input = input_view c.input.inside in
     let query = c.index-queries-0.result in
     let only = sym c.as_slice-queries.ensures.value ∙ only_one c.as_slice-queries.result.now query
-        c.if-queries-eq1.true c.index-queries-0.is in
+    c.if-queries-eq1.true c.index-queries-0.is in
     let plan = c.in-Ok.plan in
     let shape = shape_in plan in
     record {

@@ -1,6 +1,6 @@
 use Rattle.std.proofs.Common.{None}
 use Rattle.node_build.proofs.Shaped.{caps_small}
-use Rattle.proof_text.specs.ProofView.{proof_view}
+use Rattle.proof_model.specs.ProofView.{proof_view}
 use Rattle.verdict.specs.Verdict.{IsCertified, IsStructure}
 use Rattle.verdict.proofs.Staging.{pure_refused}
 use Rattle.task_verify.proofs.Verifying.{cycle_told}

@@ -1,5 +1,5 @@
 use Rattle.std.proofs.Common.{◌∙◌, take}
-use Rattle.proof_text.specs.ProofView.{proof_view}
+use Rattle.proof_model.specs.ProofView.{proof_view}
 use Rattle.proof_check.proofs.Ranked.{begins}
 use Rattle.task_verify.proofs.Verifying.{flaw_checked, valid_checked}
 use Rattle.task_verify.proofs.checking.listed_answers.Goals as goal

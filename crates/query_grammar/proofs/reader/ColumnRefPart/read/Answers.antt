@@ -1,6 +1,6 @@
 use Rattle.std.proofs.Common.{◌∙◌, ap, not}
 use Rattle.std.proofs.lemmas.Result.{err_from_is_err_and}
-use Rattle.query_tokens.specs.Lexeme.{lexemes}
+use Rattle.query_select.specs.Lexeme.{lexemes}
 use Rattle.query_grammar.proofs.Columns.{bare_read, qualified_read, second_fails}
 use Rattle.query_grammar.proofs.reader.ColumnRefPart.read.Goals as goal
 

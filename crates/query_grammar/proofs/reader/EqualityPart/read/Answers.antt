@@ -1,5 +1,5 @@
 use Rattle.std.proofs.lemmas.Result.{err_from_is_err_and}
-use Rattle.query_tokens.specs.Lexeme.{lexemes}
+use Rattle.query_select.specs.Lexeme.{lexemes}
 use Rattle.query_grammar.proofs.Parts.{condition_is, equals_fails}
 use Rattle.query_grammar.proofs.reader.EqualityPart.read.Goals as goal
 

@@ -1,5 +1,0 @@
-mod Examples
-pub mod FormTexts
-pub mod Numbers
-pub mod RoundTrip
-pub mod Turns

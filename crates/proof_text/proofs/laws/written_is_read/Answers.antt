@@ -1,5 +1,0 @@
-use Rattle.proof_text.proofs.RoundTrip.{written_read}
-use Rattle.proof_text.proofs.laws.written_is_read.Goals as goal
-
-pub returns : goal.returns
-returns c = λ proof numbered. written_read proof numbered

@@ -1,6 +1,0 @@
-pub mod Certificate
-pub mod Forms
-pub mod NumberedProofs
-pub mod Reading
-pub mod ProofView
-pub mod Writing

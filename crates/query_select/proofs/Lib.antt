@@ -1,0 +1,5 @@
+pub mod Prefixes
+pub mod SameKind
+pub mod ScanLength
+pub mod Scanned
+pub mod Strings

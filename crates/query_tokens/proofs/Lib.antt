@@ -1,5 +1,0 @@
-pub mod SameKind
-pub mod Strings
-pub mod Prefixes
-pub mod ScanLength
-pub mod Scanned
