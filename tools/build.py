@@ -416,8 +416,10 @@ class Proofs:
         return self.jobs() >= self.lanes or is_alone and bool(self.running)
 
     def share(self, crate, ready):
-        """How many processes work at a crate that begins now, where `ready` is how many could begin."""
-        return 1 if crate in self.killed else shared(self.lanes, self.places, self.jobs(), ready)
+        """How many processes work at a crate that begins now, where `ready` is how many could begin: one, if a crate that is left has a
+        longer chain behind it and will want the processors sooner."""
+        is_next = all(self.chains[it] <= self.chains[crate] for it in self.left)
+        return shared(self.lanes, self.places, self.jobs(), ready) if is_next and crate not in self.killed else 1
 
     def begin(self):
         """Begins the proofs that can begin, first that with the longest chain behind it."""
