@@ -794,6 +794,25 @@ def test_estimate(house):
     same([build.minutes(it) for it in (5, 61, 150, 3600)], ["under a minute", "1 min", "2 min", "60 min"])
 
 
+def test_share(house):
+    build = module("build")
+    proofs = build.Proofs.__new__(build.Proofs)
+    proofs.lanes, proofs.places, proofs.killed, proofs.running = 4, 8, {"killed"}, {"one": build.Proof(None, 1, None)}
+    proofs.chains = {"next": 30, "waiting": 20, "behind": 20, "last": 10, "killed": 40}
+
+    def shares(crate, *left, ready=1):
+        proofs.left = [*left]
+        return proofs.share(crate, ready)
+
+    # All that are free, but one for each crate if several are ready, if a longer chain waits, or after a killed check.
+    same([shares("next", "waiting"), shares("next"), shares("waiting", "behind")], [3, 3, 3])
+    same([shares("next", "waiting", ready=2), shares("next", "waiting", ready=3)], [1, 1])
+    same([shares("last", "waiting"), shares("killed")], [1, 1])
+    same([proofs.waits(it) for it in ("next", "killed")], [False, True])
+    proofs.running["two"] = build.Proof(None, 3, None)
+    same(proofs.waits("next"), True)
+
+
 def test_help(house):
     for words in (["help"], ["--help"], ["-h"], ["help", "run"], ["help", "plan"], ["help", "picture"], ["help", "session"], ["help", "prove"], ["help", "verify"], ["help", "load"], ["help", "install"]):
         status, output, error = house.call(*words)
