@@ -6,8 +6,8 @@ use Rattle.std.proofs.lemmas.List.{get_or_past}
 use Rattle.std.proofs.lemmas.List.Elements.{All-head, All-cons, All-nil}
 use Rattle.std.proofs.lemmas.List.Sorted.{All-permutation, length_permutation}
 use Rattle.std.proofs.lemmas.Bool.Decides.{nat_tests}
-use Rattle.stream_store.specs.declared.entry.Linked.{Linked}
-use Rattle.take2_heap.specs.declared.entry.Entry.{Entry}
+use Rattle.containers.specs.declared.linked.Linked.{Linked}
+use Rattle.containers.specs.declared.entry.Entry.{Entry}
 use Rattle.rankings.specs.Order.{ranked}
 use Rattle.rankings.specs.KeyTuple.{KeyOf, key_below, key_add, key_none, slot_of}
 use Rattle.rankings.specs.Remains.{Remains}

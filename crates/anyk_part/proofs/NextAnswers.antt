@@ -3,9 +3,9 @@ use Rattle.std.proofs.Common.{◌≡◌, ℕ, ◌+◌, ◌-◌, ◌*◌, ◌/◌
 use Rattle.std.specs.List.{All}
 use Rattle.std.proofs.lemmas.Bool.{cases_lt, cond-true, lt-ltb}
 use Rattle.std.proofs.lemmas.List.{get_or-take}
-use Rattle.stream_store.specs.declared.entry.Linked.{Linked}
-use Rattle.take2_heap.specs.declared.entry.Entry.{Entry}
-use Rattle.take2_heap.specs.Order as heaps
+use Rattle.containers.specs.declared.linked.Linked.{Linked}
+use Rattle.containers.specs.declared.entry.Entry.{Entry}
+use Rattle.containers.specs.Order as heaps
 use Rattle.rank_key.specs.Bits.{bit_length}
 use Rattle.rank_key.proofs.BitLemmas.{bit_length_rises, bit_length_half}
 use Rattle.rankings.specs.Order.{ranked}

@@ -5,8 +5,8 @@ use Rattle.std.specs.List.Sorted.{IsPermutation}
 use Rattle.std.proofs.lemmas.List.Sums.{sum_by-cons}
 use Rattle.std.proofs.lemmas.List.Sorted.{sum_by-IsPermutation, All-permutation, length_permutation}
 use Rattle.std.proofs.lemmas.List.Elements.{All-cons, All-tail}
-use Rattle.stream_store.specs.declared.entry.Linked.{Linked}
-use Rattle.take2_heap.specs.declared.entry.Entry.{Entry}
+use Rattle.containers.specs.declared.linked.Linked.{Linked}
+use Rattle.containers.specs.declared.entry.Entry.{Entry}
 use Rattle.rank_key.specs.Keys.{CanSwap}
 use Rattle.rankings.specs.KeyTuple.{KeyOf, key_below, key_add, key_none}
 use Rattle.rankings.specs.Regions.{in_region, opening}

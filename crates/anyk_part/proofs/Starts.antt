@@ -1,7 +1,7 @@
 -- From a candidate to the start of the division of its region.
 use Rattle.std.proofs.Common.{◌≡◌, ℕ, ◌<◌, List, length, take, arith}
-use Rattle.stream_store.specs.declared.entry.Linked.{Linked}
-use Rattle.take2_heap.specs.declared.entry.Entry.{Entry}
+use Rattle.containers.specs.declared.linked.Linked.{Linked}
+use Rattle.containers.specs.declared.entry.Entry.{Entry}
 use Rattle.rankings.specs.KeyTuple.{KeyOf}
 use Rattle.rankings.specs.Regions.{opening}
 use Rattle.tdp_core.specs.TreeView.{NodeView, group_count}

@@ -1,8 +1,8 @@
 -- What the candidates mean, and what the queue of them is.
 use Rattle.std.specs.Prelude.{◌≡◌, ℕ, ◌+◌, ◌-◌, ◌*◌, ◌<◌, ◌≤◌, suc, List, length, map}
 use Rattle.std.specs.List.{All, sum_by}
-use Rattle.stream_store.specs.declared.entry.Linked.{Linked}
-use Rattle.take2_heap.specs.declared.entry.Entry.{Entry}
+use Rattle.containers.specs.declared.linked.Linked.{Linked}
+use Rattle.containers.specs.declared.entry.Entry.{Entry}
 use Rattle.rankings.specs.KeyTuple.{KeyOf, key_below, key_add, key_none}
 use Rattle.rankings.specs.Regions.{Region, in_region, in_regions}
 use Rattle.rankings.specs.TreeProblem.{rows_after, bound_of, IsReached}

@@ -7,9 +7,9 @@ ghost use Rattle.tdp_core.specs.TreeView.{parent, rows, rank, group_number};
 ghost use Rattle.tdp_core.specs.WellFormed.{IsFormed, IsTieFreeTree};
 ghost use Rattle.anyk_part.specs.Places.{ArePlaces};
 
+use ground::Steps;
 use rank_key::Rank;
 use std::sync::ledger::Ledger;
-use step_counter::Steps;
 use tdp_core::Tree;
 
 /// The place of each node among the children of its parent, and 0 for the root.

@@ -2,12 +2,12 @@
 use Rattle.std.proofs.Common.{◌≡◌, ℕ, List, Option, Result, Ok, Err, OnOk, IfErr, inl, inr, refl, sym, subst, ap, ◌∙◌}
 use Rattle.outer_io.specs.Files.{Files}
 use Rattle.outer_io.specs.declared.writing.Unwritten.{Unwritten}
-use Rattle.refusal_lines.specs.declared.refusal.Refusal.{Refusal}
-use Rattle.refusal_lines.specs.Reason as reason
-use Rattle.refusal_lines.specs.Reason.{Reason, line_of, status_of}
-use Rattle.refusal_lines.specs.RefusalReasons.{reason_of}
-use Rattle.refusal_lines.specs.SinkText.{Sent}
-use Rattle.refusal_lines.specs.SinkState.{SinkState}
+use Rattle.outer_io.specs.declared.refusal.Refusal.{Refusal}
+use Rattle.outer_io.specs.Reason as reason
+use Rattle.outer_io.specs.Reason.{Reason, line_of, status_of}
+use Rattle.outer_io.specs.RefusalReasons.{reason_of}
+use Rattle.outer_io.specs.SinkText.{Sent}
+use Rattle.outer_io.specs.SinkState.{SinkState}
 use Rattle.verdict.specs.Outcome.{GotNothing, HasLine, IsReason, IsCaused, IsComplete, IsCut, Outcome, Outside}
 use Rattle.verdict.specs.Words.{Asked, Command, no_command, built}
 use Rattle.verdict.proofs.Whole.{done_outcome, ended_outcome}

@@ -2,11 +2,11 @@
 use Rattle.std.specs.Prelude.{◌≡◌, ℕ, List, [], Result, Ok, Err}
 use Rattle.std.specs.Io.KnownBytes.{Appends}
 use Rattle.outer_io.specs.declared.writing.Unwritten.{Unwritten}
-use Rattle.refusal_lines.specs.declared.refusal.Refusal.{Refusal}
-use Rattle.refusal_lines.specs.Reason.{line_of, status_of}
-use Rattle.refusal_lines.specs.RefusalReasons.{reason_of}
-use Rattle.refusal_lines.specs.SinkText.{Sent}
-use Rattle.refusal_lines.specs.SinkState.{SinkState}
+use Rattle.outer_io.specs.declared.refusal.Refusal.{Refusal}
+use Rattle.outer_io.specs.Reason.{line_of, status_of}
+use Rattle.outer_io.specs.RefusalReasons.{reason_of}
+use Rattle.outer_io.specs.SinkText.{Sent}
+use Rattle.outer_io.specs.SinkState.{SinkState}
 
 -- the line of the refusal was sent, as far as the sink took it
 pub record HasSent (old new : SinkState) (line : List ℕ) : Type 0 where

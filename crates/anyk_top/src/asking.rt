@@ -8,8 +8,8 @@ ghost use Rattle.anyk_top.specs.Requests.{asked_by};
 
 use crate::request::Request;
 use cmd_words::{Command, Words, WordsFault, read_words};
+use ground::NoMemory;
 use std::alloc::Global;
-use step_counter::NoMemory;
 use task_plan::{MadeTables, Task};
 
 /// The command that the arguments ask for. `Usage` if they are not a command, and `NoMemory` if

@@ -8,14 +8,13 @@ ghost use Rattle.verdict.specs.Outcome.{Outcome};
 ghost use Rattle.anyk_top.specs.CommandLine.{asked_of};
 ghost use Rattle.verdict.specs.Sides.{outside};
 
-use crate::answering::answer;
 use crate::asking::read_request;
 use crate::ending::{finish, refusal_of};
-use hash_keys::Keys;
+use crate::request_answer::answer;
+use ground::{Keys, Steps};
 use outer_io::{Shelf, Sink};
 use std::alloc::Global;
 use std::sync::ledger::{Blank, Ledger};
-use step_counter::Steps;
 
 /// Runs the program, and returns its exit status. It reads the words and the files on the shelf
 /// that they name. The answers go to `out`, and the line of a refusal goes to `err`. The tables are

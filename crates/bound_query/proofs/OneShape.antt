@@ -2,9 +2,9 @@
 use Rattle.std.proofs.Common.{◌≡◌, ◌↔◌, ℕ, suc, ◌-◌, ◌<◌, ◌≤◌, List, length, slice_index, inl, inr, refl, sym, ◌∙◌, ap, subst, arith, Result, Ok, Err}
 use Rattle.std.proofs.lemmas.Bool.{cases_order}
 use Rattle.std.proofs.lemmas.Grind.{same_number_lists}
-use Rattle.hyper_graph.specs.Graph.{Hypergraph, HasVar, IsIn}
-use Rattle.hyper_graph.specs.JoinTrees.{HasJoinTree}
-use Rattle.hyper_graph.proofs.Graphs.{has_within}
+use Rattle.join_tree.specs.Graph.{Hypergraph, HasVar, IsIn}
+use Rattle.join_tree.specs.JoinTrees.{HasJoinTree}
+use Rattle.join_tree.proofs.Graphs.{has_within}
 use Rattle.join_tree.specs.Removal.{HasOne}
 use Rattle.join_tree.proofs.Hanging.{one_iff_tree}
 use Rattle.join_tree.proofs.FromRemoval as removing

@@ -7,12 +7,12 @@ use Rattle.std.specs.List.{AllByRecursion, flat_map}
 use Rattle.std.specs.Io.KnownBytes.{Appends}
 use Rattle.std.proofs.KnownBytes.{Appends-trans}
 use Rattle.anyk_model.specs.Output.{cut}
-use Rattle.refusal_lines.specs.declared.fault.PrintFault.{PrintFault}
-use Rattle.refusal_lines.specs.declared.fault.PrintFault.TheVariants as fault
+use Rattle.outer_io.specs.declared.fault.PrintFault.{PrintFault}
+use Rattle.outer_io.specs.declared.fault.PrintFault.TheVariants as fault
 use Rattle.bound_query.proofs.Calls.{HasCalled}
-use Rattle.refusal_lines.specs.Printing.{Printed}
-use Rattle.refusal_lines.specs.SinkState.{SinkState}
-use Rattle.refusal_lines.proofs.Prints.{printed_stopped, printed_then}
+use Rattle.outer_io.specs.Printing.{Printed}
+use Rattle.outer_io.specs.SinkState.{SinkState}
+use Rattle.outer_io.proofs.Prints.{printed_stopped, printed_then}
 
 -- the first i of a list were given and printed, the engine has the others left, and P holds for
 -- what is left

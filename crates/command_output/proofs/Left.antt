@@ -2,11 +2,11 @@
 use Rattle.std.proofs.Common.{◌≡◌, ◌≤◌, ℕ, List, [], ◌++◌, Result, Ok, Err, IfErr, refl, sym, ap, subst, ◌∙◌, append_assoc, append-nil, arith}
 use Rattle.std.specs.Io.KnownBytes.{Appends}
 use Rattle.std.proofs.KnownBytes.{Appends-trans}
-use Rattle.refusal_lines.specs.declared.fault.PrintFault.{PrintFault}
-use Rattle.refusal_lines.specs.declared.fault.PrintFault.TheVariants as fault
-use Rattle.refusal_lines.specs.Printing.{IsPrintCause, Printed}
-use Rattle.refusal_lines.specs.SinkState.{SinkState}
-use Rattle.refusal_lines.proofs.Prints.{appends_nothing, printed_stopped, printed_then}
+use Rattle.outer_io.specs.declared.fault.PrintFault.{PrintFault}
+use Rattle.outer_io.specs.declared.fault.PrintFault.TheVariants as fault
+use Rattle.outer_io.specs.Printing.{IsPrintCause, Printed}
+use Rattle.outer_io.specs.SinkState.{SinkState}
+use Rattle.outer_io.proofs.Prints.{appends_nothing, printed_stopped, printed_then}
 
 -- this much of the whole text is left, and what is before it was printed
 pub record HasLeft (whole left : List ℕ) (old now : SinkState) : Type 0 where

@@ -7,7 +7,7 @@ use Rattle.std.proofs.lemmas.Bool.{cases_order}
 use Rattle.std.proofs.lemmas.Bool.Decides.{nat_tests}
 use Rattle.std.proofs.lemmas.List.{get_or-map, get_or-set_other, get_or-set_same, length-map, map-set}
 use Rattle.std.proofs.lemmas.List.Quantifiers.{position-Some}
-use Rattle.cursor_set.specs.CursorSet.{CursorSet}
+use Rattle.command_output.specs.CursorSet.{CursorSet}
 use Rattle.verdict.specs.Session.{Places, with_cursor}
 use Rattle.command_output.specs.declared.open_cursors.OpenCursor.{OpenCursor}
 use Rattle.command_output.specs.OpenCursors.{Found, IsAt, IsHeld, is_named}

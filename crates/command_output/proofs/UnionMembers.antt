@@ -5,12 +5,12 @@ use Rattle.std.specs.Io.KnownBytes.{Appends}
 use Rattle.anyk_model.specs.Output.{cut}
 use Rattle.anyk_model.specs.Query.{Query}
 use Rattle.anyk_model.specs.Table.{Table}
-use Rattle.refusal_lines.specs.SinkState.{SinkState}
+use Rattle.outer_io.specs.SinkState.{SinkState}
 use Rattle.anyk_model.specs.TaggedRows.{Tagged}
-use Rattle.union_all.specs.Merge.{IsCalled, MergeView}
-use Rattle.refusal_lines.proofs.Prints.{appends_nothing}
-use Rattle.union_all.specs.Firsts.{tagged_view}
-use Rattle.union_all.specs.declared.tagged.Tagged as stored
+use Rattle.command_output.specs.Merge.{IsCalled, MergeView}
+use Rattle.outer_io.proofs.Prints.{appends_nothing}
+use Rattle.command_output.specs.Firsts.{tagged_view}
+use Rattle.command_output.specs.declared.tagged.Tagged as stored
 use Rattle.command_output.proofs.Given.{HasGiven, given_more}
 use Rattle.command_output.specs.UnionSteps.{AreMembers, IsMember, UnionPaced, union_steps}
 use Rattle.command_output.proofs.UnionCalls.{AreCalled, called_more, none_called, steps_rise}

@@ -1,7 +1,7 @@
 -- The open cursors by name, and the cursor set that moves them.
 use Rattle.std.specs.Prelude.{◌≡◌, ◌<◌, ℕ, Bool, false, List, Option, Some, None, length, map, option_map, slice_index_or}
 use Rattle.std.specs.Str.{bytes_eq}
-use Rattle.cursor_set.specs.CursorSet.{CursorSet}
+use Rattle.command_output.specs.CursorSet.{CursorSet}
 use Rattle.verdict.specs.Session.{Places}
 use Rattle.command_output.specs.declared.open_cursors.OpenCursor.{OpenCursor}
 

@@ -4,9 +4,9 @@ ghost use Rattle.verdict.specs.Session.{Places, places_after, with_cursor};
 ghost use Rattle.command_output.specs.OpenCursors.{Found, IsHeld, is_named};
 ghost use Rattle.command_output.specs.SessionRules.{CanStep, PrintsNothing};
 
-use cursor_set::{CursorId, Cursors, MAX_OPEN};
-use session_script::Step;
-use step_counter::NoMemory;
+use crate::{CursorId, Cursors, MAX_OPEN};
+use ground::NoMemory;
+use languages::Step;
 use tdp_core::Ranked;
 
 /// An open cursor: its name, and its place in the list, from 0.

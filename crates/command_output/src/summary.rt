@@ -2,20 +2,19 @@
 ghost use Rattle.std.specs.Prelude.{◌≡◌, ◌+◌, ◌≤◌};
 ghost use Rattle.anyk_model.specs.Output.{cut};
 ghost use Rattle.bound_query.specs.WeighedQuery.{Fits};
-ghost use Rattle.refusal_lines.specs.Printing.{Printed};
-ghost use Rattle.refusal_lines.specs.SinkState.{state_of};
+ghost use Rattle.outer_io.specs.Printing.{Printed};
+ghost use Rattle.outer_io.specs.SinkState.{state_of};
 ghost use Rattle.bound_query.specs.Steps.{calls_for, steps_for};
 ghost use Rattle.verdict.specs.Summary.{summary_text};
-ghost use Rattle.witness_key.specs.WitnessKey.{AreCombinations, combinations_in};
+ghost use Rattle.node_build.specs.WitnessKey.{AreCombinations, combinations_in};
 
 use crate::ends::take_ends;
 use crate::summary_text::summary;
 use bound_query::Query;
-use outer_io::Sink;
-use refusal_lines::{PrintFault, print};
+use ground::Steps;
+use outer_io::{PrintFault, Sink, print};
 use std::alloc::Global;
 use std::sync::ledger::Ledger;
-use step_counter::Steps;
 use table_store::Tables;
 use tdp_core::Ranked;
 

@@ -6,10 +6,10 @@ ghost use Rattle.verdict.specs.Summary.{member_text, rows_in_all};
 ghost use Rattle.command_output.specs.Ends.{ends_text};
 
 use crate::ends::Ends;
-use answer_print::key_sum;
+use crate::key_sum;
 use bound_query::Query;
+use ground::NoMemory;
 use std::alloc::Global;
-use step_counter::NoMemory;
 use table_store::Tables;
 
 /// The summary of the answers with these ends. `NoMemory` if memory is refused.

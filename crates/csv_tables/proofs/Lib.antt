@@ -6,4 +6,3 @@ pub mod Progress
 pub mod Reader
 pub mod Refusals
 pub mod Rows
-pub mod Written

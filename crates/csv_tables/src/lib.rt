@@ -16,8 +16,6 @@ mod reading;
 mod records;
 mod text;
 mod texts;
-mod writing;
 
 pub use fault::TableFault;
 pub use reading::TableReader;
-pub use writing::RecordWriter;

@@ -12,7 +12,7 @@ use Rattle.anyk_model.specs.Table.{Table}
 use Rattle.bound_query.specs.WeighedQuery.{BoundQuery}
 use Rattle.node_build.specs.PartialTrees.{AreFilled}
 use Rattle.node_build.specs.Shapes.{AreShapesOf}
-use Rattle.counted_index.specs.Pairs.{AreNumbers}
+use Rattle.node_build.specs.Pairs.{AreNumbers}
 
 none_at : (A : Type 0) (n q : ℕ) → (let none : List A = [] in get_or (replicate n none) q none ≡ none)
 none_at A n q = let none : List A = [] in elim (cases_lt q n) [

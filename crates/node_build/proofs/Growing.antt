@@ -12,7 +12,7 @@ use Rattle.join_tree.specs.declared.tree.JoinTree.{JoinTree}
 use Rattle.anyk_model.specs.Table.{Table}
 use Rattle.bound_query.specs.WeighedQuery.{BoundQuery}
 use Rattle.node_build.specs.PartialTrees.{AreFilled, HasOnlyMore}
-use Rattle.counted_index.specs.Pairs.{AreMore}
+use Rattle.node_build.specs.Pairs.{AreMore}
 use Rattle.node_build.specs.Links.{HasRowsOf, IsRowOf}
 use Rattle.node_build.proofs.Numbering.{link_kept}
 

@@ -7,7 +7,7 @@ use Rattle.tdp_core.specs.RawView.{RawRowView}
 use Rattle.join_tree.specs.declared.tree.JoinTree.{JoinTree}
 use Rattle.anyk_model.specs.Table.{Table, field_at}
 use Rattle.table_store.specs.Values.{number_of}
-use Rattle.counted_index.specs.Pairs.{IsNumbered}
+use Rattle.node_build.specs.Pairs.{IsNumbered}
 use Rattle.bound_query.specs.WeighedQuery.{BoundQuery}
 use Rattle.bound_query.specs.Weights.{table_in}
 use Rattle.node_build.specs.Nodes.{item_of, parent_of, row_parts}

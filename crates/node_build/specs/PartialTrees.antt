@@ -7,7 +7,7 @@ use Rattle.join_tree.specs.declared.tree.JoinTree.{JoinTree}
 use Rattle.anyk_model.specs.Table.{Table}
 use Rattle.bound_query.specs.WeighedQuery.{BoundQuery}
 use Rattle.node_build.specs.Columns.{HaveColumns}
-use Rattle.counted_index.specs.Pairs.{AreNumbers}
+use Rattle.node_build.specs.Pairs.{AreNumbers}
 use Rattle.node_build.specs.Links.{HasRowsOf}
 
 -- node v has n rows more, and the other nodes have the same rows as before

@@ -12,11 +12,11 @@ use crate::built::{BuildFault, Built};
 use crate::filling::filled_tree;
 use crate::rows::{counts_of, rows_of_nodes};
 use bound_query::Query;
+use ground::Steps;
 use join_tree::JoinTree;
 use rank_key::Rank;
 use std::alloc::Global;
 use std::sync::ledger::Ledger;
-use step_counter::Steps;
 use table_store::Tables;
 
 /// The sum of some numbers.

@@ -2,23 +2,23 @@
 ghost use Rattle.std.specs.Prelude.{◌≡◌, ◌<◌, ◌≤◌, ◌+◌, ◌*◌, length, IfOk, OnOk};
 ghost use Rattle.rankings.specs.NodeRows.{most_node_rows};
 ghost use Rattle.std.specs.List.{sum_by};
-ghost use Rattle.counted_index.specs.Pairs.{AreNumbers};
+ghost use Rattle.node_build.specs.Pairs.{AreNumbers};
 ghost use Rattle.node_build.specs.Columns.{HaveColumns};
 ghost use Rattle.node_build.specs.PartialTrees.{AreFilled, IsFilledTree};
 ghost use Rattle.node_build.specs.Nodes.{AreReady};
 ghost use Rattle.node_build.specs.Rows.{HaveRows, lists_of};
 ghost use Rattle.node_build.specs.Shapes.{AreShapesOf};
 
+use crate::PairIndex;
 use crate::columns::{Columns, columns_of};
 use crate::node::add_rows;
 use crate::shapes::shapes_of;
 use bound_query::Query;
-use counted_index::PairIndex;
+use ground::{NoMemory, Steps};
 use join_tree::JoinTree;
 use rank_key::Rank;
 use std::alloc::Global;
 use std::sync::ledger::Ledger;
-use step_counter::{NoMemory, Steps};
 use table_store::Tables;
 use tdp_core::RawTree;
 

@@ -6,7 +6,7 @@ use Rattle.rankings.specs.TreeProblem.{sum_from}
 use Rattle.tdp_core.specs.RawView.{RawView, raw_len, raw_row_at, row_total}
 use Rattle.tdp_core.specs.TreeView.{NodeView, node_at, rows}
 use Rattle.bound_query.proofs.NodeSums.{lengths_in_all, sum_fewer}
-use Rattle.semi_join.specs.ReducedTrees.{IsReduced}
+use Rattle.plan_build.specs.ReducedTrees.{IsReduced}
 use Rattle.plan_build.proofs.Sizes.{few_below}
 
 module _ {R : Type 0} (d : ℕ) (key : R → KeyOf d 16) (raw : RawView R) (parts : List (NodeView R)) (reduced : IsReduced d key raw parts) where

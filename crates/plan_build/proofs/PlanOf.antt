@@ -12,10 +12,10 @@ use Rattle.tdp_core.specs.WellFormed.{IsFormed, IsTieFreeTree}
 use Rattle.anyk_model.specs.Table.{Table}
 use Rattle.anyk_model.specs.Query.{Query, IsWitness}
 use Rattle.anyk_model.specs.Ranking.{ranking_of}
-use Rattle.witness_key.specs.WitnessKey.{witness_key}
-use Rattle.witness_key.proofs.Rankings.{rankings_agree_lem}
-use Rattle.semi_join.specs.ReducedTrees.{IsReduced}
-use Rattle.tree_dp.specs.SolvedTrees.{IsSolved}
+use Rattle.node_build.specs.WitnessKey.{witness_key}
+use Rattle.node_build.proofs.Rankings.{rankings_agree_lem}
+use Rattle.plan_build.specs.ReducedTrees.{IsReduced}
+use Rattle.plan_build.specs.SolvedTrees.{IsSolved}
 use Rattle.plan_build.specs.Plan.{HasWitnesses}
 use Rattle.plan_build.proofs.TreeSolutions.{has_solution, solution_has, solutions_once}
 

@@ -20,11 +20,11 @@ use Rattle.bound_query.specs.Classes.{Passes}
 use Rattle.bound_query.specs.WeighedQuery.{BoundQuery}
 use Rattle.rank_key.specs.Keys.{row_key}
 use Rattle.node_build.specs.Nodes.{IsBuilt, RowsAgree, RowsAlike, item_of, parent_of, row_parts}
-use Rattle.semi_join.specs.ReducedTrees.{IsReduced, ShareGroup}
-use Rattle.semi_join.proofs.NodeRows.{row_field, rows_count}
-use Rattle.semi_join.proofs.SameShapes.{count_same, parent_same, shape_same}
-use Rattle.tree_dp.specs.SolvedTrees.{IsReordered, IsSolved}
-use Rattle.tree_dp.proofs.Reordered.{group_number_same}
+use Rattle.plan_build.specs.ReducedTrees.{IsReduced, ShareGroup}
+use Rattle.plan_build.proofs.NodeRows.{row_field, rows_count}
+use Rattle.plan_build.proofs.SameShapes.{count_same, parent_same, shape_same}
+use Rattle.plan_build.specs.SolvedTrees.{IsReordered, IsSolved}
+use Rattle.plan_build.proofs.ReorderedNodes.{group_number_same}
 use Rattle.plan_build.specs.Plan.{HasReducedRows, RowPasses, RowsJoined, numbers}
 use Rattle.plan_build.proofs.Places.{Rises, extends_in, extends_out, member_place, place_member, rises_at, rises_of}
 

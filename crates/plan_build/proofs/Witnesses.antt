@@ -17,11 +17,11 @@ use Rattle.bound_query.specs.WeighedQuery.{BoundQuery, Fits}
 use Rattle.bound_query.proofs.Least.{least_iff}
 use Rattle.bound_query.proofs.Witness.{witness_iff}
 use Rattle.node_build.specs.Nodes.{IsBuilt, IsJoinTreeOf, RowsAgree, item_of, parent_of, row_parts}
-use Rattle.witness_key.specs.WitnessKey.{witness_key}
-use Rattle.witness_key.proofs.TreeWitnesses.{links_witness}
-use Rattle.witness_key.proofs.WitnessKeys.{keys_add}
-use Rattle.witness_key.proofs.WitnessRows.{combination_of_each, each_of_combination, length_of_combination}
-use Rattle.witness_key.proofs.WitnessSums.{IsOrderOf, choose}
+use Rattle.node_build.specs.WitnessKey.{witness_key}
+use Rattle.node_build.proofs.TreeWitnesses.{links_witness}
+use Rattle.node_build.proofs.WitnessKeys.{keys_add}
+use Rattle.node_build.proofs.WitnessRows.{combination_of_each, each_of_combination, length_of_combination}
+use Rattle.node_build.proofs.WitnessSums.{IsOrderOf, choose}
 
 -- # The tree
 

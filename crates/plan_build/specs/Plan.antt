@@ -18,9 +18,9 @@ use Rattle.join_tree.specs.declared.tree.JoinTree.{JoinTree}
 use Rattle.bound_query.specs.Shape.{IsShape, Shape}
 use Rattle.bound_query.specs.JoinTreeView.{HasItems}
 use Rattle.node_build.specs.Nodes.{IsJoinTreeOf, RowsAgree, RowsAlike}
-use Rattle.semi_join.specs.ReducedTrees.{ShareGroup}
+use Rattle.plan_build.specs.ReducedTrees.{ShareGroup}
 use Rattle.bound_query.specs.Report.{total_rows}
-use Rattle.witness_key.specs.WitnessKey.{witness_key}
+use Rattle.node_build.specs.WitnessKey.{witness_key}
 
 -- a solved tree, its join tree, the number of rows of each node before the reduction, and the
 -- number of rows of the tables of all items and of the nodes together

@@ -1,6 +1,6 @@
 //! Why a query has no plan.
 
-use step_counter::NoMemory;
+use ground::NoMemory;
 
 /// Why a query has no plan.
 #[derive(Clone, Copy, PartialEq, Eq)]

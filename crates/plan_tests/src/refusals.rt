@@ -6,12 +6,12 @@ ghost use Rattle.tdp_core.specs.WellFormed.{IsTieFreeTree};
 use crate::fixtures::{Files, TWO, has_rows, plan_of};
 use anyk_rec::Rec;
 use bumpalo::Bump;
+use ground::{NoMemory, Steps};
 use plan_build::Plan;
 use rank_key::{Rank, SumRank};
 use std::alloc::Global;
 use std::marker::Brand;
 use std::sync::ledger::{Blank, Ledger};
-use step_counter::{NoMemory, Steps};
 use tdp_core::{Answer, Ranked, Tree};
 
 /// The least number of bytes of a new chunk of an arena.

@@ -12,11 +12,11 @@ use Rattle.anyk_model.specs.Query.{IsWitness, Query}
 use Rattle.anyk_model.specs.Ranking.{ranking_of}
 use Rattle.bound_query.specs.Inside.{IsWithin}
 use Rattle.bound_query.specs.Shape.{HasTree}
-use Rattle.witness_key.specs.WitnessKey.{witness_key}
-use Rattle.witness_key.proofs.Rankings.{keys_of_ranking}
-use Rattle.witness_key.specs.Laws.{item_key}
-use Rattle.witness_key.proofs.TreeWitnesses.{links_iff, nodes_add}
-use Rattle.witness_key.proofs.WitnessRows.{combination_of_each, each_of_combination, length_of_combination}
+use Rattle.node_build.specs.WitnessKey.{witness_key}
+use Rattle.node_build.proofs.Rankings.{keys_of_ranking}
+use Rattle.node_build.specs.Laws.{item_key}
+use Rattle.node_build.proofs.TreeWitnesses.{links_iff, nodes_add}
+use Rattle.node_build.proofs.WitnessRows.{combination_of_each, each_of_combination, length_of_combination}
 use Rattle.proof_model.specs.FirstAnswers.{IsSolutionKey}
 use Rattle.proof_model.specs.Laws.{IsProblem}
 use Rattle.proof_model.specs.Problem.{Problem, IsSolutionAt, key_at, place_in, row_in, size}

@@ -15,8 +15,8 @@ use Rattle.anyk_model.specs.ListOrder.{before_irrefl}
 use Rattle.bound_query.specs.Inside.{IsWithin}
 use Rattle.bound_query.specs.Shape.{HasTree}
 use Rattle.bound_query.specs.Steps.{reaches}
-use Rattle.witness_key.specs.WitnessKey.{witness_key}
-use Rattle.witness_key.proofs.Rankings.{orders_agree, witness_length}
+use Rattle.node_build.specs.WitnessKey.{witness_key}
+use Rattle.node_build.proofs.Rankings.{orders_agree, witness_length}
 use Rattle.proof_model.specs.Certificate.{AnswerLine, Certificate}
 use Rattle.proof_model.specs.Full.{IsFull}
 use Rattle.proof_model.specs.Laws.{IsProblem, IsSubtree, subtree_key}

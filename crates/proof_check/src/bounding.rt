@@ -12,12 +12,12 @@ use crate::bounded::BoundedTree;
 use crate::bounds::with_bounds;
 use crate::node_rows::query_rows;
 use bound_query::Query;
+use ground::Steps;
 use join_tree::JoinTree;
 use proof_model::{Proof, ProofFault};
 use rank_key::Rank;
 use std::alloc::Global;
 use std::sync::ledger::Ledger;
-use step_counter::Steps;
 use table_store::Tables;
 
 /// The rows of a query's nodes with the bounds of a certificate. `TooManyRows` exactly if more than

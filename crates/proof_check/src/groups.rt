@@ -10,13 +10,12 @@ ghost use Rattle.proof_check.specs.BoundedRows.{HasProblemRows};
 ghost use Rattle.proof_check.specs.Faults.{TellsBoundTwice};
 ghost use Rattle.proof_check.specs.Lines.{AreLineGroups, ArePlacedLines, HasPlacedLines, group_link};
 
-use counted_index::HashedIndex;
-use hash_keys::Keys;
+use ground::{Keys, NoMemory, Steps};
+use node_build::HashedIndex;
 use proof_model::{Proof, ProofFault};
 use rank_key::Rank;
 use std::alloc::{AllocError, Global};
 use std::sync::ledger::Ledger;
-use step_counter::{NoMemory, Steps};
 use tdp_core::RawTree;
 
 /// The link by which the group of a row of a node is found: the row's own link, and at the root 0,

@@ -14,11 +14,11 @@ use crate::bounded::BoundedTree;
 use crate::branches::{Branch, bound_count, branch_of};
 use crate::offers::{Offer, first_open, is_past, offers_of};
 use crate::taken::TakenRows;
+use ground::{NoMemory, Steps};
 use join_tree::JoinTree;
 use rank_key::Rank;
 use std::alloc::Global;
 use std::sync::ledger::Ledger;
-use step_counter::{NoMemory, Steps};
 use tdp_core::Groups;
 
 /// Whether each way to leave the answers at a node comes after the last one, or there is none if

@@ -7,11 +7,11 @@ ghost use Rattle.proof_check.specs.Lines.{AreNamed, AreNumbers, row_link};
 use crate::bounded::NodeBounds;
 use crate::groups::group_link;
 use crate::subtree::child_place;
-use counted_index::HashedIndex;
+use ground::Steps;
+use node_build::HashedIndex;
 use rank_key::Rank;
 use std::alloc::{AllocError, Global};
 use std::sync::ledger::Ledger;
-use step_counter::Steps;
 use tdp_core::RawTree;
 
 /// The number of the group with this link, if it is there.

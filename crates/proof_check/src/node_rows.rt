@@ -9,13 +9,13 @@ ghost use Rattle.proof_model.specs.Faults.{TellsFlaw};
 ghost use Rattle.proof_check.specs.BoundedRows.{HasProblemRows};
 
 use bound_query::Query;
+use ground::Steps;
 use join_tree::JoinTree;
 use node_build::{BuildFault, build};
 use proof_model::ProofFault;
 use rank_key::Rank;
 use std::alloc::Global;
 use std::sync::ledger::Ledger;
-use step_counter::Steps;
 use table_store::Tables;
 use tdp_core::RawTree;
 

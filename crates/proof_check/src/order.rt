@@ -11,10 +11,10 @@ ghost use Rattle.proof_check.specs.RowPlaces.{IsLastKey};
 ghost use Rattle.proof_check.specs.Solutions.{AreAnswers, AreOrdered, HasAnswers, TellsBehind};
 
 use crate::places::rank_of_places;
+use ground::Steps;
 use proof_model::{Proof, ProofFault};
 use rank_key::Rank;
 use std::sync::ledger::Ledger;
-use step_counter::Steps;
 use tdp_core::RawTree;
 
 /// The rank of the last answer, if there is one. `Order` exactly if an answer is not after the one

@@ -7,8 +7,8 @@
 mod laws;
 mod writing;
 
+pub use languages::{MAX_BYTES, MAX_ITEMS, MAX_KEYS, ParseFault, parse};
 pub use laws::{scans_are_longest, tokens_are_longest};
-pub use query_grammar::{MAX_BYTES, MAX_ITEMS, MAX_KEYS, ParseFault, parse};
 pub use query_select::{
     Bytes, ColumnRef, Equality, ItemRef, KeyRef, Name, Select, SelectList, Sequence, Side, Term,
     name_text,

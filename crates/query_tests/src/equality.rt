@@ -1,5 +1,5 @@
 //! When two queries are equal.
-use query_grammar::parse;
+use languages::parse;
 use query_select::Select;
 use std::alloc::Global;
 

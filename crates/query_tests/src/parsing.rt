@@ -1,5 +1,5 @@
 //! The faults of texts, and the texts of queries.
-use query_grammar::parse_all;
+use languages::parse_all;
 use query_parse::{ParseFault, Select, SelectList, Side, name_text, parse, text};
 use std::alloc::{AllocError, Global};
 

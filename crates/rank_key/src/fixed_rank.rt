@@ -10,9 +10,9 @@ ghost use Rattle.rank_key.specs.Keys.{NoneAfter, minus};
 
 use crate::rank::Rank;
 use crate::sum::Sum;
+use ground::Steps;
 use std::cmp::Ordering;
 use std::sync::ledger::Ledger;
-use step_counter::Steps;
 
 /// A rank with `N` sums, which are before the slots and are compared first, and with the first `M`
 /// slots. The fewer of both, the less memory it takes.

@@ -4,8 +4,8 @@ ghost use Rattle.rankings.specs.KeyTuple.{KeyOf, key_add, key_none};
 ghost use Rattle.rankings.specs.KeyNumbers.{key_less};
 ghost use Rattle.rank_key.specs.Keys.{KeyFits, CanSwap, IsHeld, IsWithin, row_key};
 
+use ground::Steps;
 use std::sync::ledger::Ledger;
-use step_counter::Steps;
 
 /// The number of row slots of a key.
 pub const SLOTS: usize = 16;

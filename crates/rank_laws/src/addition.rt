@@ -6,10 +6,10 @@ ghost use Rattle.rankings.specs.KeyNumbers.{key_less};
 ghost use Rattle.rank_key.specs.Keys.{KeyFits, CanSwap};
 
 use crate::order::compare;
+use ground::Steps;
 use rank_key::Rank;
 use std::cmp::Ordering;
 use std::sync::ledger::Ledger;
-use step_counter::Steps;
 
 /// A rank joined with `zero`, on either side: the rank again.
 pub fn joined_with_zero<R: Rank, L: Ledger>(rank: R, steps: &mut Steps<L>) -> (R, R)

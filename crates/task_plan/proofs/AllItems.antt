@@ -7,11 +7,11 @@ use Rattle.std.specs.List.{flat_map}
 use Rattle.outer_io.specs.Files.{bytes_of}
 use Rattle.query_select.specs.declared.select.ItemRef.{ItemRef}
 use Rattle.query_select.specs.declared.select.Select.{Select}
-use Rattle.refusal_lines.specs.Reason as reason
-use Rattle.refusal_lines.specs.Reason.{Reason, UnknownTable}
+use Rattle.outer_io.specs.Reason as reason
+use Rattle.outer_io.specs.Reason.{Reason, UnknownTable}
 use Rattle.verdict.specs.Loading.{all_items, unknown_table, unknown_with}
 use Rattle.verdict.specs.StageResults.{Pure}
-use Rattle.session_script.specs.Script.{unless}
+use Rattle.languages.specs.Script.{unless}
 use Rattle.verdict.specs.Stages.{Is}
 use Rattle.task_plan.specs.Entries.{HasUses}
 use Rattle.task_plan.proofs.FirstUses.{few_uses, no_uses}

@@ -1,9 +1,9 @@
 -- The script or the certificate, if there is one.
 use Rattle.std.proofs.Common.{◌≡◌, ℕ, List, [], Some, None, Result, Ok, Err, refl, sym, ap, ◌∙◌, arith}
 use Rattle.outer_io.specs.Files.{Files}
-use Rattle.refusal_lines.specs.Reason as reason
-use Rattle.refusal_lines.specs.Reason.{Reason}
-use Rattle.session_script.specs.Script.{KeepsRules}
+use Rattle.outer_io.specs.Reason as reason
+use Rattle.outer_io.specs.Reason.{Reason}
+use Rattle.languages.specs.Script.{KeepsRules}
 use Rattle.verdict.specs.Loading.{Beside, beside_in, file_in, proof_said, steps_said, with_proof, with_steps}
 use Rattle.verdict.specs.StageResults.{NoTurn, Pure, Shelved, Staged}
 use Rattle.verdict.specs.Stages.{Is, then_by}

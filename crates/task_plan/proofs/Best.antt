@@ -5,10 +5,10 @@ use Rattle.std.specs.Str.{bytes_eq}
 use Rattle.anyk_model.specs.Query.{Item, Query}
 use Rattle.anyk_model.specs.Table.{Table}
 use Rattle.bound_query.specs.WeighedQuery.{BoundQuery}
-use Rattle.refusal_lines.specs.Reason.{BranchShape, Reason, UnionBest}
+use Rattle.outer_io.specs.Reason.{BranchShape, Reason, UnionBest}
 use Rattle.verdict.specs.Loading.{Beside, Loaded, best_in, known_item, loaded_in, odd_branch}
 use Rattle.verdict.specs.StageResults.{Pure}
-use Rattle.session_script.specs.Script.{unless}
+use Rattle.languages.specs.Script.{unless}
 use Rattle.verdict.specs.Stages.{Is, then_by}
 use Rattle.verdict.specs.AcceptedInput.{queries_in}
 use Rattle.task_plan.proofs.AllItems.{pure_as}

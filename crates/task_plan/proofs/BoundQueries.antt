@@ -15,11 +15,11 @@ use Rattle.query_bind.specs.declared.fault.BindFault.TheVariants as bind
 use Rattle.bound_query.specs.WeighedQuery.{BoundQuery, Fits}
 use Rattle.query_select.specs.declared.select.ItemRef.{ItemRef}
 use Rattle.query_select.specs.declared.select.Select.{Select}
-use Rattle.refusal_lines.specs.Reason.{Reason}
+use Rattle.outer_io.specs.Reason.{Reason}
 use Rattle.verdict.specs.Faults.{of_bind}
 use Rattle.verdict.specs.Loading.{all_items, are_several, bound_as, bound_from, bound_in, first_uses, table_numbers, told_branch}
 use Rattle.verdict.specs.StageResults.{Pure}
-use Rattle.session_script.specs.Script.{unless}
+use Rattle.languages.specs.Script.{unless}
 use Rattle.verdict.specs.Stages.{Is, then_by}
 use Rattle.verdict.specs.AcceptedInput.{queries_in}
 use Rattle.task_plan.specs.StageViews.{BindsEach}

@@ -3,15 +3,15 @@ use Rattle.std.proofs.Common.{◌≡◌, [], ℕ, List, Option, Some, None, IfSo
 use Rattle.outer_io.specs.Files.{Files}
 use Rattle.query_select.specs.declared.select.Select.{Select}
 use Rattle.rankings.specs.Order.{IsMember}
-use Rattle.refusal_lines.specs.Reason as reason
-use Rattle.refusal_lines.specs.Reason.{Reason}
+use Rattle.outer_io.specs.Reason as reason
+use Rattle.outer_io.specs.Reason.{Reason}
 use Rattle.task_plan.specs.Turns.{IsTurn as IsLoadTurn}
 use Rattle.verdict.specs.AcceptedInput.{Found}
 use Rattle.verdict.specs.Loading.{all_items, files_read, first_uses, unknown_table}
 use Rattle.verdict.specs.MadeFiles.{known_to}
 use Rattle.verdict.specs.Outcome.{GotNothing, IsCaused, IsCut, IsReason, IsTurn, IsTurnOf, Outside, aside_turn, query_turn, table_turn}
 use Rattle.verdict.specs.StageResults.{Fits, Pure, Shelved, Staged, first_turn, second_turn}
-use Rattle.session_script.specs.Script.{unless}
+use Rattle.languages.specs.Script.{unless}
 use Rattle.verdict.specs.Verdict.{IsVerdict}
 use Rattle.verdict.specs.Words.{Asked, Command, Sought, built, run, plan, session, load, prove, verify, sought_by}
 use Rattle.verdict.proofs.Printed.{Accepts}

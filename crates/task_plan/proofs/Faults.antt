@@ -2,9 +2,9 @@
 use Rattle.std.proofs.Common.{◌≡◌, inl, inr, ℕ, List, Option, Some, None, option_map, Err, ap, refl, sym, ◌≤◌, ◌∷◌, ◌++◌, [], true, false, Ok, arith, subst, length, map, ◌∙◌}
 use Rattle.std.proofs.lemmas.List.{length-append, length-map}
 use Rattle.std.specs.List.{AllByRecursion}
-use Rattle.query_grammar.specs.declared.fault.ParseFault.{ParseFault}
-use Rattle.query_grammar.specs.declared.fault.ParseFault.TheVariants as parse
-use Rattle.query_grammar.specs.Parse.{IsParsed, IsParsedAll, Parses, ParsesAll, items_in}
+use Rattle.languages.specs.declared.fault.ParseFault.{ParseFault}
+use Rattle.languages.specs.declared.fault.ParseFault.TheVariants as parse
+use Rattle.languages.specs.Parse.{IsParsed, IsParsedAll, Parses, ParsesAll, items_in}
 use Rattle.query_bind.specs.declared.fault.BindFault.{BindFault}
 use Rattle.query_bind.specs.declared.fault.BindFault.TheVariants as bind
 use Rattle.query_bind.specs.Answers.{Tells}
@@ -13,17 +13,17 @@ use Rattle.csv_tables.specs.Faults.{fault_of}
 use Rattle.csv_tables.specs.Faults as tables
 use Rattle.anyk_model.specs.Query.{Query}
 use Rattle.anyk_model.specs.Table.{Flaw, Table, flaw_of, records_of, table_of, no_header, too_many_columns, duplicate_name, too_many_rows, ragged}
-use Rattle.session_script.specs.declared.fault.ScriptFault.{ScriptFault}
-use Rattle.session_script.specs.declared.fault.ScriptFault.TheVariants as script
-use Rattle.session_script.specs.declared.step.Step.{Step}
+use Rattle.languages.specs.declared.script_fault.ScriptFault.{ScriptFault}
+use Rattle.languages.specs.declared.script_fault.ScriptFault.TheVariants as script
+use Rattle.languages.specs.declared.step.Step.{Step}
 use Rattle.proof_model.specs.declared.fault.ProofFault.{ProofFault}
 use Rattle.proof_model.specs.declared.fault.ProofFault.TheVariants as proof
 use Rattle.proof_model.specs.Certificate.{Certificate}
 use Rattle.proof_model.specs.Reading.{Fails as FailsToRead, proof_of}
-use Rattle.session_script.specs.Script.{Fails, steps_of}
+use Rattle.languages.specs.Script.{Fails, steps_of}
 use Rattle.verdict.specs.Faults.{of_bind, of_flaw, of_parse, of_proof, of_script}
 use Rattle.verdict.specs.Loading.{IsParse, IsParseAll, IsReading, all_items, branches_of, proof_said, sound_table, steps_said, told_proof, told_steps}
-use Rattle.session_script.specs.Script.{unless}
+use Rattle.languages.specs.Script.{unless}
 use Rattle.verdict.specs.Stages.{Is, followed}
 use Rattle.verdict.proofs.Staging.{pure_refused}
 use Rattle.verdict.specs.StageResults.{Pure}
@@ -31,8 +31,8 @@ use Rattle.task_plan.specs.Entries.{table_after}
 use Rattle.task_plan.specs.Limits.{AreWithinLimits, IsWithinLimits}
 use Rattle.task_plan.specs.StageViews.{table_reason}
 use Rattle.task_plan.proofs.AllItems.{all_items_cons}
-use Rattle.query_grammar.specs.Grammar.{IsBranch, IsItems, IsQuery, branch, items, query}
-use Rattle.query_grammar.specs.Reading.{Clauses}
+use Rattle.languages.specs.Grammar.{IsBranch, IsItems, IsQuery, branch, items, query}
+use Rattle.languages.specs.Reading.{Clauses}
 use Rattle.query_select.specs.Lexeme.{Lexeme}
 use Rattle.query_select.specs.declared.select.Equality.{Equality}
 use Rattle.query_select.specs.declared.select.ItemRef.{ItemRef}

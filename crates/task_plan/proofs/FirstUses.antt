@@ -10,7 +10,7 @@ use Rattle.cmd_words.specs.declared.pairs.Named.{Named}
 use Rattle.cmd_words.specs.NamedPairs.{named_pair}
 use Rattle.outer_io.specs.Files.{bytes_of}
 use Rattle.query_select.specs.declared.select.ItemRef.{ItemRef}
-use Rattle.refusal_lines.specs.Reason.{UnknownTable}
+use Rattle.outer_io.specs.Reason.{UnknownTable}
 use Rattle.verdict.specs.Loading.{first_uses, first_uses_after, table_names, table_numbers, unknown_table, unknown_with}
 use Rattle.task_plan.specs.Entries.{HasUses, IsEntryOf, tables_of, with_entry}
 

@@ -1,7 +1,7 @@
 -- An error that `?` hands on.
 use Rattle.std.proofs.Common.{◌≡◌, Result, Ok, Err, ap}
 use Rattle.std.specs.Prelude.{IsErrAnd}
-use Rattle.refusal_lines.specs.Reason.{Reason}
+use Rattle.outer_io.specs.Reason.{Reason}
 use Rattle.verdict.specs.StageResults.{Pure}
 use Rattle.task_plan.specs.StageViews.{used_as}
 use Rattle.task_plan.specs.declared.uses.UsesFault.{UsesFault}

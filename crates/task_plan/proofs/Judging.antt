@@ -12,7 +12,7 @@ use Rattle.anyk_model.specs.TaggedRows.{branch_at}
 use Rattle.task_plan.specs.Input.{InputView, loaded_of}
 use Rattle.task_plan.specs.Turns.{IsTurn}
 use Rattle.plan_build.specs.Plans.{ArePrepared, preparation_of}
-use Rattle.refusal_lines.specs.Reason.{Reason}
+use Rattle.outer_io.specs.Reason.{Reason}
 use Rattle.bound_query.specs.RunBounds.{IsPrepared}
 use Rattle.verdict.specs.AcceptedInput.{Found, found_of, queries_in}
 use Rattle.verdict.specs.Loading.{Loaded}

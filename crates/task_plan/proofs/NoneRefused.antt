@@ -4,28 +4,28 @@ use Rattle.std.specs.List.{AllByRecursion, list_any}
 use Rattle.std.specs.Str.{bytes_eq}
 use Rattle.anyk_model.specs.Query.{Query}
 use Rattle.anyk_model.specs.Table.{Flaw, Table, flaw_of, no_header, too_many_columns, duplicate_name, too_many_rows, ragged, records_of}
-use Rattle.make_input.specs.Input.{query_file, table_files}
+use Rattle.outer_io.specs.Input.{query_file, table_files}
 use Rattle.outer_io.specs.Counts.{Rose}
 use Rattle.outer_io.specs.Files.{Files, bytes_of}
 use Rattle.query_bind.specs.Bind.{bind_fault}
 use Rattle.query_bind.specs.Binding.{bound_query}
 use Rattle.query_bind.specs.declared.fault.BindFault.{BindFault}
 use Rattle.query_bind.specs.declared.fault.BindFault.TheVariants as bind
-use Rattle.query_grammar.specs.declared.fault.ParseFault.{ParseFault}
-use Rattle.query_grammar.specs.declared.fault.ParseFault.TheVariants as parse
+use Rattle.languages.specs.declared.fault.ParseFault.{ParseFault}
+use Rattle.languages.specs.declared.fault.ParseFault.TheVariants as parse
 use Rattle.query_select.specs.declared.select.ItemRef.{ItemRef}
 use Rattle.query_select.specs.declared.select.Select.{Select}
-use Rattle.refusal_lines.specs.Reason as reason
-use Rattle.refusal_lines.specs.Reason.{Reason}
+use Rattle.outer_io.specs.Reason as reason
+use Rattle.outer_io.specs.Reason.{Reason}
 use Rattle.verdict.specs.Faults.{of_bind, of_flaw, of_parse}
 use Rattle.verdict.specs.Loading.{Beside, IsParse, IsReading, Loaded, all_items, are_several, bound_as, bound_from, bound_in, file_in, file_with, first_uses, first_uses_after, known_file, loaded_in, most_bytes, odd_branch, sound_table, beside_in, with_steps, table_in, table_names, table_numbers, tables_in, told_branch, unknown_table, unknown_with}
 use Rattle.verdict.specs.MadeFiles.{made_files}
 use Rattle.verdict.specs.StageResults.{Causes, Fits, Pure, Shelved}
-use Rattle.session_script.specs.Script.{unless}
+use Rattle.languages.specs.Script.{unless}
 use Rattle.verdict.specs.Stages.{Is, Then, followed, refused, then_by}
 use Rattle.verdict.specs.Verdict.{IsAccompanied, IsBound, IsLoadedOn, IsRead, IsSelected, IsTabled}
 use Rattle.verdict.specs.Words.{Named, Sought, load, nothing, sought_by}
-use Rattle.make_input.proofs.Short.{files_short}
+use Rattle.outer_io.proofs.Short.{files_short}
 use Rattle.task_plan.proofs.Files.{short_bytes}
 use Rattle.task_plan.proofs.Shapes.{odd_told}
 

@@ -12,7 +12,7 @@ use Rattle.std.proofs.lemmas.Slice.Zip.{AllZip-long, all_zipped_more}
 use Rattle.std.proofs.Math.Seq.{take-length}
 use Rattle.anyk_model.specs.Query.{Query}
 use Rattle.anyk_model.specs.Table.{Table}
-use Rattle.hyper_graph.specs.Items.{items_of}
+use Rattle.join_tree.specs.Items.{items_of}
 use Rattle.plan_build.specs.Plan.{IsPlanOf, PlanView, shape_of}
 use Rattle.plan_build.specs.Faults.{TellsFlaw}
 use Rattle.plan_build.specs.RankedPlan.{IsRankedPlan, fixed_key, key_of_packed}
@@ -27,8 +27,8 @@ use Rattle.node_build.specs.Nodes.{CapsBelow}
 use Rattle.node_build.proofs.Shaped.{caps_small}
 use Rattle.bound_query.specs.WeighedQuery.{BoundQuery, Fits}
 use Rattle.bound_query.specs.Shape.{Flaw, IsShape, Shape, cyclic, too_many_rows}
-use Rattle.refusal_lines.specs.Reason.{Reason}
-use Rattle.session_script.specs.declared.step.Step.{Step}
+use Rattle.outer_io.specs.Reason.{Reason}
+use Rattle.languages.specs.declared.step.Step.{Step}
 use Rattle.bound_query.specs.RunBounds.{IsPrepared}
 use Rattle.rankings.specs.KeyTuple.{KeyOf}
 use Rattle.anyk_model.specs.TaggedRows.{HaveKeys}

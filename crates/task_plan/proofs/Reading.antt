@@ -5,8 +5,8 @@ use Rattle.outer_io.specs.Files.{Files}
 use Rattle.anyk_model.specs.Table.{Table}
 use Rattle.rankings.specs.Order.{IsMember}
 use Rattle.std.specs.Result.{result_and}
-use Rattle.refusal_lines.specs.declared.refusal.Refusal.{Refusal}
-use Rattle.refusal_lines.specs.Reason.{Reason}
+use Rattle.outer_io.specs.declared.refusal.Refusal.{Refusal}
+use Rattle.outer_io.specs.Reason.{Reason}
 use Rattle.verdict.specs.Loading.{file_in, files_read, go_on, known_file, sound_table, table_in, tables_in}
 use Rattle.verdict.specs.StageResults.{Fits, Pure, Shelved, Staged, NoTurn}
 use Rattle.verdict.specs.Stages.{Is, then_by}

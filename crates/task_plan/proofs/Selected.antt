@@ -5,8 +5,8 @@ use Rattle.outer_io.specs.Files.{Files}
 use Rattle.anyk_model.specs.Table.{Table}
 use Rattle.query_select.specs.declared.select.Select.{Select}
 use Rattle.rankings.specs.Order.{IsMember}
-use Rattle.refusal_lines.specs.Reason.{Reason}
-use Rattle.session_script.specs.Script.{unless}
+use Rattle.outer_io.specs.Reason.{Reason}
+use Rattle.languages.specs.Script.{unless}
 use Rattle.verdict.specs.Loading.{Beside, Loaded, all_items, beside_in, files_read, first_uses, tables_in, unknown_table}
 use Rattle.verdict.specs.StageResults.{NoTurn, Pure, Shelved, Staged}
 use Rattle.verdict.specs.Stages.{Is}

@@ -3,7 +3,7 @@ use Rattle.std.proofs.Common.{◌≡◌, ◌+◌, ◌<◌, ◌≤◌, ◌∷◌,
 use Rattle.std.proofs.lemmas.List.{drop_all, drop_more}
 use Rattle.std.proofs.lemmas.Bool.{and_parts}
 use Rattle.anyk_model.specs.Query.{OrderKey, Query}
-use Rattle.refusal_lines.specs.Reason.{BranchShape, Reason}
+use Rattle.outer_io.specs.Reason.{BranchShape, Reason}
 use Rattle.anyk_model.specs.TaggedRows.{HaveKeys}
 use Rattle.verdict.specs.Loading.{have_directions, have_one_shape, odd_branch, odd_from}
 

@@ -5,7 +5,7 @@ use Rattle.std.specs.Str.{bytes_eq}
 use Rattle.outer_io.specs.Files.{Files, bytes_of}
 use Rattle.anyk_model.specs.Table.{Table}
 use Rattle.query_select.specs.declared.select.ItemRef.{ItemRef}
-use Rattle.refusal_lines.specs.Reason.{Reason}
+use Rattle.outer_io.specs.Reason.{Reason}
 use Rattle.verdict.specs.Loading.{first_uses, table_in, table_numbers}
 use Rattle.verdict.specs.Stages.{Is}
 

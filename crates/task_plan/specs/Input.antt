@@ -4,8 +4,8 @@ use Rattle.std.specs.List.{All, AllByRecursion}
 use Rattle.anyk_model.specs.Table.{Table}
 use Rattle.bound_query.specs.WeighedQuery.{BoundQuery, Fits}
 use Rattle.proof_model.specs.Certificate.{Certificate}
-use Rattle.session_script.specs.declared.step.Step.{Step}
-use Rattle.session_script.specs.Script.{KeepsRules}
+use Rattle.languages.specs.declared.step.Step.{Step}
+use Rattle.languages.specs.Script.{KeepsRules}
 use Rattle.anyk_model.specs.TaggedRows.{HaveKeys}
 use Rattle.verdict.specs.AcceptedInput.{queries_in}
 use Rattle.verdict.specs.Loading.{Loaded}

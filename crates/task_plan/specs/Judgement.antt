@@ -2,7 +2,7 @@
 use Rattle.std.specs.Prelude.{◌≡◌, ℕ, Bool, List, [], None, Option, Result, length}
 use Rattle.task_plan.specs.Input.{InputView}
 use Rattle.task_plan.specs.Turns.{IsTurn}
-use Rattle.refusal_lines.specs.Reason.{Reason}
+use Rattle.outer_io.specs.Reason.{Reason}
 use Rattle.verdict.specs.AcceptedInput.{Found}
 use Rattle.verdict.specs.Loading.{Loaded}
 use Rattle.verdict.specs.MadeFiles.{made_files}

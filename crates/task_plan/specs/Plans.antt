@@ -3,7 +3,7 @@ use Rattle.std.specs.Prelude.{◌≡◌, ◌<◌, ℕ, List, [], ◌∷◌, leng
 use Rattle.std.specs.Prelude.{Option, IfSome, Result, Ok, Err, Vec}
 use Rattle.std.specs.Global.{Global}
 use Rattle.anyk_model.specs.Table.{Table}
-use Rattle.hyper_graph.specs.Items.{items_of}
+use Rattle.join_tree.specs.Items.{items_of}
 use Rattle.outer_io.specs.Files.{Files}
 use Rattle.plan_build.specs.Plan.{IsPlanOf, PlanView, shape_of}
 use Rattle.plan_build.specs.Plans.{ArePrepared, HavePlans}
@@ -15,12 +15,12 @@ use Rattle.plan_build.specs.declared.ranked_plan.RankedPlan.TheVariants.{Lex, Mi
 use Rattle.bound_query.specs.WeighedQuery.{BoundQuery}
 use Rattle.bound_query.specs.Shape.{Shape}
 use Rattle.proof_model.specs.Certificate.{Certificate}
-use Rattle.session_script.specs.declared.step.Step.{Step}
+use Rattle.languages.specs.declared.step.Step.{Step}
 use Rattle.rankings.specs.KeyTuple.{KeyOf}
-use Rattle.refusal_lines.specs.declared.refusal.Refusal.{Refusal}
-use Rattle.refusal_lines.specs.Reason as reason
-use Rattle.refusal_lines.specs.Reason.{Reason}
-use Rattle.refusal_lines.specs.RefusalReasons.{reason_of}
+use Rattle.outer_io.specs.declared.refusal.Refusal.{Refusal}
+use Rattle.outer_io.specs.Reason as reason
+use Rattle.outer_io.specs.Reason.{Reason}
+use Rattle.outer_io.specs.RefusalReasons.{reason_of}
 use Rattle.bound_query.specs.RunBounds.{IsPrepared}
 use Rattle.task_plan.specs.Input.{InputView, loaded_of}
 use Rattle.verdict.specs.AcceptedInput.{Found, found_of, query_of}

@@ -4,7 +4,7 @@ use Rattle.cmd_words.specs.NamedPairs.{named_pair}
 use Rattle.task_plan.specs.declared.sought.Aside.{Aside as AsideText}
 use Rattle.task_plan.specs.declared.sought.Aside.TheVariants.{Nothing, Script, Certificate}
 use Rattle.task_plan.specs.declared.sought.Sought.{Sought as SoughtText}
-use Rattle.refusal_lines.specs.Reason.{Reason}
+use Rattle.outer_io.specs.Reason.{Reason}
 use Rattle.verdict.specs.Loading.{Beside, proof_said, steps_said, with_proof, with_steps}
 use Rattle.verdict.specs.Stages.{then_by}
 use Rattle.verdict.specs.Words.{Aside, Sought, nothing, script, certificate}

@@ -11,12 +11,12 @@ use Rattle.anyk_model.specs.Query.{Query}
 use Rattle.proof_model.specs.ProofView.{proof_view}
 use Rattle.bound_query.specs.WeighedQuery.{BoundQuery, Fits}
 use Rattle.query_bind.specs.declared.fault.BindFault.{BindFault}
-use Rattle.query_grammar.specs.declared.fault.ParseFault.{ParseFault}
+use Rattle.languages.specs.declared.fault.ParseFault.{ParseFault}
 use Rattle.query_select.specs.declared.select.Select.{Select}
-use Rattle.refusal_lines.specs.declared.refusal.Refusal.{Refusal}
-use Rattle.refusal_lines.specs.Reason as reason
-use Rattle.refusal_lines.specs.Reason.{Reason}
-use Rattle.refusal_lines.specs.RefusalReasons.{reason_of}
+use Rattle.outer_io.specs.declared.refusal.Refusal.{Refusal}
+use Rattle.outer_io.specs.Reason as reason
+use Rattle.outer_io.specs.Reason.{Reason}
+use Rattle.outer_io.specs.RefusalReasons.{reason_of}
 use Rattle.verdict.specs.AcceptedInput.{queries_in}
 use Rattle.verdict.specs.Faults.{of_bind, of_parse}
 use Rattle.verdict.specs.Loading.{Beside, Loaded, are_several, bound_in, told_branch}

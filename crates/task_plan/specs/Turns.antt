@@ -5,7 +5,7 @@ use Rattle.query_select.specs.declared.select.Select.{Select}
 use Rattle.rankings.specs.Order.{IsMember}
 use Rattle.verdict.specs.Loading.{IsReading, all_items, beside_in, file_in, files_read, first_uses, tables_in, unknown_table}
 use Rattle.verdict.specs.StageResults.{EitherTurn, NoTurn}
-use Rattle.session_script.specs.Script.{unless}
+use Rattle.languages.specs.Script.{unless}
 use Rattle.verdict.specs.Stages.{Is}
 use Rattle.verdict.specs.Words.{Sought, aside_name}
 

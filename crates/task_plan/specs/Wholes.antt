@@ -1,11 +1,11 @@
 -- Queries that are bound to their tables, and the input that they are with what is read beside them.
 use Rattle.std.specs.Prelude.{List, [], Result, Ok, Err}
 use Rattle.proof_model.specs.Certificate.{Certificate}
-use Rattle.refusal_lines.specs.declared.refusal.Refusal.{Refusal}
-use Rattle.refusal_lines.specs.Reason.{Reason}
-use Rattle.refusal_lines.specs.RefusalReasons.{reason_of}
-use Rattle.session_script.specs.declared.step.Step.{Step}
-use Rattle.session_script.specs.Script.{KeepsRules}
+use Rattle.outer_io.specs.declared.refusal.Refusal.{Refusal}
+use Rattle.outer_io.specs.Reason.{Reason}
+use Rattle.outer_io.specs.RefusalReasons.{reason_of}
+use Rattle.languages.specs.declared.step.Step.{Step}
+use Rattle.languages.specs.Script.{KeepsRules}
 use Rattle.verdict.specs.Loading.{Beside, Loaded}
 use Rattle.task_plan.specs.declared.binding.Bound.{Bound}
 use Rattle.task_plan.specs.Input.{InputView, IsSound, loaded_of}

@@ -1,8 +1,8 @@
 //! The script or the certificate, if there is one.
 ghost use Rattle.std.specs.Prelude.{◌≡◌, [], IfOk, Some, option_map};
-ghost use Rattle.refusal_lines.specs.RefusalReasons.{reason_of};
+ghost use Rattle.outer_io.specs.RefusalReasons.{reason_of};
 ghost use Rattle.proof_model.specs.ProofView.{proof_view};
-ghost use Rattle.session_script.specs.Script.{KeepsRules};
+ghost use Rattle.languages.specs.Script.{KeepsRules};
 ghost use Rattle.verdict.specs.Faults.{of_proof, of_script};
 ghost use Rattle.verdict.specs.Loading.{beside_in, no_certificate};
 ghost use Rattle.verdict.specs.Stages.{Is};
@@ -13,10 +13,9 @@ ghost use Rattle.task_plan.specs.Sought.{aside_view, beside_said};
 
 use crate::file::load;
 use crate::sought::Aside;
-use outer_io::Shelf;
+use languages::{ScriptFault, Step, read_script};
+use outer_io::{Refusal, Shelf};
 use proof_model::{Proof, ProofFault, read_proof};
-use refusal_lines::Refusal;
-use session_script::{ScriptFault, Step, read_script};
 use std::alloc::Global;
 
 /// What is read beside the query and the tables.

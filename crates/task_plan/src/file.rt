@@ -3,11 +3,10 @@ ghost use Rattle.std.specs.Prelude.{◌≡◌, ◌≤◌, IfOk, length};
 ghost use Rattle.verdict.specs.Loading.{file_in};
 ghost use Rattle.verdict.specs.Stages.{Is};
 ghost use Rattle.verdict.specs.StageResults.{Staged, shelved};
-ghost use Rattle.refusal_lines.specs.RefusalReasons.{reason_of};
+ghost use Rattle.outer_io.specs.RefusalReasons.{reason_of};
 ghost use Rattle.task_plan.specs.StageViews.{file_reason, bytes_result_view};
 
-use outer_io::{FileFault, Shelf, read_file};
-use refusal_lines::Refusal;
+use outer_io::{FileFault, Refusal, Shelf, read_file};
 use std::alloc::Global;
 
 /// The bytes of the file with this name. `NoFile` if there is none, `ReadFault` if a read failed,

@@ -1,11 +1,11 @@
 //! The tables that are made from a number.
 ghost use Rattle.std.specs.Prelude.{◌≡◌, ◌∷◌, ◌++◌, ◌^◌, ◌<◌, ◌≤◌, [], IfOk, OnOk, map};
 ghost use Rattle.cmd_words.specs.NamedPairs.{named_pair};
-ghost use Rattle.make_input.specs.Input.{table_files};
+ghost use Rattle.outer_io.specs.Input.{table_files};
 
 use cmd_words::Named;
+use ground::NoMemory;
 use std::alloc::Global;
-use step_counter::NoMemory;
 
 /// Four tables that are made from a number, with the name of each table and of its file.
 #[derive(Drop)]

@@ -16,10 +16,9 @@ use crate::query::{parse_refusal, read_selects};
 use crate::sought::Sought;
 use crate::tables::read_tables;
 use crate::uses::uses_of;
-use hash_keys::Keys;
-use outer_io::Shelf;
+use ground::Keys;
+use outer_io::{Refusal, Shelf};
 use query_select::select::Select;
-use refusal_lines::Refusal;
 use std::alloc::Global;
 
 /// The input that is in the query file, in the file of the script or of the certificate, if there

@@ -15,9 +15,8 @@ use crate::made::load_made;
 use crate::sought::{Aside, Sought};
 use crate::task::Task;
 use cmd_words::Words;
-use hash_keys::Keys;
-use outer_io::Shelf;
-use refusal_lines::Refusal;
+use ground::Keys;
+use outer_io::{Refusal, Shelf};
 use std::alloc::Global;
 
 /// The input of the command, or its first refusal. It is read from the files of the shelf that the

@@ -11,12 +11,9 @@ use crate::binding::Input;
 use crate::generated::MadeTables;
 use crate::input::load_input;
 use crate::sought::{Aside, Sought};
-use hash_keys::Keys;
-use make_input::{query_of, tables_of};
-use outer_io::{MemFile, PureShelf};
-use refusal_lines::Refusal;
+use ground::{Keys, NoMemory};
+use outer_io::{MemFile, PureShelf, Refusal, query_of, tables_of};
 use std::alloc::Global;
-use step_counter::NoMemory;
 
 /// The input of the query over the tables that are made, or its first refusal. No file is read. The
 /// tables are the program's own, so that they are hashed with known keys.

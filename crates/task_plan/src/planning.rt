@@ -5,7 +5,7 @@ ghost use Rattle.task_plan.specs.Input.{loaded_of};
 ghost use Rattle.node_build.specs.Nodes.{CapsBelow};
 ghost use Rattle.plan_build.specs.Plans.{ArePrepared, HavePlans};
 ghost use Rattle.bound_query.specs.WeighedQuery.{Fits};
-ghost use Rattle.refusal_lines.specs.RefusalReasons.{reason_of};
+ghost use Rattle.outer_io.specs.RefusalReasons.{reason_of};
 ghost use Rattle.bound_query.specs.RunBounds.{IsPrepared};
 ghost use Rattle.verdict.specs.AcceptedInput.{queries_in};
 ghost use Rattle.verdict.specs.MadeFiles.{known_to};
@@ -21,14 +21,12 @@ use crate::binding::Input;
 use crate::looking::look_at;
 use crate::task::Task;
 use bound_query::Query;
-use hash_keys::Keys;
-use outer_io::Shelf;
+use ground::{Keys, Steps};
+use outer_io::{Refusal, Shelf};
 use plan_build::{Plan, PlanFault, RankedPlan, prepare, prepare_ranked};
 use rank_key::{LexRank, Rank, SumRank};
-use refusal_lines::Refusal;
 use std::alloc::{AllocError, AllocFailed, Global};
 use std::sync::ledger::Ledger;
-use step_counter::Steps;
 use table_store::Tables;
 
 /// An accepted input, with the plans of its queries.

@@ -1,16 +1,16 @@
 //! The query of the query file, or its branches.
 ghost use Rattle.std.specs.Prelude.{◌≡◌, false, IfOk, length, map};
-ghost use Rattle.refusal_lines.specs.RefusalReasons.{reason_of};
+ghost use Rattle.outer_io.specs.RefusalReasons.{reason_of};
 ghost use Rattle.verdict.specs.Faults.{of_parse};
 ghost use Rattle.verdict.specs.Loading.{IsReading, branches_of};
 ghost use Rattle.verdict.specs.StageResults.{Pure};
 ghost use Rattle.task_plan.specs.Limits.{AreWithinLimits, limited};
 ghost use Rattle.task_plan.specs.StageViews.{selects_result_view};
 
-use query_grammar::fault::ParseFault;
-use query_grammar::{parse, parse_all};
+use languages::fault::ParseFault;
+use languages::{parse, parse_all};
+use outer_io::Refusal;
 use query_select::select::{Select, SelectAll};
-use refusal_lines::Refusal;
 use std::alloc::Global;
 
 /// The query that these bytes write, or its branches if it may have several.

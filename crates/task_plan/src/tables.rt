@@ -4,7 +4,7 @@ ghost use Rattle.std.specs.List.{AllByRecursion};
 ghost use Rattle.std.specs.String.{string_bytes};
 ghost use Rattle.cmd_words.specs.NamedPairs.{named_pair};
 ghost use Rattle.rankings.specs.Order.{IsMember};
-ghost use Rattle.refusal_lines.specs.RefusalReasons.{reason_of};
+ghost use Rattle.outer_io.specs.RefusalReasons.{reason_of};
 ghost use Rattle.verdict.specs.Loading.{files_read, tables_in};
 ghost use Rattle.verdict.specs.Stages.{Is};
 ghost use Rattle.verdict.specs.StageResults.{Staged, shelved};
@@ -14,9 +14,8 @@ ghost use Rattle.task_plan.specs.StageViews.{said_as, tables_result_view, table_
 use crate::file::load;
 use cmd_words::Named;
 use csv_tables::{TableFault, TableReader};
-use hash_keys::Keys;
-use outer_io::Shelf;
-use refusal_lines::Refusal;
+use ground::Keys;
+use outer_io::{Refusal, Shelf};
 use std::alloc::Global;
 use table_store::Tables;
 

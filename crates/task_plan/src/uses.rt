@@ -5,19 +5,19 @@ ghost use Rattle.std.specs.Str.{bytes_eq};
 ghost use Rattle.std.specs.String.{string_bytes};
 ghost use Rattle.query_select.specs.declared.select.ItemRef.{ItemRef as Item};
 ghost use Rattle.cmd_words.specs.NamedPairs.{named_pair};
-ghost use Rattle.refusal_lines.specs.RefusalReasons.{reason_of};
+ghost use Rattle.outer_io.specs.RefusalReasons.{reason_of};
 ghost use Rattle.verdict.specs.Loading.{all_items, unknown_table};
-ghost use Rattle.session_script.specs.Script.{unless};
+ghost use Rattle.languages.specs.Script.{unless};
 ghost use Rattle.verdict.specs.Stages.{Is};
 ghost use Rattle.verdict.specs.StageResults.{Pure};
 ghost use Rattle.task_plan.specs.Entries.{HasUses, with_entry};
 ghost use Rattle.task_plan.specs.StageViews.{said_as, used_as, uses_reason};
 
 use cmd_words::Named;
+use ground::NoMemory;
+use outer_io::Refusal;
 use query_select::select::{ItemRef, Select};
-use refusal_lines::Refusal;
 use std::alloc::{AllocFailed, Global};
-use step_counter::NoMemory;
 
 /// The tables that items use.
 #[derive(Drop)]

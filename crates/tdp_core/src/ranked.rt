@@ -3,9 +3,9 @@ ghost use Rattle.std.specs.Prelude.{◌≡◌, ℕ, ◌+◌, ◌≤◌, List, []
 ghost use Rattle.rankings.specs.KeyNumbers.{numbers};
 ghost use Rattle.tdp_core.specs.AnswerView.{AnswerView, counted};
 
+use ground::{NoMemory, Steps};
 use rank_key::Rank;
 use std::sync::ledger::Ledger;
-use step_counter::{NoMemory, Steps};
 
 /// One answer: the row numbers of a solution, by item, and its rank.
 #[derive(Clone, Copy)]

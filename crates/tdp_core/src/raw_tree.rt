@@ -5,11 +5,10 @@ ghost use Rattle.tdp_core.specs.RawView.{AreShapes, AreShapesHeld, IsRawFormed, 
 
 use crate::parts::{NodeRow, NodeShape};
 use crate::raw_rows::RawRows;
-use hash_keys::Keys;
+use ground::{Keys, NoMemory};
 use rank_key::Rank;
 use std::alloc::Global;
 use std::marker::Model;
-use step_counter::NoMemory;
 
 /// A tree whose rows are not in groups yet: links say which rows belong together. Contracts see its
 /// shapes and the rows of each node. Nodes and rows count from 0.

@@ -1,6 +1,5 @@
 //! The lines of refusals, as text.
-use outer_io::{MemSink, Unwritten};
-use refusal_lines::{Refusal, write_line};
+use outer_io::{MemSink, Refusal, Unwritten, write_line};
 use std::alloc::{AllocError, Global};
 
 /// A refusal with its status and its line.

@@ -1,5 +1,6 @@
 //! Tables: worked files, and that each call succeeds with ample memory, which no clause says.
-use csv_tables::{RecordWriter, TableFault, TableReader};
+use command_output::RecordWriter;
+use csv_tables::{TableFault, TableReader};
 use std::alloc::Global;
 use table_store::Tables;
 

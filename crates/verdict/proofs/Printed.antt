@@ -2,11 +2,11 @@
 use Rattle.std.proofs.Common.{ℕ, List, Option, Some, None, IfSome, Result, Ok, Err, OnOk, IfErr, inl, inr}
 use Rattle.std.specs.Io.KnownBytes.{Appends}
 use Rattle.outer_io.specs.Files.{Files}
-use Rattle.refusal_lines.specs.declared.fault.PrintFault.{PrintFault}
-use Rattle.refusal_lines.specs.declared.fault.PrintFault.TheVariants as fault
-use Rattle.refusal_lines.specs.Printing.{GotBeginning, IsBroken, IsPrintCause, refusal_of, refused}
-use Rattle.refusal_lines.specs.RefusalReasons.{reason_of}
-use Rattle.refusal_lines.specs.SinkState.{SinkState}
+use Rattle.outer_io.specs.declared.fault.PrintFault.{PrintFault}
+use Rattle.outer_io.specs.declared.fault.PrintFault.TheVariants as fault
+use Rattle.outer_io.specs.Printing.{GotBeginning, IsBroken, IsPrintCause, refusal_of, refused}
+use Rattle.outer_io.specs.RefusalReasons.{reason_of}
+use Rattle.outer_io.specs.SinkState.{SinkState}
 use Rattle.verdict.specs.AcceptedInput.{Found}
 use Rattle.verdict.specs.Outcome.{GotAccepted, IsCaused, IsComplete, IsCut, IsReason, Outside}
 use Rattle.verdict.specs.Output.{HasOutput}

@@ -7,13 +7,13 @@ use Rattle.outer_io.specs.Counts.{Rose, RoseAbove}
 use Rattle.outer_io.specs.Files.{Files}
 use Rattle.query_select.specs.declared.select.Select.{Select}
 use Rattle.rankings.specs.Order.{IsMember}
-use Rattle.refusal_lines.specs.Reason as reason
-use Rattle.refusal_lines.specs.Reason.{Reason, status_of, line_of}
+use Rattle.outer_io.specs.Reason as reason
+use Rattle.outer_io.specs.Reason.{Reason, status_of, line_of}
 use Rattle.verdict.specs.Words.{Command, Asked, Sought, no_command, built, run, plan, session, load, prove, verify, aside_name, sought_by}
 use Rattle.verdict.specs.AcceptedInput.{Found}
 use Rattle.verdict.specs.Loading.{Beside, IsReading, all_items, most_bytes, beside_in, file_in, unknown_table, first_uses, files_read}
 use Rattle.verdict.specs.Output.{HasOutput}
-use Rattle.refusal_lines.specs.SinkText.{GotPrefix}
+use Rattle.outer_io.specs.SinkText.{GotPrefix}
 use Rattle.verdict.specs.Verdict.{IsVerdict}
 
 -- the outside, at the call or at its end

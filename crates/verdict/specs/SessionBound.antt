@@ -3,7 +3,7 @@ use Rattle.std.specs.Prelude.{◌+◌, ◌*◌, ◌≤◌, ℕ, List, Ok}
 use Rattle.anyk_model.specs.Table.{Table}
 use Rattle.anyk_model.specs.Query.{Query}
 use Rattle.bound_query.specs.Shape.{IsShape, Shape}
-use Rattle.session_script.specs.declared.step.Step.{Step}
+use Rattle.languages.specs.declared.step.Step.{Step}
 use Rattle.bound_query.specs.RunBounds.{cost_over}
 use Rattle.verdict.specs.SessionCalls.{session_calls, session_reach}
 

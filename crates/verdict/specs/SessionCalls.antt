@@ -1,8 +1,8 @@
 -- The calls for members that a session makes: one for each member that a cursor is given, and one
 -- for each `next` that finds the ranking's end. No call is made at the limit.
 use Rattle.std.specs.Prelude.{ℕ, ◌+◌, ◌&&◌, Bool, not, nat_lt, min, max, if◌then◌else◌, List, [], ◌∷◌, length, drop, Option}
-use Rattle.session_script.specs.declared.step.Step.{Step}
-use Rattle.session_script.specs.declared.step.Step.TheVariants.{Open, Next, Fork, Rewind, Close}
+use Rattle.languages.specs.declared.step.Step.{Step}
+use Rattle.languages.specs.declared.step.Step.TheVariants.{Open, Next, Fork, Rewind, Close}
 use Rattle.anyk_model.specs.Output.{cut}
 use Rattle.bound_query.specs.Steps.{reaches}
 use Rattle.verdict.specs.Session.{Places, no_cursors, place_in, places_after}

@@ -9,8 +9,8 @@ use Rattle.verdict.specs.Words.{built}
 use Rattle.anyk_top.specs.Requests.{asked_by}
 use Rattle.verdict.specs.Sides.{seen_by}
 use Rattle.anyk_top.proofs.Ends.{early_outcome, built_outcome}
-use Rattle.refusal_lines.specs.SinkState.{state_of}
-use Rattle.refusal_lines.proofs.Prints.{appends_nothing}
+use Rattle.outer_io.specs.SinkState.{state_of}
+use Rattle.outer_io.proofs.Prints.{appends_nothing}
 use Rattle.anyk_top.proofs.top.run_keyed.Goals as goal
 
 pub returns-in-Ok : goal.returns-in-Ok

@@ -1,5 +1,5 @@
-use Rattle.refusal_lines.specs.declared.fault.PrintFault.TheVariants as fault
-use Rattle.refusal_lines.proofs.Prints.{unprinted}
+use Rattle.outer_io.specs.declared.fault.PrintFault.TheVariants as fault
+use Rattle.outer_io.proofs.Prints.{unprinted}
 use Rattle.command_output.proofs.HandedOn.{handed_on}
 use Rattle.command_output.proofs.moving.print_end.Goals as goal
 

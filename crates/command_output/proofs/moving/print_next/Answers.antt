@@ -3,9 +3,9 @@ use Rattle.std.specs.Prelude.{codes, slice_set}
 use Rattle.std.proofs.lemmas.List.{set-get_or}
 use Rattle.std.proofs.lemmas.Result.{IfOk-from_err}
 use Rattle.anyk_model.specs.Query.{IsCombination, row_counts}
-use Rattle.refusal_lines.specs.declared.fault.PrintFault.TheVariants as fault
-use Rattle.refusal_lines.specs.Printing.{Printed}
-use Rattle.refusal_lines.specs.SinkState.{state_of}
+use Rattle.outer_io.specs.declared.fault.PrintFault.TheVariants as fault
+use Rattle.outer_io.specs.Printing.{Printed}
+use Rattle.outer_io.specs.SinkState.{state_of}
 use Rattle.verdict.specs.Session.{next_text}
 use Rattle.tdp_core.specs.AnswerView.{AnswerView}
 use Rattle.command_output.specs.SessionListing.{line_in, members_in, ranking_in}

@@ -1,12 +1,12 @@
 use Rattle.std.proofs.Common.{◌≡◌, ◌≤◌, ◌+◌, [], ℕ, Option, None, IfSome, length, take, subst, sym, rules}
 use Rattle.anyk_model.specs.Output.{line_text}
 use Rattle.anyk_model.specs.Query.{IsCombination, row_counts}
-use Rattle.answer_print.specs.StyleView.{style_view}
+use Rattle.command_output.specs.StyleView.{style_view}
 use Rattle.tdp_core.specs.AnswerView.{AnswerView}
-use Rattle.refusal_lines.specs.declared.fault.PrintFault.TheVariants as fault
-use Rattle.witness_key.specs.WitnessKey.{combinations_in}
+use Rattle.outer_io.specs.declared.fault.PrintFault.TheVariants as fault
+use Rattle.node_build.specs.WitnessKey.{combinations_in}
 use Rattle.bound_query.proofs.Pacing.{calls_more, calls_same, paced}
-use Rattle.refusal_lines.proofs.Prints.{appends_nothing}
+use Rattle.outer_io.proofs.Prints.{appends_nothing}
 use Rattle.bound_query.proofs.Calls.{called_more, counted_few, limit_below, limit_reached, limit_within, rises_from}
 use Rattle.command_output.proofs.Given.{cut_short, first_left, given_more, printed_all, printed_limit, stopped_short}
 use Rattle.command_output.proofs.Spending.{at_most_one, same_most}

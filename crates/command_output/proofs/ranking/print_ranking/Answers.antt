@@ -1,5 +1,5 @@
 use Rattle.bound_query.proofs.Pacing.{paced_after}
-use Rattle.refusal_lines.proofs.Prints.{printed_stopped, printed_then}
+use Rattle.outer_io.proofs.Prints.{printed_stopped, printed_then}
 use Rattle.command_output.proofs.Spending.{at_most_one}
 use Rattle.command_output.proofs.HandedOn.{handed_on}
 use Rattle.command_output.proofs.ranking.print_ranking.Goals as goal

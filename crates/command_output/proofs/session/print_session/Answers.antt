@@ -1,5 +1,5 @@
 use Rattle.std.proofs.Common.{ap}
-use Rattle.cursor_set.specs.CursorSet.{CursorSet, seen_of}
+use Rattle.command_output.specs.CursorSet.{CursorSet, seen_of}
 use Rattle.command_output.proofs.SessionCosts.{within_new}
 use Rattle.command_output.proofs.session.print_session.Goals as goal
 

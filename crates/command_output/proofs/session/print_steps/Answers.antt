@@ -1,6 +1,6 @@
 use Rattle.std.proofs.Common.{◌≡◌, ◌<◌, get_or, length, refl, subst, sym, ◌∙◌}
-use Rattle.refusal_lines.proofs.Prints.{printed_stopped, printed_then}
-use Rattle.witness_key.specs.WitnessKey.{AreCombinations}
+use Rattle.outer_io.proofs.Prints.{printed_stopped, printed_then}
+use Rattle.node_build.specs.WitnessKey.{AreCombinations}
 use Rattle.command_output.proofs.Spending.{at_most_more}
 use Rattle.command_output.proofs.SessionRun.{run_all, run_cost, run_more, run_start, run_stopped, run_within}
 use Rattle.command_output.proofs.HandedOn.{handed_on}

@@ -1,5 +1,5 @@
 use Rattle.std.proofs.Common.{◌≡◌}
-use Rattle.refusal_lines.specs.SinkState.{state_of}
+use Rattle.outer_io.specs.SinkState.{state_of}
 use Rattle.command_output.proofs.SessionRun.{HasRun}
 use Rattle.command_output.proofs.session.print_steps.Given as goal
 

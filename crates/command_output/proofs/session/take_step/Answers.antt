@@ -1,6 +1,6 @@
 use Rattle.std.proofs.Common.{Err, Ok, ap, refl}
-use Rattle.cursor_set.specs.CursorSet.{CursorSet}
-use Rattle.refusal_lines.specs.declared.fault.PrintFault.TheVariants as fault
+use Rattle.command_output.specs.CursorSet.{CursorSet}
+use Rattle.outer_io.specs.declared.fault.PrintFault.TheVariants as fault
 use Rattle.command_output.proofs.Moves.{same_place, unknown_closed}
 use Rattle.command_output.proofs.SessionRun.{is_quiet, next_taken, quiet_taken}
 use Rattle.command_output.proofs.HandedOn.{handed_on}

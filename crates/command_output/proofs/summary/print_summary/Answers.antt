@@ -1,9 +1,9 @@
 use Rattle.std.proofs.Common.{◌≡◌, Result, Ok, Err, ap, length, sym, take}
 use Rattle.tdp_core.specs.AnswerView.{AnswerView}
 use Rattle.std.specs.Prelude.{IsErrAnd}
-use Rattle.refusal_lines.specs.declared.fault.PrintFault.{PrintFault}
-use Rattle.refusal_lines.specs.declared.fault.PrintFault.TheVariants as fault
-use Rattle.refusal_lines.proofs.Prints.{unprinted}
+use Rattle.outer_io.specs.declared.fault.PrintFault.{PrintFault}
+use Rattle.outer_io.specs.declared.fault.PrintFault.TheVariants as fault
+use Rattle.outer_io.proofs.Prints.{unprinted}
 use Rattle.command_output.proofs.EndMembers.{calls_map, ends_text_lem, first_rows, last_rows}
 use Rattle.command_output.proofs.summary.print_summary.Goals as goal
 

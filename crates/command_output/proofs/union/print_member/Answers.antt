@@ -1,8 +1,8 @@
 use Rattle.std.proofs.Common.{◌<◌, ℕ, List, length, map, arith}
 use Rattle.std.proofs.lemmas.List.{length-map}
 use Rattle.bound_query.specs.WeighedQuery.{BoundQuery}
-use Rattle.refusal_lines.specs.declared.fault.PrintFault.TheVariants as fault
-use Rattle.refusal_lines.proofs.Prints.{unprinted}
+use Rattle.outer_io.specs.declared.fault.PrintFault.TheVariants as fault
+use Rattle.outer_io.proofs.Prints.{unprinted}
 use Rattle.command_output.proofs.HandedOn.{handed_on}
 use Rattle.command_output.proofs.union.print_member.Goals as goal
 

@@ -1,9 +1,9 @@
 use Rattle.std.proofs.Common.{◌≡◌, ◌≤◌, [], ℕ, Option, None, IfSome, map, refl, subst, sym, rules}
-use Rattle.answer_print.specs.StyleView.{style_view}
+use Rattle.command_output.specs.StyleView.{style_view}
 use Rattle.bound_query.specs.WeighedQuery.{BoundQuery}
-use Rattle.refusal_lines.specs.declared.fault.PrintFault.TheVariants as fault
+use Rattle.outer_io.specs.declared.fault.PrintFault.TheVariants as fault
 use Rattle.bound_query.proofs.Calls.{limit_below, limit_reached, limit_within}
-use Rattle.refusal_lines.proofs.Prints.{appends_nothing}
+use Rattle.outer_io.proofs.Prints.{appends_nothing}
 use Rattle.anyk_model.specs.TaggedRows.{tagged}
 use Rattle.anyk_model.specs.UnionOutput.{union_line_text}
 use Rattle.command_output.proofs.Given.{cut_short, first_left, printed_all, printed_limit, stopped_short}

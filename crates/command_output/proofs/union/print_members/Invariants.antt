@@ -1,7 +1,7 @@
 use Rattle.std.proofs.Common.{map}
-use Rattle.answer_print.specs.StyleView.{style_view}
+use Rattle.command_output.specs.StyleView.{style_view}
 use Rattle.bound_query.specs.WeighedQuery.{BoundQuery}
-use Rattle.refusal_lines.specs.SinkState.{state_of}
+use Rattle.outer_io.specs.SinkState.{state_of}
 use Rattle.anyk_model.specs.UnionOutput.{union_line_text}
 use Rattle.command_output.proofs.UnionMembers.{HasPrinted}
 use Rattle.command_output.proofs.union.print_members.Given as goal

@@ -1,4 +1,4 @@
-use Rattle.refusal_lines.proofs.Prints.{printed_stopped, printed_then}
+use Rattle.outer_io.proofs.Prints.{printed_stopped, printed_then}
 use Rattle.command_output.proofs.Spending.{at_most_one}
 use Rattle.command_output.proofs.UnionPacing.{paced_after}
 use Rattle.command_output.proofs.HandedOn.{handed_on}

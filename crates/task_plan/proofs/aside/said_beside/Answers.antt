@@ -1,9 +1,9 @@
 use Rattle.std.proofs.Common.{◌∙◌, [], List, Result, Ok, Err, sym, ap, subst}
 use Rattle.proof_model.specs.Certificate.{Certificate}
 use Rattle.proof_model.specs.ProofView.{proof_view}
-use Rattle.session_script.specs.declared.step.Step.{Step}
-use Rattle.refusal_lines.specs.Reason.{Reason}
-use Rattle.refusal_lines.specs.RefusalReasons.{reason_of}
+use Rattle.languages.specs.declared.step.Step.{Step}
+use Rattle.outer_io.specs.Reason.{Reason}
+use Rattle.outer_io.specs.RefusalReasons.{reason_of}
 use Rattle.verdict.specs.Faults.{of_proof, of_script}
 use Rattle.verdict.specs.Loading.{Beside, proof_said, steps_said, told_proof, told_steps, with_proof, with_steps}
 use Rattle.verdict.specs.Stages.{Is, then_by}

@@ -1,7 +1,7 @@
 use Rattle.std.proofs.Common.{◌≡◌, ◌∙◌, None, Option, Some, Ok, Err, ℕ, List, refl, ap, sym, option_map, position, arith}
 use Rattle.std.specs.Str.{bytes_eq}
 use Rattle.anyk_model.specs.Query.{Item}
-use Rattle.refusal_lines.specs.Reason.{UnionBest, UnknownBest}
+use Rattle.outer_io.specs.Reason.{UnionBest, UnknownBest}
 use Rattle.verdict.specs.AcceptedInput.{queries_in}
 use Rattle.verdict.specs.Loading.{known_item}
 use Rattle.task_plan.proofs.Best.{best_one, best_several, one_within, shape_refused, shaped}

@@ -1,5 +1,5 @@
 use Rattle.std.proofs.Common.{◌≡◌, ◌∙◌, ◌+◌, length, Err, ap, subst, sym, arith}
-use Rattle.refusal_lines.specs.Reason.{Reason}
+use Rattle.outer_io.specs.Reason.{Reason}
 use Rattle.verdict.specs.Faults.{of_bind}
 use Rattle.verdict.specs.Loading.{are_several, bound_in, told_branch}
 use Rattle.verdict.specs.StageResults.{Pure}

@@ -1,6 +1,6 @@
 use Rattle.std.proofs.Common.{Err, arith}
 use Rattle.std.proofs.lemmas.Result.{IfOk-from_err}
-use Rattle.refusal_lines.specs.RefusalReasons.{reason_of}
+use Rattle.outer_io.specs.RefusalReasons.{reason_of}
 use Rattle.verdict.specs.AcceptedInput.{queries_in}
 use Rattle.verdict.specs.Loading.{bound_in, loaded_in}
 use Rattle.verdict.specs.Stages.{Is, followed}

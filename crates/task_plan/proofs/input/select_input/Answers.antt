@@ -1,6 +1,6 @@
 use Rattle.std.proofs.Common.{Err}
 use Rattle.std.proofs.lemmas.Result.{IfOk-from_err}
-use Rattle.refusal_lines.specs.RefusalReasons.{reason_of}
+use Rattle.outer_io.specs.RefusalReasons.{reason_of}
 use Rattle.task_plan.specs.StageViews.{beside_view}
 use Rattle.task_plan.specs.Sought.{sought_view}
 use Rattle.task_plan.proofs.Handing.{handed_on}

@@ -1,6 +1,6 @@
 use Rattle.std.proofs.Common.{◌≡◌, None, Result, Ok, Err, IfOk, length, refl}
 use Rattle.task_plan.specs.Input.{InputView}
-use Rattle.refusal_lines.specs.declared.refusal.Refusal.{Refusal}
+use Rattle.outer_io.specs.declared.refusal.Refusal.{Refusal}
 use Rattle.task_plan.proofs.looking.look_at.Goals as goal
 
 -- nothing is asked of the number of queries

@@ -1,6 +1,6 @@
 use Rattle.std.proofs.Common.{◌≡◌, ◌∙◌, None, Some, false, map, ap, refl, subst}
 use Rattle.cmd_words.specs.NamedPairs.{named_pair}
-use Rattle.make_input.specs.Input.{query_file, table_files}
+use Rattle.outer_io.specs.Input.{query_file, table_files}
 use Rattle.outer_io.specs.Files.{Files}
 use Rattle.outer_io.specs.Holding.{Holding}
 use Rattle.verdict.specs.MadeFiles.{made_files}

@@ -1,6 +1,6 @@
 use Rattle.std.proofs.Common.{Err, Ok}
 use Rattle.task_plan.specs.Input.{loaded_of}
-use Rattle.refusal_lines.specs.RefusalReasons.{reason_of}
+use Rattle.outer_io.specs.RefusalReasons.{reason_of}
 use Rattle.verdict.specs.MadeFiles.{known_to}
 use Rattle.verdict.specs.StageResults.{Shelved, shelved}
 use Rattle.verdict.specs.Words.{built}

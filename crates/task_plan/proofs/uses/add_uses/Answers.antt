@@ -2,8 +2,8 @@ use Rattle.std.proofs.Common.{◌≡◌, ◌∙◌, None, Option, map, option_ma
 use Rattle.std.proofs.lemmas.List.{length-map}
 use Rattle.std.proofs.lemmas.Result.{IfOk-from_err}
 use Rattle.cmd_words.specs.NamedPairs.{named_pair}
-use Rattle.refusal_lines.specs.Reason.{Reason}
-use Rattle.session_script.specs.Script.{unless}
+use Rattle.outer_io.specs.Reason.{Reason}
+use Rattle.languages.specs.Script.{unless}
 use Rattle.verdict.specs.Loading.{unknown_table}
 use Rattle.verdict.specs.Stages.{Is}
 use Rattle.task_plan.proofs.Handing.{uses_memory}

@@ -1,8 +1,8 @@
 use Rattle.std.proofs.Common.{Err, map, arith, subst, sym}
 use Rattle.std.proofs.lemmas.List.{length-map}
 use Rattle.cmd_words.specs.NamedPairs.{named_pair}
-use Rattle.refusal_lines.specs.Reason.{Reason}
-use Rattle.session_script.specs.Script.{unless}
+use Rattle.outer_io.specs.Reason.{Reason}
+use Rattle.languages.specs.Script.{unless}
 use Rattle.verdict.specs.Loading.{all_items, unknown_table}
 use Rattle.verdict.specs.StageResults.{Pure}
 use Rattle.verdict.specs.Stages.{Is}

@@ -1,6 +1,6 @@
 use Rattle.std.proofs.Common.{ℕ, ◌+◌, ◌*◌, ◌≤◌, List, length, ap, arith}
 use Rattle.std.proofs.lemmas.Result.{IfOk-from_err}
-use Rattle.stream_store.specs.declared.entry.Linked.{Linked}
+use Rattle.containers.specs.declared.linked.Linked.{Linked}
 use Rattle.rankings.specs.Regions.{Region}
 use Rattle.tdp_core.specs.AnswerView.{answers_of}
 use Rattle.tdp_core.specs.TreeView.{row_count}

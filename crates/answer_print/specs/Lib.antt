@@ -1,2 +1,0 @@
-pub mod FirstSums
-pub mod StyleView

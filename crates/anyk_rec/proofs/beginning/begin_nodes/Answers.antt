@@ -1,0 +1,81 @@
+use Rattle.anyk_rec.proofs.Errors.{none_done}
+use Rattle.std.proofs.Common.{◌≡◌, ℕ, ◌+◌, ◌-◌, ◌*◌, ◌<◌, ◌≤◌, List, [], length, sym, subst, arith}
+use Rattle.tdp_core.specs.TreeView.{row_count}
+use Rattle.containers.specs.declared.linked.Linked.{Linked}
+use Rattle.anyk_rec.specs.declared.stream.Found.{Found}
+use Rattle.anyk_rec.specs.Beginnings.{IsBegunFrom}
+use Rattle.anyk_rec.proofs.BeginNodes.{from_none, rows_more}
+use Rattle.anyk_rec.proofs.ViewStart.{start_steps}
+use Rattle.anyk_rec.proofs.beginning.begin_nodes.Goals as goal
+
+below_start : (v n : ℕ) → 0 < v → v ≤ n → v - 1 < n
+below_start v n some few = omega arith
+
+one_back : (v : ℕ) → 0 < v → v ≡ v - 1 + 1
+one_back v some = omega arith
+
+more_within : (s n : ℕ) → s ≤ s + n
+more_within s n = omega arith
+
+pub loop-node-init : goal.loop-node-init
+loop-node-init g c =
+    let t = c.args.tree.now in
+    record {
+      begun = subst (λ (es : List (Linked (Found g.row.R.Denot))). IsBegunFrom g.R.Rank.KEYS g.R.Rank.key t es c.add_empty_nodes.new.nodes.items c.nodes-node.result) (sym c.requires.entries)
+          (subst (IsBegunFrom g.R.Rank.KEYS g.R.Rank.key t [] c.add_empty_nodes.new.nodes.items) (sym c.nodes-node.ensures.count)
+          (from_none g.R.Rank.KEYS g.R.Rank.key t c.add_empty_nodes.new.nodes.items c.in_ok-add_empty_nodes.ensures.count c.in_ok-add_empty_nodes.ensures.empty));
+      cost = omega arith;
+      within = omega (arith, c.nodes-node.ensures.count);
+    }
+
+pub loop-node-preserved : goal.loop-node-preserved
+loop-node-preserved g c =
+    let t = c.args.tree.now in
+    record {
+      begun = c.in_ok-begin_node.ensures.begun;
+      cost = omega (arith, c.begin_node.ensures.cost, c.loop-node.invariant.cost, rows_more g.R.Rank.KEYS g.R.Rank.key t (c.loop-node.node - 1) c.loop-node.node (omega (arith, c.loop-node-test.true, c.loop-node.invariant.within)) (omega (arith, c.loop-node-test.true)));
+      within = omega (arith, c.loop-node.invariant.within);
+    }
+
+pub begin_node-requires-clause-node : goal.begin_node-requires-clause-node
+begin_node-requires-clause-node g c = below_start c.loop-node.node (length c.args.tree.now) c.loop-node-test.true c.loop-node.invariant.within
+
+pub begin_node-requires-clause-formed : goal.begin_node-requires-clause-formed
+begin_node-requires-clause-formed g c = c.nodes-node.ensures.formed
+
+pub begin_node-requires-clause-begun : goal.begin_node-requires-clause-begun
+begin_node-requires-clause-begun g c = subst (IsBegunFrom g.R.Rank.KEYS g.R.Rank.key c.args.tree.now c.loop-node.entries.entries c.loop-node.nodes.items) (one_back c.loop-node.node c.loop-node-test.true) c.loop-node.invariant.begun
+
+pub returns-in_err-add_empty_nodes : goal.returns-in_err-add_empty_nodes
+returns-in_err-add_empty_nodes g c =
+    record {
+      cost = more_within c.args.steps.now (16 * length c.args.tree.now * (1 + row_count c.args.tree.now));
+      formed = none_done _ c.from_residual.result c.from_residual.ensures.0;
+      begun = none_done _ c.from_residual.result c.from_residual.ensures.0;
+    }
+
+pub returns-in_err-begin_node : goal.returns-in_err-begin_node
+returns-in_err-begin_node g c =
+    record {
+      formed = none_done _ c.from_residual-in_err-begin_node.result c.from_residual-in_err-begin_node.ensures.0;
+      begun = none_done _ c.from_residual-in_err-begin_node.result c.from_residual-in_err-begin_node.ensures.0;
+      cost =
+          let t = c.args.tree.now in
+          omega (
+            arith,
+            c.begin_node.ensures.cost,
+            c.loop-node.invariant.cost,
+            rows_more g.R.Rank.KEYS g.R.Rank.key t (c.loop-node.node - 1) c.loop-node.node (omega (arith, c.loop-node-test.true, c.loop-node.invariant.within)) (omega (arith, c.loop-node-test.true)),
+            start_steps g.R.Rank.KEYS g.R.Rank.key t c.nodes-node.ensures.formed (c.loop-node.node - 1) (omega (arith, c.loop-node.invariant.within)),
+          );
+    }
+
+pub returns : goal.returns
+returns g c =
+    record {
+      formed = c.nodes-node.ensures.formed;
+      begun =
+          let none : c.loop-node.node ≡ 0 = omega (arith, c.loop-node-test.false) in
+          subst (IsBegunFrom g.R.Rank.KEYS g.R.Rank.key c.args.tree.now c.loop-node.entries.entries c.loop-node.nodes.items) none c.loop-node.invariant.begun;
+      cost = omega (arith, c.loop-node.invariant.cost, start_steps g.R.Rank.KEYS g.R.Rank.key c.args.tree.now c.nodes-node.ensures.formed c.loop-node.node (omega (arith, c.loop-node.invariant.within)));
+    }

@@ -1,0 +1,18 @@
+use Rattle.std.proofs.Common.{◌≡◌, ◌<◌, ◌↔◌, IsSome, IfSome, length, slice_index_or, sym, subst, arith}
+use Rattle.containers.specs.declared.entry.Entry.{Entry}
+use Rattle.containers.specs.Order.{IsLeast}
+use Rattle.anyk_rec.specs.declared.source.Source.{Source}
+use Rattle.anyk_rec.specs.StreamView.{StreamView}
+use Rattle.anyk_rec.proofs.NodeFacts.{in_queues, queue_read}
+use Rattle.anyk_rec.proofs.node.NodeStreams.top.Goals as goal
+
+pub index-requires : goal.index-requires
+index-requires g c = omega (arith, in_queues _ c.self.inside.first_head c.self.inside.streams.items _ c.args.self.now c.self.view_is c.args.group c.requires, c.self.inside.streams.ok.0)
+
+pub returns : goal.returns
+returns g c =
+    record {
+      least = subst (λ (s : StreamView g.row.R.Denot). IfSome c.top.result (λ e. IsLeast g.R.Rank.KEYS g.R.Rank.key e s.queue)) (sym (queue_read _ c.self.inside.first_head c.self.inside.streams.items _ c.args.self.now c.self.view_is c.args.group c.requires c.index.result.now c.index.ensures)) c.top.ensures.least;
+      variant = subst (λ (s : StreamView g.row.R.Denot). IsSome c.top.result ↔ (0 < length s.queue)) (sym (queue_read _ c.self.inside.first_head c.self.inside.streams.items _ c.args.self.now c.self.view_is c.args.group c.requires c.index.result.now c.index.ensures)) c.top.ensures.variant;
+      top = subst (λ (s : StreamView g.row.R.Denot). IfSome c.top.result (λ e. (d : Entry g.row.R.Denot Source) → e ≡ slice_index_or s.queue 0 d)) (sym (queue_read _ c.self.inside.first_head c.self.inside.streams.items _ c.args.self.now c.self.view_is c.args.group c.requires c.index.result.now c.index.ensures)) c.top.ensures.top;
+    }

@@ -1,0 +1,55 @@
+use Rattle.std.proofs.Common.{◌≡◌, ℕ, ◌-◌, ◌^◌, ◌<◌, ◌≤◌, min, List, length, sym, ap, ◌∙◌, subst, arith}
+use Rattle.std.proofs.lemmas.Bool.{false≢true}
+use Rattle.anyk_rec.specs.declared.cell.Cell.{Cell}
+use Rattle.anyk_rec.specs.ProductView.{ProductView}
+use Rattle.anyk_rec.proofs.Errors.{none_done}
+use Rattle.anyk_rec.proofs.product.Product.reserve.Goals as goal
+
+room_left : (a n : ℕ) → 0 < a → n < 2 ^ 32 - 1 → 0 < min a (2 ^ 32 - 1 - n)
+room_left a n some few = omega arith
+
+some_left : (n : ℕ) → 1 ≤ n → 0 < n
+some_left n h = omega arith
+
+few_left : {n : ℕ} {before after : List Cell} → n ≡ length before → n < 2 ^ 32 - 1 → after ≡ before → length after < 2 ^ 32 - 1
+few_left e few same = subst (λ (l : List Cell). length l < 2 ^ 32 - 1) (sym same) (subst (λ k. k < 2 ^ 32 - 1) e few)
+
+pub returns-in_err-reserve : goal.returns-in_err-reserve
+returns-in_err-reserve g c =
+    record {
+      frontier = ap (λ (p : ProductView g.row.R.Denot). p.frontier) c.self.view_is;
+      room = none_done _ c.from_residual.result c.from_residual.ensures.0;
+      ranks = c.reserve.ensures.ranks ∙ ap (λ (p : ProductView g.row.R.Denot). p.ranks) c.self.view_is;
+      frontier_room = none_done _ c.from_residual.result c.from_residual.ensures.0;
+      found = c.reserve.ensures.cells ∙ ap (λ (p : ProductView g.row.R.Denot). p.found) c.self.view_is;
+    }
+
+pub returns-in_err-reserve-2 : goal.returns-in_err-reserve-2
+returns-in_err-reserve-2 g c =
+    record {
+      frontier = c.reserve-then-beside.ensures.entries ∙ ap (λ (p : ProductView g.row.R.Denot). p.frontier) c.self.view_is;
+      frontier_room = none_done _ c.from_residual-in_err-reserve-2.result c.from_residual-in_err-reserve-2.ensures.0;
+      ranks = c.reserve.ensures.ranks ∙ ap (λ (p : ProductView g.row.R.Denot). p.ranks) c.self.view_is;
+      found = c.reserve.ensures.cells ∙ ap (λ (p : ProductView g.row.R.Denot). p.found) c.self.view_is;
+      room = none_done _ c.from_residual-in_err-reserve-2.result c.from_residual-in_err-reserve-2.ensures.0;
+    }
+
+pub returns-in_ok-reserve-2 : goal.returns-in_ok-reserve-2
+returns-in_ok-reserve-2 g c =
+    record {
+      frontier = c.reserve-then-beside.ensures.entries ∙ ap (λ (p : ProductView g.row.R.Denot). p.frontier) c.self.view_is;
+      ranks = c.reserve.ensures.ranks ∙ ap (λ (p : ProductView g.row.R.Denot). p.ranks) c.self.view_is;
+      room = room_left _ _ c.in_ok-reserve.ensures.spare (few_left c.len.ensures c.if-len.false c.reserve.ensures.cells);
+      frontier_room = λ b. some_left _ c.in_ok-reserve-2.ensures.ok;
+      found = c.reserve.ensures.cells ∙ ap (λ (p : ProductView g.row.R.Denot). p.found) c.self.view_is;
+    }
+
+pub returns-else-beside : goal.returns-else-beside
+returns-else-beside g c =
+    record {
+      frontier_room = λ b. absurd (false≢true (sym c.if-beside.false ∙ b));
+      room = room_left _ _ c.in_ok-reserve.ensures.spare (few_left c.len.ensures c.if-len.false c.reserve.ensures.cells);
+      frontier = ap (λ (p : ProductView g.row.R.Denot). p.frontier) c.self.view_is;
+      found = c.reserve.ensures.cells ∙ ap (λ (p : ProductView g.row.R.Denot). p.found) c.self.view_is;
+      ranks = c.reserve.ensures.ranks ∙ ap (λ (p : ProductView g.row.R.Denot). p.ranks) c.self.view_is;
+    }

@@ -1,0 +1,40 @@
+use Rattle.std.proofs.Common.{get_or, refl, ap, ◌∙◌}
+use Rattle.rankings.specs.KeyTuple.{key_add, key_none}
+use Rattle.anyk_rec.specs.Rankings.{part_list}
+use Rattle.anyk_rec.proofs.Heads.{head_key}
+use Rattle.anyk_rec.proofs.Firsts.{cell_fits}
+use Rattle.anyk_rec.proofs.reads.cell_rank.Goals as goal
+
+pub join-requires : goal.join-requires
+join-requires g c =
+    let r = c.requires.parts.rights c.args.cell.now.right c.requires.cell.right c.requires.cell.node c.requires.cell.group in
+    let k = head_key g.R.Rank.KEYS g.R.Rank.key c.args.entries.now.entries c.args.cell.now.right c.args.cell.now.right c.get-right.result.now _ refl c.get-right.ensures.value r.1 in
+    cell_fits g.R.Rank.KEYS g.R.Rank.key c.args.tree.now c.requires.formed c.args.entries.now.entries c.args.nodes.now c.args.node c.args.row c.args.child c.args.cell.now c.requires.node c.requires.parts c.requires.cell _ _ c.part_rank-left.ensures.key k
+
+pub returns-clause-key : goal.returns-clause-key
+returns-clause-key g c =
+    let r = c.requires.parts.rights c.args.cell.now.right c.requires.cell.right c.requires.cell.node c.requires.cell.group in
+    let k = head_key g.R.Rank.KEYS g.R.Rank.key c.args.entries.now.entries c.args.cell.now.right c.args.cell.now.right c.get-right.result.now _ refl c.get-right.ensures.value r.1 in
+    c.join.ensures.sum ∙ ap (λ z. key_add g.R.Rank.KEYS 16 z (g.R.Rank.key c.get-right.result.now.solution.rank)) c.part_rank-left.ensures.key
+    ∙ ap (λ z. key_add g.R.Rank.KEYS 16 (get_or (part_list g.R.Rank.KEYS g.R.Rank.key c.args.tree.now c.args.node c.args.row c.args.child) c.args.cell.now.left (key_none g.R.Rank.KEYS 16)) z) k
+
+pub part_rank-left-requires-clause-formed : goal.part_rank-left-requires-clause-formed
+part_rank-left-requires-clause-formed g c = c.requires.formed
+
+pub part_rank-left-requires-clause-node : goal.part_rank-left-requires-clause-node
+part_rank-left-requires-clause-node g c = c.requires.node
+
+pub part_rank-left-requires-clause-row : goal.part_rank-left-requires-clause-row
+part_rank-left-requires-clause-row g c = c.requires.row
+
+pub part_rank-left-requires-clause-all_nodes : goal.part_rank-left-requires-clause-all_nodes
+part_rank-left-requires-clause-all_nodes g c = c.requires.parts.node
+
+pub part_rank-left-requires-clause-count : goal.part_rank-left-requires-clause-count
+part_rank-left-requires-clause-count g c = c.requires.parts.count
+
+pub part_rank-left-requires-clause-lefts : goal.part_rank-left-requires-clause-lefts
+part_rank-left-requires-clause-lefts g c = c.requires.parts.lefts
+
+pub part_rank-left-requires-clause-place : goal.part_rank-left-requires-clause-place
+part_rank-left-requires-clause-place g c = c.requires.cell.left

@@ -1,0 +1,59 @@
+use Rattle.anyk_rec.proofs.Errors.{none_given}
+use Rattle.std.proofs.Common.{ℕ, ◌+◌, ◌≤◌, refl, arith}
+use Rattle.anyk_rec.proofs.ViewPrefixes.{all_prefixes}
+use Rattle.anyk_rec.proofs.ViewStart.{start_view}
+use Rattle.anyk_rec.proofs.streams.Streams.new.Goals as goal
+
+no_steps : (s n : ℕ) → s ≤ s + n
+no_steps s n = omega arith
+
+pub invariant_of-result : goal.invariant_of-result
+invariant_of-result g c =
+    start_view g.R.Rank.KEYS g.R.Rank.key c.args.tree.now c.in_ok-begin_nodes.ensures.formed c.requires c.begin_nodes.new.entries.entries c.begin_nodes.new.nodes.items 0 refl c.in_ok-begin_nodes.ensures.begun
+
+pub returns : goal.returns
+returns g c =
+    record {
+      prefixes =
+          let view = start_view g.R.Rank.KEYS g.R.Rank.key c.args.tree.now c.in_ok-begin_nodes.ensures.formed c.requires c.begin_nodes.new.entries.entries c.begin_nodes.new.nodes.items 0 refl c.in_ok-begin_nodes.ensures.begun in
+          all_prefixes g.R.Rank.KEYS g.R.Rank.key c.args.tree.now c.begin_nodes.new.entries.entries c.begin_nodes.new.nodes.items view.streams;
+      tree = refl;
+      calls = refl;
+      cost = c.begin_nodes.ensures.cost;
+    }
+
+pub returns-in_err-begin_nodes : goal.returns-in_err-begin_nodes
+returns-in_err-begin_nodes g c =
+    record {
+      tree = none_given _ c.from_residual-in_err-begin_nodes.result c.from_residual-in_err-begin_nodes.ensures.0;
+      prefixes = none_given _ c.from_residual-in_err-begin_nodes.result c.from_residual-in_err-begin_nodes.ensures.0;
+      calls = none_given _ c.from_residual-in_err-begin_nodes.result c.from_residual-in_err-begin_nodes.ensures.0;
+      cost = c.begin_nodes.ensures.cost;
+    }
+
+pub returns-in_err-clone : goal.returns-in_err-clone
+returns-in_err-clone g c =
+    record {
+      tree = none_given _ c.from_residual.result c.from_residual.ensures.0;
+      prefixes = none_given _ c.from_residual.result c.from_residual.ensures.0;
+      calls = none_given _ c.from_residual.result c.from_residual.ensures.0;
+      cost = no_steps _ _;
+    }
+
+pub returns-in_err-clone-2 : goal.returns-in_err-clone-2
+returns-in_err-clone-2 g c =
+    record {
+      tree = none_given _ c.from_residual-in_err-clone-2.result c.from_residual-in_err-clone-2.ensures.0;
+      prefixes = none_given _ c.from_residual-in_err-clone-2.result c.from_residual-in_err-clone-2.ensures.0;
+      calls = none_given _ c.from_residual-in_err-clone-2.result c.from_residual-in_err-clone-2.ensures.0;
+      cost = no_steps _ _;
+    }
+
+pub returns-in_err-clone-3 : goal.returns-in_err-clone-3
+returns-in_err-clone-3 g c =
+    record {
+      tree = none_given _ c.from_residual-in_err-clone-3.result c.from_residual-in_err-clone-3.ensures.0;
+      prefixes = none_given _ c.from_residual-in_err-clone-3.result c.from_residual-in_err-clone-3.ensures.0;
+      calls = none_given _ c.from_residual-in_err-clone-3.result c.from_residual-in_err-clone-3.ensures.0;
+      cost = no_steps _ _;
+    }

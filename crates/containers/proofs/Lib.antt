@@ -1,0 +1,5 @@
+pub mod Buckets
+pub mod Heights
+pub mod Holes
+pub mod Sifting
+pub mod Subtree

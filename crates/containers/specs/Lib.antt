@@ -1,0 +1,5 @@
+pub mod Buckets
+pub mod Entries
+pub mod Heap
+pub mod Height
+pub mod Order

@@ -1,3 +1,0 @@
-pub mod Lists
-pub mod Numbering
-pub mod Tables

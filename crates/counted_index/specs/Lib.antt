@@ -1,2 +1,0 @@
-pub mod LinkTable
-pub mod Pairs

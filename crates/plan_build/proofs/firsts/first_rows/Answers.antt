@@ -1,0 +1,80 @@
+use Rattle.std.proofs.Common.{◌≡◌, ◌<◌, length, sym, subst, ap, arith}
+use Rattle.tdp_core.specs.TreeView.{item, parent, rows}
+use Rattle.tdp_core.proofs.TreeFacts.{member_is_row}
+use Rattle.plan_build.proofs.ChosenDown.{chosen_all, chosen_start, chosen_under, next_none, next_some}
+use Rattle.plan_build.proofs.LoopCounts.{below_count}
+use Rattle.plan_build.proofs.firsts.first_rows.Goals as goal
+use Rattle.plan_build.proofs.firsts.first_rows.Goals.{in-Some, in_default}
+
+pub row_at-requires-clause-row : goal.row_at-requires-clause-row
+row_at-requires-clause-row g c =
+    let t = c.args.tree.now in
+    let v = c.args.node in
+    let formed = c.nodes-nodes.ensures.formed in
+    let full = formed.inhabited v c.args.group c.requires.node c.requires.group in
+    subst (λ x. x < rows t v) (sym c.member-top.ensures.member)
+    (member_is_row g.R.Rank.KEYS g.R.Rank.key t formed v c.args.group 0 c.requires.node full)
+
+pub loop-below-init : goal.loop-below-init
+loop-below-init g c =
+    let t = c.args.tree.now in
+    let v = c.args.node in
+    let d = g.R.Rank.KEYS in
+    let key = g.R.Rank.key in
+    let formed = c.nodes-nodes.ensures.formed in
+    let full = formed.inhabited v c.args.group c.requires.node c.requires.group in
+    let top = c.member-top.result in
+    let inside = subst (λ x. x < rows t v) (sym c.member-top.ensures.member)
+    (member_is_row d key t formed v c.args.group 0 c.requires.node full) in
+    let start = chosen_start d key t formed v c.args.group c.requires.node top c.member-top.ensures.member inside in
+    let place : c.shape.result.now.item ≡ item t v = ap (λ s. s.item) c.shape.ensures in
+    let is = c.row_at.ensures.number in
+    rw (place, is) start
+
+pub loop-below-preserved : goal.loop-below-preserved
+loop-below-preserved g c =
+    let t = c.args.tree.now in
+    let v = c.args.node in
+    let d = g.R.Rank.KEYS in
+    let key = g.R.Rank.key in
+    let formed = c.nodes-nodes.ensures.formed in
+    let so_far = c.loop-below.invariant in
+    let n = c.loop-below.below in
+    let after : v < n = omega (arith, c.loop-below.auto.below) in
+    let l : n < length t = below_count _ _ _ c.loop-below-test.true c.nodes-nodes.ensures.count in
+    let old = c.loop-below.chosen in
+    let first = c.first_below.ensures.first in
+    elim c.match-first_below.branch [
+      | in-Some w ↦
+          let row = w.in-Some.row in
+          let inside : row < rows t n = w.in-Some.ensures.inside in
+          let next = next_some d key t formed v c.args.group c.requires.node n old c.loop-below.rows
+          so_far after l c.first_below.result first row w.in-Some.is inside in
+          let place : w.shape-in-Some.result.now.item ≡ item t n = ap (λ s. s.item) w.shape-in-Some.ensures in
+          rw (w.chosen-is, w.rows-is, place, w.row_at-in-Some.ensures.number) next
+      | in_default w ↦
+          rw (w.chosen-is, w.rows-is)
+          (next_none d key t formed v c.args.group c.requires.node n old c.loop-below.rows
+          so_far after l c.first_below.result first w.in_default.is)
+    ]
+
+pub returns : goal.returns
+returns g c =
+    let all : c.loop-below.below ≡ length c.args.tree.now = omega
+    (arith, c.loop-below-test.false, c.loop-below.auto.below-end, c.nodes-nodes.ensures.count, c.requires.node) in
+    chosen_all g.R.Rank.KEYS g.R.Rank.key c.args.tree.now c.nodes-nodes.ensures.formed
+    c.args.node c.args.group c.requires.node
+    c.loop-below.below c.loop-below.chosen c.loop-below.rows c.loop-below.invariant all
+
+pub first_below-requires-clause-rows : goal.first_below-requires-clause-rows
+first_below-requires-clause-rows g c row is =
+    let t = c.args.tree.now in
+    let v = c.args.node in
+    let n = c.loop-below.below in
+    let formed = c.nodes-nodes.ensures.formed in
+    let after : v < n = omega (arith, c.loop-below.auto.below) in
+    let l : n < length t = below_count _ _ _ c.loop-below-test.true c.nodes-nodes.ensures.count in
+    let low = formed.shaped.parents_first n (omega (arith, after)) l in
+    (chosen_under g.R.Rank.KEYS g.R.Rank.key t formed v c.args.group c.requires.node n
+    c.loop-below.chosen c.loop-below.rows c.loop-below.invariant
+    (parent t n) row low (omega (arith, low, l)) is).1

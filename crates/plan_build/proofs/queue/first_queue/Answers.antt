@@ -1,0 +1,68 @@
+use Rattle.std.proofs.Common.{◌≡◌, ◌+◌, ◌≤◌, ◌∙◌, ℕ, Bool, false, nat_lt, List, [], length, inl, inr, ap, sym, subst, arith}
+use Rattle.std.specs.List.{All}
+use Rattle.std.proofs.lemmas.Bool.{false≢true, lt-ltb, cases_lt}
+use Rattle.std.proofs.lemmas.List.{get_or_past}
+use Rattle.std.proofs.lemmas.Result.{IfOk-from_err}
+use Rattle.std.proofs.lemmas.List.Elements.{All-nil}
+use Rattle.containers.specs.declared.entry.Entry.{Entry}
+use Rattle.rank_key.specs.Bits.{bit_length}
+use Rattle.rank_key.proofs.BitLemmas.{bit_length_is}
+use Rattle.rankings.specs.KeyTuple.{KeyOf}
+use Rattle.tdp_core.specs.TreeView.{NodeView, node_at, group_count}
+use Rattle.tdp_core.specs.WellFormed.{IsFormed, IsTieFreeTree}
+use Rattle.plan_build.specs.BestRanking.{IsBestRanking}
+use Rattle.plan_build.specs.RootHeap.{root_len, rest_keys, IsPlace, IsQueue}
+use Rattle.plan_build.proofs.RootPlaces.{none_past, nothing_held}
+use Rattle.plan_build.proofs.Queues.{queue_begins}
+use Rattle.plan_build.proofs.queue.first_queue.Goals as goal
+
+-- what a test that failed says
+none_below : (n : ℕ) (b : Bool) → b ≡ nat_lt 0 n → b ≡ false → n ≤ 0
+none_below n b is fails = elim (cases_lt 0 n) [ inl some ↦ absurd (false≢true (sym fails ∙ is ∙ lt-ltb 0 n some)) | inr none ↦ none ]
+
+-- the queue over a tree without solutions
+none_begins : {R : Type 0} (d : ℕ) (key : R → KeyOf d 16) (t : List (NodeView R)) (es : List (Entry R ℕ)) (spare : ℕ) → IsFormed d key t → IsTieFreeTree t → group_count t 0 ≤ 0 → es ≡ []
+    → IsQueue d key t es spare × IsBestRanking t d key (rest_keys d key t es)
+none_begins {R} d key t es spare formed apart dead is =
+    let none : root_len t ≤ 0 = omega (arith, ap length (get_or_past (node_at t 0).groups 0 [] dead)) in
+    subst (λ (xs : List (Entry R ℕ)). IsQueue d key t xs spare × IsBestRanking t d key (rest_keys d key t xs)) (sym is)
+    (queue_begins d key t [] spare formed apart (All-nil (IsPlace d key t)) (λ i. omega (arith, none_past (root_len t) 0 i none)) (omega (arith, none)) (omega arith))
+
+pub offer-requires-clause-entries : goal.offer-requires-clause-entries
+offer-requires-clause-entries g c =
+    let Placed : Entry g.row.R.Denot ℕ → Type 0 = IsPlace g.R.Rank.KEYS g.R.Rank.key c.args.tree.now in
+    let empty : c.reserve.new.self.entries ≡ [] = c.reserve.ensures.entries ∙ c.new-queue.ensures.entries in
+    subst (All Placed) (sym empty) (All-nil Placed)
+
+pub returns-in_err-reserve : goal.returns-in_err-reserve
+returns-in_err-reserve g c =
+    record {
+      queue = IfOk-from_err c.from_residual.result _ c.from_residual.ensures.0;
+      best = IfOk-from_err c.from_residual.result _ c.from_residual.ensures.0;
+      cost = omega arith;
+    }
+
+pub returns-then-not-live : goal.returns-then-not-live
+returns-then-not-live g c =
+    let dead = none_below (group_count c.args.tree.now 0) c.live.result c.live.ensures.live c.if-not-live.true in
+    let both = none_begins g.R.Rank.KEYS g.R.Rank.key c.args.tree.now c.new-queue.result.entries c.new-queue.result.spare c.live.ensures.formed c.requires.tie_free dead c.new-queue.ensures.entries in
+    record {
+      queue = both.0;
+      best = both.1;
+      cost = omega arith;
+    }
+
+pub returns : goal.returns
+returns g c =
+    let t = c.args.tree.now in
+    let empty : c.reserve.new.self.entries ≡ [] = c.reserve.ensures.entries ∙ c.new-queue.ensures.entries in
+    let none : length c.reserve.new.self.entries ≡ 0 = ap (λ (es : List (Entry g.row.R.Denot ℕ)). length es) empty in
+    let both = queue_begins g.R.Rank.KEYS g.R.Rank.key t c.offer.new.queue.entries c.offer.new.queue.spare c.live.ensures.formed c.requires.tie_free c.offer.ensures.entries
+    (λ i. omega (arith, c.offer.ensures.held i, nothing_held (root_len t) c.reserve.new.self.entries i none))
+    (omega (arith, c.offer.ensures.room, c.in_ok-reserve.ensures.ok, c.group_len.ensures)) (omega (arith, c.offer.ensures.length, none)) in
+    let one : bit_length (length c.reserve.new.self.entries + 1) ≡ 1 = ap (λ n. bit_length (n + 1)) none ∙ bit_length_is 1 1 (omega arith) (λ _. omega arith) in
+    record {
+      queue = both.0;
+      best = both.1;
+      cost = omega (arith, c.offer.ensures.cost, one, c.live.ensures.formed.shaped.some_node);
+    }

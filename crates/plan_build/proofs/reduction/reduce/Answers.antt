@@ -1,0 +1,11 @@
+use Rattle.plan_build.proofs.Handed.{handed}
+use Rattle.plan_build.proofs.reduction.reduce.Goals as goal
+
+pub returns : goal.returns
+returns g c = record {
+  reduced = handed c.and.result c.reduce_nodes-reduced.result _ _ c.and.ensures c.reduce_nodes-reduced.ensures.reduced;
+  cost = c.reduce_nodes-reduced.ensures.cost;
+}
+
+pub reduce_nodes-reduced-requires : goal.reduce_nodes-reduced-requires
+reduce_nodes-reduced-requires g c = c.new-nodes.ensures.items

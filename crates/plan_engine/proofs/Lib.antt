@@ -1,4 +1,0 @@
-pub mod Left
-pub mod RunBounds
-pub mod Bests
-pub mod RootSlots

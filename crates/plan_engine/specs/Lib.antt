@@ -1,3 +1,0 @@
-pub mod AskedList
-pub mod BestKey
-pub mod Engines

@@ -1,5 +1,0 @@
-use Rattle.proof_write.proofs.Chosen.{HasChosen}
-use Rattle.proof_write.proofs.firsts.first_rows.Given as goal
-
-abbrev pub invariant-loop-below : goal.invariant-loop-below
-invariant-loop-below g l = HasChosen l.tree l.node l.group l.below l.chosen l.rows

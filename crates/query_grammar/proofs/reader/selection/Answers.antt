@@ -1,5 +1,0 @@
-use Rattle.query_grammar.proofs.Stepping.{column_steps}
-use Rattle.query_grammar.proofs.reader.selection.Goals as goal
-
-pub several-requires : goal.several-requires
-several-requires c = column_steps

@@ -1,5 +1,0 @@
-pub mod Reading
-pub mod Grammar
-pub mod Places
-pub mod FirstFault
-pub mod Parse

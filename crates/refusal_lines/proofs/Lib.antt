@@ -1,5 +1,0 @@
-pub mod CoreItems
-pub mod Pieces
-pub mod Samples
-pub mod Sending
-pub mod Prints

@@ -1,3 +1,0 @@
-pub mod GroupedTrees
-pub mod ReducedTrees
-pub mod Reduction

@@ -1,4 +1,0 @@
-pub mod Heights
-pub mod Sifting
-pub mod Subtree
-pub mod Holes

@@ -1,5 +1,0 @@
-use Rattle.task_answer.proofs.UnionRun.{HasStarted}
-use Rattle.task_answer.proofs.union.engines_over.Given as goal
-
-abbrev pub invariant-loop-plan : goal.invariant-loop-plan
-invariant-loop-plan g l = HasStarted g.R.Rank.KEYS g.R.Rank.key l.plans l.plan-index l.engines.items l.fn.steps l.steps

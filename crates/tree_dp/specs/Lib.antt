@@ -1,4 +1,0 @@
-pub mod BestRanking
-pub mod Orders
-pub mod Progress
-pub mod SolvedTrees

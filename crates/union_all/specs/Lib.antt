@@ -1,3 +1,0 @@
-pub mod Merge
-pub mod Firsts
-pub mod Rows

@@ -1,2 +1,0 @@
-pub mod WitnessKey
-pub mod Laws
