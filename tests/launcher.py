@@ -787,7 +787,7 @@ def test_estimate(house):
     same(build.seconds_left(dict.fromkeys("abcdef", []), set("abc"), 4, 60, {"other": 3}), 60)
     same(build.chains_of(crates, {}), {"low": 3, "middle": 2, "anyk_cli": 1})
     gigabyte = 1_000_000_000
-    same([build.at_once(*it) for it in ((4, None), (4, 22 * gigabyte), (4, 5 * gigabyte), (4, gigabyte), (1, 22 * gigabyte))], [4, 4, 2, 1, 1])
+    same([build.at_once(*it) for it in ((4, None), (4, 22 * gigabyte), (4, 6 * gigabyte), (4, gigabyte), (1, 22 * gigabyte))], [4, 4, 2, 1, 1])
     # One process for each crate, unless processors have nothing to do and there is memory.
     same([build.shared(*it) for it in ((4, 8, 0, 5), (4, 8, 3, 1), (4, 8, 2, 1), (4, 8, 0, 1), (4, 8, 0, 2), (4, 4, 3, 1), (8, 3, 0, 1), (16, 32, 0, 2))],
          [1, 1, 2, 4, 2, 1, 3, 4])

@@ -59,7 +59,7 @@ DONE = re.compile(r"== (\w+)$")
 # How the log names a crate whose check was killed, most likely for memory.
 KILLED = re.compile(r"^\S+: failed \(-9\)$", re.M)
 # The memory that the proof of one crate may take, in bytes, and each further process that works at it.
-MEMORY = 2_200_000_000
+MEMORY = 2_600_000_000
 # How many processes work at one crate at most: with more, the parts that one of them does alone take most of the time.
 SHARED = 4
 # The prover's allocator gives memory that it does not need back to the system, and soon takes it again. Where it keeps all, a proof

@@ -1,20 +1,17 @@
-//! The engine of ranked enumeration over a plan, and the choice between the engines: anyK-part and
-//! anyK-rec of Tziavelis and others, "Optimal Algorithms for Ranked Enumeration of Answers to Full
-//! Conjunctive Queries", PVLDB 2020. Both give the same answers. The engine over a plan is the one
-//! that the command line names, or, if an item's rows are asked for, the one that gives the best
-//! answer of each row of the root.
-//!
-//! The commands that plan their queries, over a shelf of files and a sink: the input is read or
-//! made, its queries are planned, and the output is printed. Answers are taken from an engine of
-//! ranked enumeration over each plan, best first and one by one, within a bound on counted steps,
-//! and each is written by one call.
-//!
-//! The command `verify`, over a shelf of files and a sink: the input is read, its certificate is
-//! checked, and the answers that it lists are printed.
-//!
 //! The whole program, over a shelf of files and two sinks, one for the output and one for errors.
-//! The answers of a query are taken from an engine of ranked enumeration, best first and one by
-//! one, within a bound on counted steps. Each answer is written by one call.
+//!
+//! The commands but `verify` plan their queries: the input is read or made, its queries are
+//! planned, and the output is printed. Answers are taken from an engine of ranked enumeration over
+//! each plan, best first and one by one, and each record is written by one call. But for `prove`
+//! this is within a bound on counted steps.
+//!
+//! `engine_over` makes that engine. It is the one that the command line names, anyK-part or
+//! anyK-rec of Tziavelis and others, "Optimal Algorithms for Ranked Enumeration of Answers to Full
+//! Conjunctive Queries", PVLDB 2020, and both give the same answers. Or, if the best answers of an
+//! item's rows are asked for, it is the one that gives the best answer of each row of the root.
+//!
+//! The command `verify` plans nothing and calls no engine: the input is read, its certificate is
+//! checked, and the answers that it lists are printed.
 #![tactic(auto)]
 
 mod answering;

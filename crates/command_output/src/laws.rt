@@ -1,4 +1,5 @@
-//! What callers may rely on in any list of calls, as functions whose contracts state it.
+//! What callers of a set of cursors may rely on in any list of calls, as functions whose contracts
+//! state it.
 
 ghost use Rattle.std.specs.Prelude.{◌≡◌, ℕ, ◌+◌, ◌-◌, ◌^◌, ◌<◌, ◌≤◌, ◌⊎◌, Some, false, true, length, min};
 ghost use Rattle.command_output.specs.CursorSet.{IsOpen, Keeps, place_of, with_place};

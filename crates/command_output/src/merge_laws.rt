@@ -1,4 +1,4 @@
-//! TODO head.
+//! The law of the rankings of queries: they can be merged.
 ghost use Rattle.std.specs.Prelude.{List, map};
 ghost use Rattle.anyk_model.specs.Table.{Table};
 ghost use Rattle.anyk_model.specs.Query.{Query};

@@ -1,4 +1,5 @@
-//! Binary min-heaps of ranked entries, with counted steps.
+//! What the engines keep their entries in: binary min-heaps of ranked entries, and stores of linked
+//! entries that never move, both with counted steps and over any allocator.
 //!
 //! A list is a heap if no entry is before its parent; the parent of place i is place (i - 1) / 2.
 //! Lists are made heaps from the last parent up, in linear time (Floyd, "Algorithm 245: Treesort
@@ -7,14 +8,12 @@
 //! candidates: regions are divided as Lawler (1972) and Murty (1968) divide a problem, and each
 //! step offers the two places below one in a heap, the Take2 form of Tziavelis et al., "Optimal
 //! Algorithms for Ranked Enumeration of Answers to Full Conjunctive Queries", PVLDB 2020. The
-//! bounds count comparisons of ranks. Only `reserve` takes memory.
+//! bounds count comparisons of ranks. Of a heap's calls only `reserve` takes memory.
 //!
-//! A store of linked entries that never move, over any allocator. Over an arena such as `&Bump` it
-//! cannot outlive the arena.
-//!
-//! Entries are in buckets, each twice as large as the one before, so that a growing store moves
-//! none of them: the blocks of Brodnik, Carlsson, Demaine, Munro and Sedgewick, "Resizable Arrays
-//! in Optimal Time and Space", 1999.
+//! The entries of a store are in buckets, each twice as large as the one before, so that a growing
+//! store moves none of them: the blocks of Brodnik, Carlsson, Demaine, Munro and Sedgewick,
+//! "Resizable Arrays in Optimal Time and Space", 1999. Over an arena such as `&Bump` a store cannot
+//! outlive the arena.
 #![tactic(auto)]
 
 mod entry;

@@ -1,4 +1,4 @@
-//! Tables read from the bytes of csv files, and the bytes of records.
+//! Tables read from the bytes of csv files.
 //!
 //! A file is text as RFC 4180 has it, read by the crate `csv` with its defaults: commas between
 //! fields, double quotes around a field that needs them, and records of any length. A byte order

@@ -1,4 +1,4 @@
-//! TODO head.
+//! The laws of the keys of ranks that stand for the witnesses of a query.
 ghost use Rattle.std.specs.Prelude.{◌≡◌, ◌≤◌, ◌↔◌, ℕ, List, length, map};
 ghost use Rattle.std.specs.List.{AllByRecursion};
 ghost use Rattle.rankings.specs.Order.{IsRanking};

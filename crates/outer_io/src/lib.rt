@@ -1,18 +1,18 @@
-//! The outside of a program as two traits: a shelf of files that are read, and a sink that takes
-//! bytes.
+//! The outside of a program: files that are read, a sink that takes bytes, the refusals with which
+//! a run ends, and the files that `load` makes.
 //!
-//! Both follow `Read` and `Write` of `std::io`. Their contracts also count. A missing file, a
-//! failed read or a failed write may be returned only if a count rose, so that a caller that gives
-//! up without cause does not keep its contract. A count has 64 bits and stays at its last value;
-//! 'rose' means 'rose, or is there'. The contents of a shelf and the bytes that a sink has taken
-//! are known for the fakes in memory, and for none of the adapters to the system.
+//! A shelf of files and a sink are traits, which follow `Read` and `Write` of `std::io`. Their
+//! contracts also count. A missing file, a failed read or a failed write may be returned only if a
+//! count rose, so that a caller that gives up without cause does not keep its contract. A count has
+//! 64 bits and stays at its last value; 'rose' means 'rose, or is there'. The contents of a shelf
+//! and the bytes that a sink has taken are known for the fakes in memory, and for none of the
+//! adapters to the system.
 //!
-//! The program's refusals: the exit status of each, and its line on standard error, which is
-//! written without taking memory.
+//! A refusal has an exit status, and a line on standard error, which is written without taking
+//! memory.
 //!
-//! Generated input for measurements: four tables that join in a chain, and their query.
-//!
-//! The numbers are those of a linear congruential generator, with the multiplier 1103515245, the
+//! The generated input for measurements is four tables that join in a chain, and their query. Its
+//! numbers are those of a linear congruential generator, with the multiplier 1103515245, the
 //! increment 12345 and the modulus 2^31 (the generator that the C standard gives as an example of
 //! `rand`).
 #![tactic(auto)]

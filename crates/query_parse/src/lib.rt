@@ -1,7 +1,7 @@
 //! The query language: `parse` reads a query, `text` writes it in one form, and the laws say that
-//! tokens are the longest forms that begin at their places. The grammar is in `query_grammar` and
-//! the parts of a query are in `query_select`, so that crates which need only these do not wait for
-//! the rest.
+//! tokens are the longest forms that begin at their places. The grammar is in `languages` and the
+//! parts of a query are in `query_select`, so that crates which need only these do not wait for the
+//! rest.
 #![tactic(auto)]
 
 mod laws;
