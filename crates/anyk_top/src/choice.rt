@@ -22,6 +22,7 @@ use std::sync::ledger::Ledger;
 use tdp_core::{Answer, Ranked, Tree};
 
 /// One of the engines over a tree.
+#[derive(Drop)]
 pub enum ChosenEngine<'t, R: Rank> {
     /// All answers, by regions.
     Part(Part<'t, R, Global>),
@@ -29,17 +30,6 @@ pub enum ChosenEngine<'t, R: Rank> {
     Rec(Rec<'t, R, &'t Bump>),
     /// The best answer of each row of the root.
     Best(BestPer<'t, R, Global>),
-}
-
-impl<'t, R: Rank> Drop for ChosenEngine<'t, R> {
-    // By hand: what a derived one does is proved anew in each crate that drops an engine.
-    fn drop(self) {
-        match self {
-            ChosenEngine::Part(part) => drop(part),
-            ChosenEngine::Rec(rec) => drop(rec),
-            ChosenEngine::Best(best) => drop(best),
-        }
-    }
 }
 
 /// Creates the named engine over `tree`, before its first answer. It takes at most 16 * m * (1 + N)
