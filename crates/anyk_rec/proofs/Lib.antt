@@ -1,3 +1,4 @@
+pub mod Along
 pub mod BeginBegun
 pub mod BeginChildren
 pub mod BeginFirsts

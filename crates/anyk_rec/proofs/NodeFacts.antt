@@ -82,6 +82,11 @@ product_changed {R} children streams products n r c p e l =
         let here = get_or-set_same products r (slice_set (get_or products r []) c p) [] (row_inside products r c l) in
         (ap (λ (ps : List (ProductView R)). get_or ps c none) here ∙ get_or-set_same (get_or products r []) c p none l, refl)
 
+-- a product that was read
+pub product_read : {R : Type 0} (children : List ℕ) (streams : List (StreamView R)) (products : List (List (ProductView R))) (n : NodeStreamsView R) (r c : ℕ) (p : ProductView R)
+    → record { children = children; streams = streams; products = products } ≡ n → ((d : ProductView R) → p ≡ get_or (get_or products r []) c d) → p ≡ product_at n r c
+product_read children streams products n r c p e read = read (record { found = []; ranks = []; frontier = []; room = 0; frontier_room = 0 }) ∙ ap (λ m. product_at m r c) e
+
 -- a node whose lists of products become `new`
 module _ {R : Type 0} (children : List ℕ) (streams : List (StreamView R)) (products new : List (List (ProductView R))) (n : NodeStreamsView R) (is : record { children = children; streams = streams; products = products } ≡ n) where
   pub products_set : (r : ℕ) (ps : List (ProductView R)) → new ≡ slice_set products r ps

@@ -1,5 +1,5 @@
 -- What the rows of a solution are read from: what an entry keeps, and the parts of a solution of a row.
-use Rattle.std.proofs.Common.{◌≡◌, ℕ, zero, suc, ◌+◌, ◌<◌, None, List, length, get_or, refl, sym, ap, ◌∙◌, subst, inl, inr, arith}
+use Rattle.std.proofs.Common.{◌≡◌, ℕ, zero, suc, ◌+◌, ◌<◌, None, List, [], length, get_or, refl, sym, ap, ◌∙◌, subst, inl, inr, arith}
 use Rattle.std.proofs.lemmas.Bool.{cases_lt}
 use Rattle.std.proofs.lemmas.List.Elements.{All-get_or}
 use Rattle.containers.specs.declared.linked.Linked.{Linked}
@@ -14,9 +14,9 @@ use Rattle.anyk_rec.specs.declared.cell.Cell.{Cell}
 use Rattle.anyk_rec.specs.declared.source.Source.{Source}
 use Rattle.anyk_rec.specs.declared.stream.Found.{Found}
 use Rattle.anyk_rec.specs.declared.stream.Solved.{Solved}
-use Rattle.anyk_rec.specs.NodeStreamsView.{NodeStreamsView}
+use Rattle.anyk_rec.specs.NodeStreamsView.{NodeStreamsView, product_at}
 use Rattle.anyk_rec.specs.Rankings.{child, part_list, group_list}
-use Rattle.anyk_rec.specs.TreeStreams.{kept_of, IsKnownPart, IsSumOf, HasOwnParts, node_of, group_of, place_of, stream, products_of, product_of, stream_of, part_known, row_known, pair_of, run_of, IsStreams}
+use Rattle.anyk_rec.specs.TreeStreams.{kept_of, IsKnownPart, IsSumOf, HasOwnParts, node_of, group_of, place_of, stream, lists_of, products_of, product_of, stream_of, part_known, row_known, pair_of, run_of, IsStreams}
 use Rattle.anyk_rec.proofs.Stores.{node_value}
 use Rattle.anyk_rec.proofs.Sources.{sources_length, kept_at}
 use Rattle.anyk_rec.proofs.Firsts.{first_by_at}
@@ -106,6 +106,15 @@ module _ {R : Type 0} (d : ℕ) (key : R → KeyOf d 16) (t : List (NodeView R))
 
   abbrev sum_of : ℕ → ℕ → ℕ → Cell → KeyOf d 16
   sum_of v r c x = pair_key (key_add d 16) (key_none d 16) (part_list d key t v r c) (group_list d key t (child t v c) (group_named t v r c)) (pair_of es x)
+
+  -- the products of an opened row, in its node
+  pub in_products : (v r c : ℕ) (n : NodeStreamsView R) → lists_of nodes v ≡ n → v < length t → r < rows t v → c < child_count t v → 0 < length (products_of nodes v r) → c < length (get_or n.products r [])
+  in_products v r c n same l row in_kids some = subst (λ (m : NodeStreamsView R). c < length (get_or m.products r [])) same (omega (arith, in_kids, h.whole_rows v r l row some))
+
+  pub in_found : (v r c place : ℕ) (n : NodeStreamsView R) → lists_of nodes v ≡ n → 0 < length (products_of nodes v r) → IsKnownPart nodes v r (c + 1) place → place < length (product_at n r c).found
+  in_found v r c place n same some known =
+      let more : c + 1 ≡ suc c = omega arith in
+      subst (λ (m : NodeStreamsView R). place < length (product_at m r c).found) same (subst (λ z. place < part_known nodes v r z) more (known.found some))
 
   -- a solution of a product is the sum of its cell's parts
   pub product_cell : (v r c place : ℕ) (cell : Cell) → v < length t → r < rows t v → c < child_count t v → 0 < length (products_of nodes v r) → IsKnownPart nodes v r (c + 1) place

@@ -32,6 +32,9 @@ pub next_is : {R : Type 0} (es : List (Linked (Found R))) (i : ℕ) (o : Option 
 next_is [] i o l h = absurd (omega arith)
 next_is (e ∷ es) i o l h = next_value (e ∷ es) i e l ∙ h e
 
+pub next_read : {R : Type 0} (es : List (Linked (Found R))) (i : ℕ) (r o : Option ℕ) → i < length es → ((x : Linked (Found R)) → (get_or es i x).next ≡ r) → r ≡ o → next_of es i ≡ o
+next_read es i r o l h e = next_is es i r l h ∙ e
+
 -- the owner of an entry that was read
 pub owner_is : {R : Type 0} (es : List (Linked (Found R))) (i : ℕ) (f : Found R) → i < length es → ((x : Linked (Found R)) → (get_or es i x).value ≡ f) → (node_of es i ≡ f.node) × (group_of es i ≡ f.group)
 owner_is [] i f l h = absurd (omega arith)

@@ -62,7 +62,7 @@ impl<R: Rank, A: Allocator> NodeStreams<R, A> {
 
     /// The child at a place, from 0. Children are in ascending order.
     pub(crate) fn child(&self, place: usize) -> u32
-        requires { place < length self.now.children }
+        requires place { place < length self.now.children }
         ensures { result ≡ slice_index self.now.children place }
     {
         self.children[place]
@@ -70,7 +70,7 @@ impl<R: Rank, A: Allocator> NodeStreams<R, A> {
 
     /// The first entry of a group.
     pub(crate) fn head(&self, group: u32) -> EntryId
-        requires { group < length self.now.streams }
+        requires group { group < length self.now.streams }
         ensures { result ≡ (stream_at self.now group).head }
     {
         self.first_head.later(group)

@@ -146,7 +146,7 @@ fn make_chunk<T: Drop, A: Allocator + Clone>(
     number: usize,
     room: usize,
 ) -> Result<(), NoMemory>
-    requires { number ≤ length chunks.old.items }
+    requires number { number ≤ length chunks.old.items }
     ensures there { OnOk result (number < length chunks.new.items) }
     ensures longer { length chunks.old.items ≤ length chunks.new.items }
     ensures same { (j : ℕ) → slice_index_or (map (λ c. c.items) chunks.new.items) j []

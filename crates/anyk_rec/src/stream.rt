@@ -114,7 +114,7 @@ impl<R: Rank, A: Allocator + Clone> Stream<R, A> {
     /// Makes room in the queue for what can follow its top in a group of so many members.
     /// `NoMemory` if memory is refused.
     pub(crate) fn reserve(&mut self, alloc: &A, members: u32) -> Result<(), NoMemory>
-        requires { length self.old.entries ≤ members }
+        requires few { length self.old.entries ≤ members }
         ensures entries { self.new.entries ≡ self.old.entries }
         ensures room { OnOk result (can_enter members ≤ self.new.spare) }
     {

@@ -1,6 +1,10 @@
 -- What one call of a set of cursors shows, as its parts stand to the set before.
 use Rattle.std.proofs.Common.{◌≡◌, ℕ, zero, suc, ◌+◌, ◌<◌, ◌≤◌, Bool, false, if◌then◌else◌, false, Option, Some, None, IsSomeAnd, IfSome, List, [], ◌∷◌, ◌++◌, length, get_or, map, length-append, inl, inr, refl, sym, ap, ◌∙◌, subst, arith}
+use mir.Syntax.{w64}
+use mir.Val.{Fits}
 use Rattle.std.proofs.Math.ListN.{set}
+use Rattle.std.specs.Prelude.{Vec}
+use Rattle.std.specs.Global.{Global}
 use Rattle.std.specs.List.{All, slice_get}
 use Rattle.std.proofs.lemmas.Bool.{false≢true}
 use Rattle.std.proofs.lemmas.List.Elements.{All-set}
@@ -34,6 +38,10 @@ module _ {A : Type 0} where
 
   pub as_long : (xs ys : List A) (m n : ℕ) → m ≡ length xs → n ≡ length ys → ys ≡ xs → n ≡ m
   as_long xs ys m n h k e = k ∙ ap length e ∙ sym h
+
+-- the next place fits its type
+pub next_fits : {A : Type 0} (found : Vec A Global) (place : ℕ) → place + 1 ≤ found.len → Fits w64 (place + 1)
+next_fits found place h = omega (arith, h)
 
 module _ {A B : Type 0} (f : A → B) where
   -- one of the answers that were found

@@ -1,3 +1,4 @@
+pub mod AnswerPacing
 pub mod Begun
 pub mod Branches
 pub mod Compared
@@ -12,6 +13,7 @@ pub mod HandedOn
 pub mod Heads
 pub mod KeySums
 pub mod Left
+pub mod Limits
 pub mod Moves
 pub mod Names
 pub mod Places

@@ -1,6 +1,6 @@
 -- The rows of a combination and the columns of a query exist.
 use Rattle.std.proofs.Common.{◌≡◌, ◌<◌, ◌≤◌, ℕ, List, [], map, length, take, get_or, sym, ap, ◌∙◌, subst, arith, length-take}
-use Rattle.std.proofs.lemmas.List.{get_or-map, get_or-take, length-map}
+use Rattle.std.proofs.lemmas.List.{get_or-map, get_or-take, length-map, take_all}
 use Rattle.anyk_model.specs.Table.{Table, table_at}
 use Rattle.anyk_model.specs.Query.{Query, Item, Column, IsCombination, row_counts}
 use Rattle.anyk_model.proofs.Combinations.{combination_at, combination_length}
@@ -57,3 +57,7 @@ column_there query tables shown i d within stored inside =
       table = all_at (HasTable tables) query.items (get_or shown i d).0 (record { table = 0; alias = [] }) within.items there.item;
       column = there.place;
     }
+
+-- all columns that are stored are all that are selected
+pub all_columns : (shown : List (ℕ × ℕ)) (list : List Column) (i : ℕ) → map column_view shown ≡ list → length shown ≤ i → take i list ≡ list
+all_columns shown list i is end = take_all i list (omega (arith, ap length is, length-map shown column_view, end))

@@ -1,5 +1,5 @@
 -- A script that is run step by step.
-use Rattle.std.proofs.Common.{◌≡◌, ◌+◌, ◌<◌, ◌≤◌, ℕ, List, [], ◌∷◌, ◌++◌, Bool, Some, None, Result, Ok, Err, OnOk, IfErr, length, drop, get_or, replicate, refl, subst}
+use Rattle.std.proofs.Common.{◌≡◌, ◌+◌, ◌<◌, ◌≤◌, ℕ, List, [], ◌∷◌, ◌++◌, Bool, Some, None, Result, Ok, Err, OnOk, IfErr, length, drop, get_or, replicate, refl, subst, sym}
 use Rattle.std.specs.Prelude.{slice_set, take}
 use Rattle.command_output.specs.CursorSet.{CursorSet}
 use Rattle.outer_io.specs.declared.fault.PrintFault.{PrintFault}
@@ -73,6 +73,11 @@ next_taken share line ends members places number name place count old set cursor
           (held_at old.set set old.cursors places number name place held found cursor own put)) moved put;
       paid = next_paid (λ reach calls. Paid share old.set set reach calls old.steps steps r) ends members places name place count at paid;
     }
+
+-- a step that is another one
+pub taken_as : (share : List ℕ → ℕ → ℕ) (line : List ℕ → List ℕ → List ℕ) (ends : Bool) (members : List (List ℕ)) (places : Places) (step other : Step) (old new : State)
+    (r : Result (Unit {0}) PrintFault) → step ≡ other → IsTaken share line ends members places other old new r → IsTaken share line ends members places step old new r
+taken_as share line ends members places step other old new r is taken = subst (λ (s : Step). IsTaken share line ends members places s old new r) (sym is) taken
 
 -- ---- one step after another
 

@@ -1,5 +1,5 @@
 -- One call of a merge: one branch was called, and the others are as they were.
-use Rattle.std.proofs.Common.{◌≡◌, ◌<◌, ◌≤◌, ◌+◌, ◌∙◌, ℕ, Ok, Err, OnErr, Result, List, [], ◌∷◌, length, get_or, inl, inr, sym, ap, subst, arith, length-set}
+use Rattle.std.proofs.Common.{◌≡◌, ◌<◌, ◌≤◌, ◌+◌, ◌∙◌, ℕ, Option, Some, Ok, Err, OnErr, Result, List, [], ◌∷◌, length, get_or, inl, inr, sym, ap, subst, arith, length-set}
 use Rattle.std.specs.List.{All, AllByRecursion}
 use Rattle.std.proofs.Math.ListN.{set}
 use Rattle.std.proofs.lemmas.Bool.{cases_eq, cases_lt}
@@ -12,7 +12,7 @@ use Rattle.bound_query.specs.WeighedQuery.{BoundQuery, Fits}
 use Rattle.anyk_model.specs.TaggedRows.{Tagged, branch_at, tagged}
 use Rattle.anyk_model.specs.Union.{left_of}
 use Rattle.anyk_model.proofs.Merging.{merge_end, merge_step, some_list, tail_up}
-use Rattle.command_output.specs.Firsts.{HasFirst}
+use Rattle.command_output.specs.Firsts.{HasFirst, IsFirst}
 use Rattle.command_output.specs.Merge.{AreBranches, AreLeft, BranchView, EngineView, HasCalled, IsCalled, MergeView, engine_at, engines_of, lists_of, queries_of}
 use Rattle.command_output.proofs.Branches.{list_at}
 
@@ -23,6 +23,13 @@ merged tables branches = record {
   rest = left_of (queries_of branches) tables (lists_of branches);
   engines = engines_of branches;
 }
+
+-- the first branch, of those that a slice of them shows
+pub first_told : (tables : List Table) (slice branches : List BranchView) (o : Option ℕ) (first : ℕ) → slice ≡ branches → o ≡ Some first
+    → IsFirst (queries_of slice) tables (lists_of slice) (length slice) o → HasFirst (queries_of branches) tables (lists_of branches) (length branches) first
+first_told tables slice branches o first is at h =
+    subst (λ (l : List BranchView). HasFirst (queries_of l) tables (lists_of l) (length l) first) is
+    (subst (λ (o : Option ℕ). IsFirst (queries_of slice) tables (lists_of slice) (length slice) o) at h)
 
 -- what holds of any result
 pub on_error : {A X : Type 0} (result : Result A X) (P : Type 0) → P → OnErr result P

@@ -93,3 +93,6 @@ ok_has P (Err e) h p = absurd cc
 -- a place within what was written is within what is written then
 pub start_grows : (start : ℕ) (old new more pending : List ℕ) → start ≤ length old → new ≡ old ++ more → start ≤ length (new ++ pending)
 start_grows start old new more pending within is = omega (arith, ap length is, length-append old more, length-append new pending)
+
+pub start_grows_open : (start : ℕ) (old new more : List ℕ) → start ≤ length old → new ≡ old ++ more → start ≤ length new
+start_grows_open start old new more within is = omega (arith, ap length is, length-append old more)

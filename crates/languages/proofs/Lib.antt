@@ -21,6 +21,7 @@ pub mod Putting
 pub mod Rules
 pub mod Said
 pub mod SameKinds
+pub mod Sections
 pub mod Shorter
 pub mod Stepping
 pub mod Stuck

@@ -66,3 +66,22 @@ pub past_budget : (bound : BoundQuery) (tables : List Table) (join : JoinTree) (
     → (budget : ℕ) → budget < sum_by length rows → TellsFault bound tables join budget (fault.TooManyRows budget)
 past_budget bound tables join rows of_nodes budget past =
     inr (refl, record { rows = rows; of_nodes = record { count = of_nodes.count; each = of_nodes.each }; past = past })
+
+-- ---- the steps of loops over rows, over lists of rows and over children
+
+pub one_row : (old before after i n : ℕ) → before ≤ old + i * n → after ≤ before + n → after ≤ old + (i + 1) * n
+one_row old before after i n so_far more = omega arith
+
+pub rows_within : (old before after i n size : ℕ) → i < size → before ≤ old + i * n → after ≤ before + n → after ≤ old + size * n
+rows_within old before after i n size inside so_far more =
+    let less : i + 1 ≤ size = omega arith in
+    omega (arith, mul-le-mul_right n less)
+
+pub one_list : (old before after s l x t n : ℕ) → l ≡ x → t ≡ s + x → before ≤ old + s * n → after ≤ before + l * n → after ≤ old + t * n
+one_list old before after s l x t n same sum so_far more = omega (arith, ap (λ (k : ℕ). k * n) same, ap (λ (k : ℕ). k * n) sum)
+
+pub lists_within : (old before after s l x total n : ℕ) → l ≡ x → s + x ≤ total → before ≤ old + s * n → after ≤ before + l * n → after ≤ old + total * n
+lists_within old before after s l x total n same sum so_far more = omega (arith, ap (λ (k : ℕ). k * n) same, mul-le-mul_right n sum)
+
+pub one_child : (old before after k more : ℕ) → more ≡ k + 1 → before ≤ old + k → after ≡ before + 1 → after ≤ old + more
+one_child old before after k more sum so_far one = omega arith

@@ -1,5 +1,6 @@
 -- Numbers that are known of a line or a loop.
-use Rattle.std.proofs.Common.{◌≡◌, ℕ, suc, ◌+◌, ◌-◌, ◌<◌, ◌≤◌, arith}
+use Rattle.std.proofs.Common.{◌≡◌, ℕ, suc, ◌+◌, ◌-◌, ◌*◌, ◌<◌, ◌≤◌, Fits, arith}
+use mir.Syntax.{w32, w64}
 
 -- a count that has come to its end
 pub ended : (i n : ℕ) → i ≤ n → n ≤ i → i ≡ n
@@ -49,6 +50,35 @@ some_of a b e f = omega (arith, e, f)
 pub ended_from : (i v k n : ℕ) → (v + 1 ≤ k → i ≤ k) → k ≤ i → v < n → k ≡ n → i ≡ n
 ended_from i v k n low high l e = let last = low (omega (arith, l, e)) in omega (arith, last, high, e)
 
+-- a count from v, or from 1, that has come to its end
+pub ended_at : (i v k n : ℕ) → (v ≤ k → i ≤ k) → k ≤ i → v < n → k ≡ n → i ≡ n
+ended_at i v k n low high l e = let last = low (omega (arith, l, e)) in omega (arith, last, high, e)
+
+pub ended_some : (i k : ℕ) → (1 ≤ k → i ≤ k) → k ≤ i → 0 < k → i ≡ k
+ended_some i k low high some = let last = low (omega (arith, some)) in omega (arith, last, high)
+
+pub within_few : (i n m : ℕ) → i < n → n ≤ m → i < m
+within_few i n m l few = omega (arith, l, few)
+
+pub place_fits : (i n : ℕ) → i < n → n ≤ 16 → Fits w64 i
+place_fits i n l few = omega (arith, l, few)
+
+pub place_fits_4 : (i n : ℕ) → i < n → n ≤ 16 → Fits w64 (i * 4)
+place_fits_4 i n l few = omega (arith, l, few)
+
+pub not_both : (a b : ℕ) → a ≤ b → b < a → ⊥
+not_both a b l far = omega (arith, l, far)
+
+-- what is equal to something less, or both are
+pub less_of : (a b n : ℕ) → a ≡ b → b < n → a < n
+less_of a b n e l = omega (arith, e, l)
+
+pub less_both : (a b k n : ℕ) → a ≡ b → k ≡ n → a < k → b < n
+less_both a b k n e f l = omega (arith, e, f, l)
+
+pub least_both : (a b k n : ℕ) → a ≡ b → k ≡ n → a ≤ k → b ≤ n
+least_both a b k n e f l = omega (arith, e, f, l)
+
 pub above_root : (v q : ℕ) → v < q → 0 < q
 above_root v q l = omega (arith, l)
 
@@ -68,6 +98,9 @@ no_more n = omega arith
 -- a count of places that are 0 or 1
 pub few_added : (new old b r n : ℕ) → new ≡ old + b → b ≡ r → r ≤ 1 → old ≤ n → new ≤ n + 1
 few_added new old b r n e is small few = omega (arith, e, is, small, few)
+
+pub few_fits : (old b r i n : ℕ) → b ≡ r → r ≤ 1 → old ≤ i → i < n → n ≤ 16 → Fits w32 (old + b)
+few_fits old b r i n is small few l most = omega (arith, is, small, few, l, most)
 
 pub few_same : (new old n : ℕ) → new ≡ old → old ≤ n → new ≤ n + 1
 few_same new old n e few = omega (arith, e, few)

@@ -12,7 +12,7 @@ use Rattle.proof_check.specs.BoundedRows.{BoundedView}
 use Rattle.proof_check.proofs.Nodes.{all_nodes}
 use Rattle.proof_check.specs.declared.branches.Branch.{Branch}
 use Rattle.proof_check.specs.declared.offers.Offer.{Offer}
-use Rattle.proof_check.specs.Levels.{AreGroups, AreLeast, AreLists, AreOffers, CanLeave, FitOffers, FitsRows, HasLow}
+use Rattle.proof_check.specs.Levels.{AreGroups, AreLeast, AreLists, AreOffers, CanLeave, FitSums, FitsRows, HasLow}
 use Rattle.proof_check.specs.Levels.{IsFirstEarly, IsFirstPast, IsInGroup, IsLeftAfter, IsLeftBefore, IsListed, IsReady}
 use Rattle.proof_check.specs.Levels.{FitsGroup, IsOfferOf, IsPairAt, list_at, own_bounds}
 use Rattle.proof_check.proofs.FirstOpen.{all_past, first_past, past_not}
@@ -76,8 +76,8 @@ module _ {R : Type 0} (join : JoinTree) (tree : BoundedView R) (d : ℕ) (key : 
         let this = subst (IsOfferOf join tree d key p its.rows) (get_or_from_slice_get offers j o o here) all in
         (subst (IsInGroup join tree d key p b.group) this.0.2 (its.inside this.0.0 this.0.1), this.1)
 
-    pub offers_fit : CanLeave join tree d key p b → FitOffers d key b lists
-    offers_fit can = (its.within, λ j o here. let this = offer_is j o here in can.1 o.row (key o.low) this.0 this.1)
+    pub offers_fit : CanLeave join tree d key p b → FitSums d key b lists
+    offers_fit can j o here = let this = offer_is j o here in can.1 o.row (key o.low) this.0 this.1
 
     module _ (pairs : List (ℕ × ℕ)) (n : ℕ) where
       abbrev IsTakenRow : ℕ → Type 0

@@ -72,12 +72,11 @@ module _ {R : Type 0} (d : ℕ) (key : R → KeyOf d 16) where
       (i j : ℕ) (a b : Offer R) → i ≤ j → slice_get offers i ≡ Some a → slice_get offers j ≡ Some b
       → AtMost (key_below d 16) (key a.low) (key b.low)
 
-  -- what is known for the branch can be added to the offers of its group, which has a list
-  abbrev pub FitOffers : Branch R → List (List (Offer R)) → Type 0
-  FitOffers b lists =
-      (b.group < length lists)
-      × ((j : ℕ) (o : Offer R) → slice_get (slice_index_or lists b.group []) j ≡ Some o
-      → KeyFits d key (key_add d 16 (key b.base) (key o.low)))
+  -- what is known for the branch can be added to the offers of its group
+  abbrev pub FitSums : Branch R → List (List (Offer R)) → Type 0
+  FitSums b lists =
+      (j : ℕ) (o : Offer R) → slice_get (slice_index_or lists b.group []) j ≡ Some o
+      → KeyFits d key (key_add d 16 (key b.base) (key o.low))
 
   -- of these offers each before place j is taken
   abbrev pub AreTaken : List (ℕ × ℕ) → ℕ → List (Offer R) → ℕ → Type 0

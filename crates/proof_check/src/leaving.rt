@@ -6,7 +6,7 @@ ghost use Rattle.std.specs.Prelude.{slice_index, slice_index_or, slice_set, vec_
 ghost use Rattle.rankings.specs.KeyTuple.{KeyOf};
 ghost use Rattle.tdp_core.specs.RawView.{raw_len};
 ghost use Rattle.proof_check.specs.BoundedRows.{bound_ranks};
-ghost use Rattle.proof_check.specs.Levels.{AreBranches, AreGroups, AreLeast, AreLists, CanLeave, FitsGroup, FitOffers};
+ghost use Rattle.proof_check.specs.Levels.{AreBranches, AreGroups, AreLeast, AreLists, CanLeave, FitsGroup, FitSums};
 ghost use Rattle.proof_check.specs.Levels.{IsFirstEarly, IsFirstPast, IsLesser, IsListed, IsPast, IsReady, IsWay};
 ghost use Rattle.proof_check.specs.Levels.{list_at, own_bounds};
 
@@ -111,9 +111,11 @@ fn branches_leave_after<R: Rank, L: Ledger>(
     last: &Option<R>,
     steps: &mut Steps<L>,
 ) -> bool
-    requires { (n : ℕ) (b : Branch R) → n < length branches.now
+    requires group { (n : ℕ) (b : Branch R) → n < length branches.now
+        → slice_index_or branches.now n None ≡ Some b → b.group < length lists.now }
+    requires fits { (n : ℕ) (b : Branch R) → n < length branches.now
         → slice_index_or branches.now n None ≡ Some b
-        → FitOffers R.KEYS R.key b (map (λ l. l.items) lists.now) }
+        → FitSums R.KEYS R.key b (map (λ l. l.items) lists.now) }
     ensures passed { result ≡ true → (n : ℕ) (b : Branch R) → n < length branches.now
         → slice_index_or branches.now n None ≡ Some b
         → IsFirstPast R.KEYS R.key taken.now n (option_map R.key last.now) b
@@ -142,7 +144,7 @@ fn branch_leaves_after<R: Rank, L: Ledger>(
 ) -> bool
     requires group { (b : Branch R) → branch ≡ Some b → b.group < length lists.now }
     requires fits { (b : Branch R) → branch ≡ Some b
-        → FitOffers R.KEYS R.key b (map (λ l. l.items) lists.now) }
+        → FitSums R.KEYS R.key b (map (λ l. l.items) lists.now) }
     ensures passed { result ≡ true → (b : Branch R) → branch ≡ Some b
         → IsFirstPast R.KEYS R.key taken.now number (option_map R.key last.now) b
         (map (λ l. l.items) lists.now) }

@@ -2,6 +2,7 @@ pub mod Judging
 pub mod Ends
 pub mod Inputs
 pub mod PlanList
+pub mod Pushed
 pub mod AllItems
 pub mod Asides
 pub mod Best

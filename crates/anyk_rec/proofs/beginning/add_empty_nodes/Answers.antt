@@ -1,4 +1,4 @@
-use Rattle.std.proofs.Common.{◌+◌, List, length, sym, ap, ◌∙◌, subst}
+use Rattle.std.proofs.Common.{◌≡◌, ◌+◌, List, [], ◌∷◌, ◌++◌, length, sym, ap, ◌∙◌, subst}
 use Rattle.anyk_rec.specs.NodeStreamsView.{NodeStreamsView}
 use Rattle.anyk_rec.specs.TreeStreams.{lists_of}
 use Rattle.anyk_rec.specs.Beginnings.{IsEmptyNode}
@@ -10,7 +10,7 @@ use Rattle.anyk_rec.proofs.beginning.add_empty_nodes.Goals as goal
 pub loop-node-preserved : goal.loop-node-preserved
 loop-node-preserved g c =
     let t = c.args.tree.now in
-    let same = c.in_ok-push.ensures.items in
+    let same : c.push.new.self.items ≡ c.loop-node.nodes.items ++ (c.in_ok-empty.empty ∷ []) = c.in_ok-push.ensures.items in
     record {
       count = ap length same ∙ length_behind c.loop-node.nodes.items c.in_ok-empty.empty ∙ ap (λ z. z + 1) c.loop-node.invariant.count;
       empty = λ v l. subst (λ (ns : List (NodeStreamsView g.row.R.Denot)). IsEmptyNode t v (lists_of ns v)) (sym same)

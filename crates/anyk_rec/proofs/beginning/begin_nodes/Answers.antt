@@ -14,6 +14,15 @@ below_start v n some few = omega arith
 one_back : (v : ℕ) → 0 < v → v ≡ v - 1 + 1
 one_back v some = omega arith
 
+at_most : (v n : ℕ) → v ≡ n → v ≤ n
+at_most v n e = omega arith
+
+one_less : (v n : ℕ) → v ≤ n → v - 1 ≤ n
+one_less v n few = omega arith
+
+none_left : (v : ℕ) → v ≤ 0 → v ≡ 0
+none_left v few = omega arith
+
 more_within : (s n : ℕ) → s ≤ s + n
 more_within s n = omega arith
 
@@ -24,8 +33,8 @@ loop-node-init g c =
       begun = subst (λ (es : List (Linked (Found g.row.R.Denot))). IsBegunFrom g.R.Rank.KEYS g.R.Rank.key t es c.add_empty_nodes.new.nodes.items c.nodes-node.result) (sym c.requires.entries)
           (subst (IsBegunFrom g.R.Rank.KEYS g.R.Rank.key t [] c.add_empty_nodes.new.nodes.items) (sym c.nodes-node.ensures.count)
           (from_none g.R.Rank.KEYS g.R.Rank.key t c.add_empty_nodes.new.nodes.items c.in_ok-add_empty_nodes.ensures.count c.in_ok-add_empty_nodes.ensures.empty));
-      cost = omega arith;
-      within = omega (arith, c.nodes-node.ensures.count);
+      cost = more_within _ _;
+      within = at_most _ _ c.nodes-node.ensures.count;
     }
 
 pub loop-node-preserved : goal.loop-node-preserved
@@ -34,7 +43,7 @@ loop-node-preserved g c =
     record {
       begun = c.in_ok-begin_node.ensures.begun;
       cost = omega (arith, c.begin_node.ensures.cost, c.loop-node.invariant.cost, rows_more g.R.Rank.KEYS g.R.Rank.key t (c.loop-node.node - 1) c.loop-node.node (omega (arith, c.loop-node-test.true, c.loop-node.invariant.within)) (omega (arith, c.loop-node-test.true)));
-      within = omega (arith, c.loop-node.invariant.within);
+      within = one_less _ _ c.loop-node.invariant.within;
     }
 
 pub begin_node-requires-clause-node : goal.begin_node-requires-clause-node
@@ -75,7 +84,7 @@ returns g c =
     record {
       formed = c.nodes-node.ensures.formed;
       begun =
-          let none : c.loop-node.node ≡ 0 = omega (arith, c.loop-node-test.false) in
+          let none : c.loop-node.node ≡ 0 = none_left _ c.loop-node-test.false in
           subst (IsBegunFrom g.R.Rank.KEYS g.R.Rank.key c.args.tree.now c.loop-node.entries.entries c.loop-node.nodes.items) none c.loop-node.invariant.begun;
       cost = omega (arith, c.loop-node.invariant.cost, start_steps g.R.Rank.KEYS g.R.Rank.key c.args.tree.now c.nodes-node.ensures.formed c.loop-node.node (omega (arith, c.loop-node.invariant.within)));
     }

@@ -14,3 +14,21 @@ returns g c =
       right = subst (λ m. IsFirstBelow g.R.Rank.KEYS g.R.Rank.key c.args.tree.now c.args.entries.now.entries c.args.node c.args.group 1 m c.first_below-2.result) second c.first_below-2.ensures.below;
       cost = both_steps _ _ _ c.first_below.ensures.cost c.first_below-2.ensures.cost;
     }
+
+pub first_below-requires-clause-formed : goal.first_below-requires-clause-formed
+first_below-requires-clause-formed g c = c.requires.formed
+
+pub first_below-requires-clause-node : goal.first_below-requires-clause-node
+first_below-requires-clause-node g c = c.requires.node
+
+pub first_below-requires-clause-group : goal.first_below-requires-clause-group
+first_below-requires-clause-group g c = c.requires.group
+
+pub first_below-requires-2-clause-formed : goal.first_below-requires-2-clause-formed
+first_below-requires-2-clause-formed g c = c.requires.formed
+
+pub first_below-requires-2-clause-node : goal.first_below-requires-2-clause-node
+first_below-requires-2-clause-node g c = c.requires.node
+
+pub first_below-requires-2-clause-group : goal.first_below-requires-2-clause-group
+first_below-requires-2-clause-group g c = c.requires.group

@@ -29,6 +29,12 @@ room_left j r r' few e = omega arith
 room_right : (j r r' : ℕ) → min 2 (2 * j + 2) ≤ r → r ≡ r' → 1 < r'
 room_right j r r' few e = omega arith
 
+no_more : (s : ℕ) → s ≤ s + 8
+no_more s = omega arith
+
+first_steps : (s f p b b1 b2 n n1 n2 : ℕ) → p ≤ f + 2 * b + b1 + b2 → f ≤ s + 8 → n ≡ b → n1 ≡ b1 → n2 ≡ b2 → p ≤ s + 8 + 2 * n + n1 + n2
+first_steps s f p b b1 b2 n n1 n2 h l e e1 e2 = omega arith
+
 -- only the queue of group k of node v changed
 queue_alone : {R : Type 0} (n : List (NodeStreamsView R)) (v k : ℕ) (old new : NodeStreamsView R) → v < length n → old ≡ get_or n v old → new ≡ with_queue old k (stream_at new k).queue (stream_at new k).room
     → slice_set n v new ≡ slice_set n v (with_queue (lists_of n v) k (stream_of (slice_set n v new) v k).queue (stream_of (slice_set n v new) v k).room)
@@ -63,7 +69,7 @@ returns-then-place-eq1 g c =
           let new = c.pass.new.self in
           let left = c.firsts_below-left.result.0 in
           let right = c.firsts_below-left.result.1 in
-          let one : 1 ≡ c.args.place = omega (arith, c.if-place-eq1.true) in
+          let one : 1 ≡ c.args.place = sym c.if-place-eq1.true in
           let inside : v < length n = in_same _ _ _ c.requires.node c.requires.formed.all_nodes in
           let below : (j : ℕ) (o : Option (Entry g.row.R.Denot Source)) → IsFirstBelow g.R.Rank.KEYS g.R.Rank.key c.args.tree.now c.args.entries.now.entries v k 1 j o → IsFirstBelow g.R.Rank.KEYS g.R.Rank.key c.args.tree.now c.args.entries.now.entries v k c.args.place j o =
           λ j o b. subst (λ p. IsFirstBelow g.R.Rank.KEYS g.R.Rank.key c.args.tree.now c.args.entries.now.entries v k p j o) one b in (
@@ -79,14 +85,8 @@ returns-then-place-eq1 g c =
           let inside : c.args.node < length n = in_same _ _ _ c.requires.node c.requires.formed.all_nodes in
           let before = lists_at n c.args.node c.index_mut.result.now c.index_mut.ensures.value inside in
           let after = lists_same n c.args.node c.pass.new.self inside in
-          omega (
-            arith,
-            c.pass.ensures.cost,
-            c.firsts_below-left.ensures.cost,
-            ap (λ (z : NodeStreamsView g.row.R.Denot). bit_length (length (stream_at z c.args.group).queue)) before,
-            ap (λ (z : NodeStreamsView g.row.R.Denot). bit_length (length (stream_at z c.args.group).queue + 1)) before,
-            ap (λ (z : NodeStreamsView g.row.R.Denot). bit_length (length (stream_at z c.args.group).queue)) after,
-          );
+          first_steps _ _ _ _ _ _ _ _ _ c.pass.ensures.cost c.firsts_below-left.ensures.cost (ap (λ (z : NodeStreamsView g.row.R.Denot). bit_length (length (stream_at z c.args.group).queue)) before)
+          (ap (λ (z : NodeStreamsView g.row.R.Denot). bit_length (length (stream_at z c.args.group).queue + 1)) before) (ap (λ (z : NodeStreamsView g.row.R.Denot). bit_length (length (stream_at z c.args.group).queue)) after);
       changed = queue_alone c.args.nodes.now.items c.args.node c.args.group c.index_mut.result.now c.pass.new.self (in_same _ _ _ c.requires.node c.requires.formed.all_nodes) c.index_mut.ensures.value c.pass.ensures.changed;
       least =
           λ e.
@@ -113,13 +113,8 @@ returns-else-place-eq1 g c =
           let inside : c.args.node < length n = in_same _ _ _ c.requires.node c.requires.formed.all_nodes in
           let before = lists_at n c.args.node c.index_mut-else-place-eq1.result.now c.index_mut-else-place-eq1.ensures.value inside in
           let after = lists_same n c.args.node c.pass-else-place-eq1.new.self inside in
-          omega (
-            arith,
-            c.pass-else-place-eq1.ensures.cost,
-            ap (λ (z : NodeStreamsView g.row.R.Denot). bit_length (length (stream_at z c.args.group).queue)) before,
-            ap (λ (z : NodeStreamsView g.row.R.Denot). bit_length (length (stream_at z c.args.group).queue + 1)) before,
-            ap (λ (z : NodeStreamsView g.row.R.Denot). bit_length (length (stream_at z c.args.group).queue)) after,
-          );
+          first_steps _ _ _ _ _ _ _ _ _ c.pass-else-place-eq1.ensures.cost (no_more _) (ap (λ (z : NodeStreamsView g.row.R.Denot). bit_length (length (stream_at z c.args.group).queue)) before)
+          (ap (λ (z : NodeStreamsView g.row.R.Denot). bit_length (length (stream_at z c.args.group).queue + 1)) before) (ap (λ (z : NodeStreamsView g.row.R.Denot). bit_length (length (stream_at z c.args.group).queue)) after);
       moved =
           let v = c.args.node in
           let k = c.args.group in

@@ -19,7 +19,7 @@ pub returns : goal.returns
 returns g c =
     let longer = one_longer _ _ _ _ c.push_reserved.ensures.items c.in_ok-reserve.ensures.items in
     record {
-      there = in_longer _ _ _ c.requires longer;
+      there = in_longer _ _ _ c.requires.number longer;
       longer = more_long _ _ longer;
       same = λ j.
           ap (λ vs. get_or (items_of vs) j []) c.push_reserved.ensures.items ∙ empty_behind c.reserve.new.self.items c.in_ok-chunk.chunk c.in_ok-chunk.ensures.items j

@@ -1,4 +1,4 @@
-use Rattle.std.proofs.Common.{[], ◌≡◌, suc, ℕ, ◌+◌, ◌<◌, ◌≤◌, length, get_or, is_some, sym, ap, ◌∙◌, subst, arith}
+use Rattle.std.proofs.Common.{Fits, w64, [], ◌≡◌, suc, ℕ, ◌+◌, ◌<◌, ◌≤◌, length, get_or, is_some, sym, ap, ◌∙◌, subst, arith}
 use Rattle.tdp_core.specs.TreeView.{parent}
 use Rattle.tdp_core.proofs.Children.{kids_below_most}
 use Rattle.containers.specs.Order.{IsLeast}
@@ -27,6 +27,9 @@ next_is c = omega arith
 
 few_steps : (s : ℕ) → s ≤ s + 3
 few_steps s = omega arith
+
+child_fits : (i k n : ℕ) → i < k → k ≤ n → n ≤ 16 → Fits w64 (i + 1)
+child_fits i k n l most few = omega arith
 
 -- # What the proofs share
 
@@ -57,10 +60,7 @@ module _ (g : Over) where
 
 pub overflow_add-child : goal.overflow_add-child
 overflow_add-child g c =
-    let most = kids_below_most (parent c.args.tree.now) c.args.node (length c.args.tree.now) in
-    let few = c.requires.formed.tree.shaped.few_nodes in
-    let kids = child_in g.R.Rank.KEYS g.R.Rank.key c.args.tree.now c.args.entries.now.entries c.args.nodes.now c.requires.formed c.args.node c.args.row c.args.child c.requires.node c.requires.row c.requires.child in
-    omega (arith, most, few, kids)
+    child_fits _ _ _ (child_in g.R.Rank.KEYS g.R.Rank.key c.args.tree.now c.args.entries.now.entries c.args.nodes.now c.requires.formed c.args.node c.args.row c.args.child c.requires.node c.requires.row c.requires.child) (kids_below_most (parent c.args.tree.now) c.args.node (length c.args.tree.now)) c.requires.formed.tree.shaped.few_nodes
 
 pub cell-cell-requires-clause-place : goal.cell-cell-requires-clause-place
 cell-cell-requires-clause-place g c =

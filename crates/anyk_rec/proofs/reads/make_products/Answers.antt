@@ -1,8 +1,10 @@
-use Rattle.std.proofs.Common.{◌≡◌, ℕ, suc, ◌+◌, ◌*◌, ◌<◌, ◌≤◌, length, sym, ap, ◌∙◌, subst, arith}
-use Rattle.std.proofs.lemmas.Bool.{cond-true, lt-ltb}
-use Rattle.tdp_core.specs.TreeView.{child_count, group_named}
+use Rattle.std.proofs.Common.{Fits, w64, ◌≡◌, ℕ, suc, ◌+◌, ◌*◌, ◌<◌, ◌≤◌, true, ltb, cond, [], ◌∷◌, length, sym, ap, ◌∙◌, subst, arith}
+use Rattle.std.proofs.lemmas.Bool.{lt-ltb}
+use Rattle.tdp_core.specs.TreeView.{child_count, group_named, parent}
+use Rattle.tdp_core.proofs.Children.{kids_below_most}
 use Rattle.anyk_rec.specs.Rankings.{child}
 use Rattle.anyk_rec.specs.TreeStreams.{stream_of, AreFreshTo}
+use Rattle.anyk_rec.proofs.Along.{along}
 use Rattle.anyk_rec.proofs.Rankings.{own_first}
 use Rattle.anyk_rec.proofs.Firsts.{first_longer, firsts_fit}
 use Rattle.anyk_rec.proofs.Errors.{none_done}
@@ -38,6 +40,9 @@ child_steps s l s1 s2 s3 i n within start head read joined = omega arith
 next_child : (s l s1 s2 s3 i : ℕ) → l ≡ s + 1 + 3 * i → s1 ≡ l + 1 → s2 ≡ s1 + 1 → s3 ≡ s2 + 1 → s3 ≡ s + 1 + 3 * (i + 1)
 next_child s l s1 s2 s3 i start head read joined = omega arith
 
+child_fits : (i k n : ℕ) → i < k → k ≤ n → n ≤ 16 → Fits w64 (i + 1)
+child_fits i k n l most few = omega arith
+
 pub loop-child-init : goal.loop-child-init
 loop-child-init g c = record {
   key = c.row_at-rank.ensures.rank ∙ sym (own_first g.R.Rank.KEYS g.R.Rank.key c.args.tree.now c.requires.formed c.args.node c.args.row c.requires.node);
@@ -60,7 +65,7 @@ loop-child-preserved g c =
     let longer = first_longer g.R.Rank.KEYS g.R.Rank.key c.args.tree.now c.requires.formed c.requires.tie_free c.args.node c.args.row c.loop-child.child _ _ (g.R.Rank.key c.join-rank.result) c.requires.node c.requires.row kid_in c.loop-child.invariant.key k c.join-rank.ensures.sum in
     record {
       key = longer;
-      fresh = product_made g.R.Rank.KEYS g.R.Rank.key c.args.tree.now c.args.nodes.now c.args.node c.args.row c.loop-child.child c.child_head-head.result c.loop-child.products.items _ c.in_ok-product.product c.join-rank.result c.loop-child.invariant.fresh c.in_ok-push.ensures.items c.in_ok-product.ensures.found c.in_ok-product.ensures.frontier c.child_head-head.ensures.head longer (λ few. c.in_ok-product.ensures.ranks ∙ cond-true _ _ _ (lt-ltb (c.loop-child.child + 1) c.child_count-children.result (not_last _ _ _ _ few c.child_count-children.ensures kids)));
+      fresh = product_made g.R.Rank.KEYS g.R.Rank.key c.args.tree.now c.args.nodes.now c.args.node c.args.row c.loop-child.child c.child_head-head.result c.loop-child.products.items _ c.in_ok-product.product c.join-rank.result c.loop-child.invariant.fresh c.in_ok-push.ensures.items c.in_ok-product.ensures.found c.in_ok-product.ensures.frontier c.child_head-head.ensures.head longer (λ few. along (λ b. c.in_ok-product.product.ranks ≡ cond b (c.join-rank.result ∷ []) []) (ltb (c.loop-child.child + 1) c.child_count-children.result) true (lt-ltb (c.loop-child.child + 1) c.child_count-children.result (not_last _ _ _ _ few c.child_count-children.ensures kids)) c.in_ok-product.ensures.ranks);
       steps = next_child _ _ _ _ _ _ c.loop-child.invariant.steps c.child_head-head.ensures.cost c.get.ensures.cost c.join-rank.ensures.counted;
     }
 
@@ -125,3 +130,8 @@ returns g c =
       fresh = subst (λ n. AreFreshTo g.R.Rank.KEYS g.R.Rank.key c.args.tree.now c.args.nodes.now c.args.node c.args.row n c.loop-child.products.items) end c.loop-child.invariant.fresh;
       cost = all_steps _ _ _ _ end c.loop-child.invariant.steps;
     }
+
+pub overflow_add-child : goal.overflow_add-child
+overflow_add-child g c =
+    let kids : length c.index-nodes-node.result.children ≡ child_count c.args.tree.now c.args.node = children_count g.R.Rank.KEYS g.R.Rank.key c.args.tree.now c.args.entries.now.entries c.args.nodes.now c.args.node c.args.row c.index-nodes-node.result c.requires.headed c.requires.node c.index-nodes-node.is in
+    child_fits _ _ _ (in_kids _ _ _ _ c.loop-child-test.true c.child_count-children.ensures kids) (kids_below_most (parent c.args.tree.now) c.args.node (length c.args.tree.now)) c.requires.formed.shaped.few_nodes

@@ -1,8 +1,9 @@
-use Rattle.std.proofs.Common.{◌≡◌, ◌≢◌, ℕ, ◌+◌, ◌-◌, ◌<◌, ◌≤◌, [], length, get_or, refl, sym, ap, ◌∙◌, subst, arith}
+use Rattle.std.proofs.Common.{◌≡◌, ◌≢◌, ℕ, ◌+◌, ◌*◌, ◌-◌, ◌<◌, ◌≤◌, [], length, get_or, refl, sym, ap, ◌∙◌, subst, arith}
 use Rattle.rankings.specs.KeyTuple.{key_none}
 use Rattle.anyk_rec.specs.NodeStreamsView.{known_of}
 use Rattle.anyk_rec.specs.Rankings.{part_list}
 use Rattle.anyk_rec.specs.TreeStreams.{IsSumOf, lists_of, products_of, part_known}
+use Rattle.anyk_rec.proofs.Along.{along}
 use Rattle.anyk_rec.proofs.Heads.{lists_at}
 use Rattle.anyk_rec.proofs.reads.row_offer.Given.{Over}
 use Rattle.anyk_rec.proofs.reads.row_offer.Goals.{After-child_count-count, then-count-eq0-via-then-count-eq0, then-count-eq0-via-else-count-eq0+then-known-place}
@@ -27,6 +28,18 @@ some_is k some = omega arith
 
 before_end : (k m n i : ℕ) → n ≡ i + 1 → m ≡ n → k ≡ m → k - 1 ≡ i
 before_end k m n i e f h = omega arith
+
+sum_steps : (s r k n m : ℕ) → r ≤ s + 3 → n ≡ m → k ≡ n → k ≢ 0 → r ≤ s + 3 * m
+sum_steps s r k n m h e f some = omega arith
+
+known_in : (p r a b d : ℕ) → p < r → r ≡ a → b ≡ a → b ≡ d → p < d
+known_in p r a b d l e f h = omega arith
+
+known_before : (p r a b d : ℕ) → r ≤ p → r ≡ a → b ≡ a → b ≡ d → d ≤ p
+known_before p r a b d l e f h = omega arith
+
+one_place : (p : ℕ) → 0 < p → 1 ≤ p
+one_place p some = omega arith
 
 few_steps : (s n : ℕ) → s ≤ s + n
 few_steps s n = omega arith
@@ -58,7 +71,7 @@ known_sum-sum-requires-clause-place g c =
     let n = c.args.nodes.now in
     let same = lists g at.After-child_count-count in
     let more : c.child_count-count.result ≡ c.child_count-count.result - 1 + 1 = last_is _ c.if-count-eq0.false in
-    omega (arith, ap (λ k. part_known n c.args.node c.args.row k) more, ap (λ m. known_of m c.args.row c.child_count-count.result) same, c.known.ensures, c.if-known-place.false)
+    known_in _ _ _ _ _ c.if-known-place.false c.known.ensures (ap (λ m. known_of m c.args.row c.child_count-count.result) same) (ap (λ k. part_known n c.args.node c.args.row k) more)
 
 pub offset_bounds-nodes-node : goal.offset_bounds-nodes-node
 offset_bounds-nodes-node g c = omega (arith, c.requires.formed.all_nodes, c.requires.node)
@@ -85,7 +98,7 @@ returns g c =
       none = tt;
       key =
           let last : c.child_count-count.result - 1 + 1 ≡ length (products_of c.args.nodes.now c.args.node c.args.row) = sym (last_is _ c.if-count-eq0.false) ∙ whole g at.After-child_count-count in
-          c.known_sum-sum.ensures.key ∙ ap (λ k. get_or (part_list g.R.Rank.KEYS g.R.Rank.key c.args.tree.now c.args.node c.args.row k) c.args.place (key_none g.R.Rank.KEYS 16)) last;
+          along (λ k. g.R.Rank.key c.known_sum-sum.result.rank ≡ get_or (part_list g.R.Rank.KEYS g.R.Rank.key c.args.tree.now c.args.node c.args.row k) c.args.place (key_none g.R.Rank.KEYS 16)) (c.child_count-count.result - 1 + 1) (length (products_of c.args.nodes.now c.args.node c.args.row)) last c.known_sum-sum.ensures.key;
       parts = (
         refl,
         c.requires.number,
@@ -93,11 +106,11 @@ returns g c =
             let last : c.child_count-count.result - 1 ≡ i = before_end _ _ _ _ kids c.requires.opened (whole g at.After-child_count-count) in
             subst (λ z. IsSumOf g.R.Rank.KEYS g.R.Rank.key c.args.tree.now c.args.entries.now.entries c.args.nodes.now c.args.node c.args.row z c.args.place c.known_sum-sum.result.tag) last c.known_sum-sum.ensures.sum,
       );
-      cost = omega (arith, c.known_sum-sum.ensures.cost, c.requires.opened, whole g at.After-child_count-count, c.if-count-eq0.false);
+      cost = sum_steps _ _ _ _ _ c.known_sum-sum.ensures.cost c.requires.opened (whole g at.After-child_count-count) c.if-count-eq0.false;
       known =
           let n = c.args.nodes.now in
           let same = lists g at.After-child_count-count in
-          omega (arith, ap (λ k. part_known n c.args.node c.args.row k) (whole g at.After-child_count-count), ap (λ m. known_of m c.args.row c.child_count-count.result) same, c.known.ensures, c.if-known-place.false);
+          known_in _ _ _ _ _ c.if-known-place.false c.known.ensures (ap (λ m. known_of m c.args.row c.child_count-count.result) same) (ap (λ k. part_known n c.args.node c.args.row k) (whole g at.After-child_count-count));
       source = (refl, refl);
     }
 
@@ -109,8 +122,8 @@ returns-then-count-eq0 g c =
           let same = lists g at.After-child_count-count in
           let all = whole g at.After-child_count-count in
           elim c.then-count-eq0.branch [
-            | then-count-eq0-via-then-count-eq0 w ↦ subst (λ k. part_known c.args.nodes.now c.args.node c.args.row k ≤ c.args.place) (sym w.if-count-eq0.true ∙ all) (omega (arith, c.requires.place))
-            | then-count-eq0-via-else-count-eq0+then-known-place w ↦ omega (arith, w.known.ensures, ap (λ m. known_of m c.args.row c.child_count-count.result) same, ap (λ k. part_known c.args.nodes.now c.args.node c.args.row k) all, w.if-known-place.true)
+            | then-count-eq0-via-then-count-eq0 w ↦ subst (λ k. part_known c.args.nodes.now c.args.node c.args.row k ≤ c.args.place) (sym w.if-count-eq0.true ∙ all) (one_place _ c.requires.place)
+            | then-count-eq0-via-else-count-eq0+then-known-place w ↦ known_before _ _ _ _ _ w.if-known-place.true w.known.ensures (ap (λ m. known_of m c.args.row c.child_count-count.result) same) (ap (λ k. part_known c.args.nodes.now c.args.node c.args.row k) all)
           ];
       cost = few_steps _ _;
       known = tt;

@@ -19,7 +19,7 @@ module _ (g : Over) where
   child_within c = subst (λ v. v < length c.args.nodes.now) (child_is c) c.requires.below
 
 pub child-child_node-requires : goal.child-child_node-requires
-child-child_node-requires g c = subst (λ n. c.args.child < length n.children) (lists_at c.args.nodes.now c.args.node c.index-nodes-node.result c.index-nodes-node.is c.requires.node) c.requires.child
+child-child_node-requires g c = record { place = subst (λ n. c.args.child < length n.children) (lists_at c.args.nodes.now c.args.node c.index-nodes-node.result c.index-nodes-node.is c.requires.node) c.requires.child }
 
 pub bounds-nodes-child_node : goal.bounds-nodes-child_node
 bounds-nodes-child_node g c = child_within g c

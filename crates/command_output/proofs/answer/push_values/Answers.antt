@@ -1,10 +1,10 @@
-use Rattle.std.proofs.Common.{◌≡◌, ◌-◌, ℕ, List, get_or, length, take, ap, ◌∙◌, sym, subst, arith}
+use Rattle.std.proofs.Common.{◌≡◌, ◌-◌, ◌++◌, ℕ, List, get_or, length, map, take, ap, ◌∙◌, sym, subst, arith}
 use Rattle.anyk_model.specs.Table.{field_at, table_at}
-use Rattle.anyk_model.specs.Query.{value_of}
+use Rattle.anyk_model.specs.Query.{Column, value_of}
 use Rattle.bound_query.specs.Items.{item_at}
 use Rattle.bound_query.specs.StoredParts.{column_view}
 use Rattle.command_output.specs.WrittenRecords.{HasFields}
-use Rattle.command_output.proofs.Places.{column_there, row_there}
+use Rattle.command_output.proofs.Places.{all_columns, column_there, row_there}
 use Rattle.command_output.proofs.Pushing.{element_more}
 use Rattle.command_output.proofs.answer.push_values.Goals as goal
 
@@ -52,3 +52,9 @@ loop-item-preserved c = λ fields has.
     ∙ ap (λ (r : ℕ). field_at (table_at tables (item_at query.items column.0).table) (r - 1) column.1) (sym row.same) ∙ ap (value_of query tables chosen) there.same in
     let more = element_more (value_of query tables chosen) fields query.list c.loop-item.item-index (column_view (0, 0)) _ read there.place in
     subst (λ (fs : List (List ℕ)). HasFields fs c.push_value.new.records.begun) more (c.in_ok-push_value.ensures _ (c.loop-item.invariant fields has))
+
+pub returns : goal.returns
+returns c = λ fields has.
+    let list = c.args.query.now.query.list in
+    let all : take c.loop-item.item-index list ≡ list = all_columns c.columns-item-items.result.now list c.loop-item.item-index c.columns-item-items.ensures c.loop-item-test.false in
+    subst (λ (l : List Column). HasFields (fields ++ map (value_of c.args.query.now.query c.args.tables.now (take (length c.args.query.now.query.items) c.args.rows.now)) l) c.loop-item.records.begun) all (c.loop-item.invariant fields has)

@@ -1,6 +1,7 @@
 use Rattle.std.proofs.Common.{◌≡◌, ℕ, ◌+◌, ◌≤◌, true, Result, Ok, Err, OnErr, is_ok, ◌∙◌, sym, arith}
 use Rattle.std.proofs.lemmas.Result.{IfOk-from_err}
 use Rattle.tdp_core.specs.AnswerView.{counted}
+use Rattle.command_output.proofs.Follows.{at_none, at_some}
 use Rattle.command_output.proofs.fetch.fetch.Goals as goal
 
 on_any_err : {T E P : Type 0} (r : Result T E) → P → OnErr r P
@@ -29,7 +30,7 @@ pub returns-in-Some : goal.returns-in-Some
 returns-in-Some g c =
     let is : is_ok c.push.result ≡ true = sym c.is_ok-pushed.ensures.value ∙ c.if-prove.false in
     let pushed = rw is at c.push.ensures.items in
-    let next = rw c.in-Some.is at c.in_ok-answer.ensures.found in
+    let next = at_some _ _ _ c.in-Some.is c.in_ok-answer.ensures.found in
     record {
       found = (rw c.reserve.ensures.items at pushed, next);
       end = tt;
@@ -42,7 +43,7 @@ returns-in-Some g c =
 
 pub returns-in-None : goal.returns-in-None
 returns-in-None g c =
-    let e = rw c.in-None.is at c.in_ok-answer.ensures.end in
+    let e = at_none _ _ c.in-None.is c.in_ok-answer.ensures.end in
     record {
       found = tt;
       end = (c.reserve.ensures.items, e.0, e.1);

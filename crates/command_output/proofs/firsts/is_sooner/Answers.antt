@@ -7,6 +7,9 @@ use Rattle.command_output.proofs.Branches.{head_at, head_fits, less_told, list_a
 use Rattle.command_output.proofs.Sooner.{compared_first, first_here, first_of, none_here, not_empty}
 use Rattle.command_output.proofs.firsts.is_sooner.Goals as goal
 
+earlier : (f b n : ℕ) → f < b → b < n → f < n
+earlier f b n h k = omega (arith, h, k)
+
 pub returns-in_default : goal.returns-in_default
 returns-in_default g c =
     let branches = c.args.branches.now in
@@ -35,7 +38,7 @@ returns-in_default-head g c =
     let branches = c.args.branches.now in
     let f = c.in-Some-first.first in
     let was = subst (λ (o : Option ℕ). IsFirst (queries_of branches) c.args.tables.now (lists_of branches) c.args.b o) c.in-Some-first.is c.requires.first in
-    let none = list_at branches f (omega (arith, was.inside, c.requires.inside)) c.index-branches-first.result c.index-branches-first.is ∙ (rw c.in_default-head.is at c.head-2.ensures) in
+    let none = list_at branches f (earlier _ _ _ was.inside c.requires.inside) c.index-branches-first.result c.index-branches-first.is ∙ (rw c.in_default-head.is at c.head-2.ensures) in
     absurd (not_empty _ _ _ was.is_first none)
 
 pub has_less_sums-requires-clause-fits : goal.has_less_sums-requires-clause-fits
@@ -46,7 +49,7 @@ pub has_less_sums-requires-clause-other_fits : goal.has_less_sums-requires-claus
 has_less_sums-requires-clause-other_fits g c =
     let branches = c.args.branches.now in
     let was = subst (λ (o : Option ℕ). IsFirst (queries_of branches) c.args.tables.now (lists_of branches) c.args.b o) c.in-Some-first.is c.requires.first in
-    query_fits branches c.in-Some-first.first (omega (arith, was.inside, c.requires.inside)) c.index-branches-first.result c.index-branches-first.is
+    query_fits branches c.in-Some-first.first (earlier _ _ _ was.inside c.requires.inside) c.index-branches-first.result c.index-branches-first.is
     c.args.tables.now c.requires.branches c.query-2.result.now c.query-2.ensures
 
 pub has_less_sums-requires-clause-other_rows : goal.has_less_sums-requires-clause-other_rows
@@ -54,7 +57,7 @@ has_less_sums-requires-clause-other_rows g c =
     let branches = c.args.branches.now in
     let was = subst (λ (o : Option ℕ). IsFirst (queries_of branches) c.args.tables.now (lists_of branches) c.args.b o) c.in-Some-first.is c.requires.first in
     let there = rw c.in-Some-head.is at c.head-2.ensures in
-    head_fits branches c.in-Some-first.first (omega (arith, was.inside, c.requires.inside)) c.index-branches-first.result c.index-branches-first.is c.args.tables.now c.requires.branches
+    head_fits branches c.in-Some-first.first (earlier _ _ _ was.inside c.requires.inside) c.index-branches-first.result c.index-branches-first.is c.args.tables.now c.requires.branches
     c.in-Some-head.other_rows there.0 there.1 c.query-2.result.now c.query-2.ensures
 
 pub has_less_sums-requires-clause-rows : goal.has_less_sums-requires-clause-rows
@@ -71,7 +74,7 @@ returns g c =
     let lists = lists_of branches in
     let f = c.in-Some-first.first in
     let was = subst (λ (o : Option ℕ). IsFirst queries tables lists c.args.b o) c.in-Some-first.is c.requires.first in
-    let inside : f < length branches = omega (arith, was.inside, c.requires.inside) in
+    let inside : f < length branches = earlier _ _ _ was.inside c.requires.inside in
     let here = rw c.in-Some.is at c.head.ensures in
     let there = rw c.in-Some-head.is at c.head-2.ensures in
     let own = head_at branches c.args.b c.requires.inside c.index-branches-b.result c.index-branches-b.is c.in-Some.rows here.0 here.1 in

@@ -32,7 +32,7 @@ loop-engine-preserved g c =
     let steps : into_iter_items at.engine-iterator ≡ x ∷ into_iter_items c.next.new.self = c.in-Some.ensures.steps.0 in
     let next = has_next _ _ _ c.args.queries.now c.args.engines.items at.yielded (into_iter_items at.engine-iterator) (into_iter_items c.next.new.self) x at.branches.items _ _
     c.requires.each at.invariant.2 steps at.invariant.3 in
-    let count : c.len.result ≡ length at.branches.items = search rules in
+    let count : c.len.result ≡ length at.branches.items = c.len.ensures ∙ at.branches.ok.0 in
     let index = sym (c.index-queries-len.is ∙ ap (λ k. get_or c.args.queries.now k q) (count ∙ next.count)) in (
       tt,
       tt,

@@ -1,5 +1,5 @@
-use Rattle.std.proofs.Common.{◌+◌, ◌-◌, ◌++◌, ℕ, List, None, Ok, length, drop, take, ap, sym, refl, subst, ◌∙◌}
-use Rattle.std.specs.Prelude.{codes, slice_set}
+use Rattle.std.proofs.Common.{◌+◌, ◌-◌, ◌≤◌, ◌++◌, ℕ, List, Option, None, Ok, length, drop, take, ap, sym, refl, subst, ◌∙◌}
+use Rattle.std.specs.Prelude.{codes, slice_get, slice_set}
 use Rattle.std.proofs.lemmas.List.{set-get_or}
 use Rattle.std.proofs.lemmas.Result.{IfOk-from_err}
 use Rattle.anyk_model.specs.Query.{IsCombination, row_counts}
@@ -8,6 +8,9 @@ use Rattle.outer_io.specs.Printing.{Printed}
 use Rattle.outer_io.specs.SinkState.{state_of}
 use Rattle.verdict.specs.Session.{next_text}
 use Rattle.tdp_core.specs.AnswerView.{AnswerView}
+use Rattle.anyk_model.specs.Output.{cut}
+use Rattle.command_output.specs.SessionCosts.{IsWithin, Spent, calls_at}
+use Rattle.command_output.proofs.Limits.{told_below}
 use Rattle.command_output.specs.SessionListing.{line_in, members_in, ranking_in}
 use Rattle.command_output.proofs.Follows.{always, answer_given, answer_inside, answers_ended, at_none, at_some, ending_left, given_all, given_less, next_done, next_start, place_set, places_set, told_all}
 use Rattle.command_output.proofs.SessionCosts.{paid_spent, spent_places}
@@ -82,7 +85,8 @@ returns-in_default g c =
     let done = c.loop-given._given in
     let ended = at_none _ _ c.in_default.is c.in_ok-answer.ensures.end in
     let short = answers_ended (rows_of g loop) c.args.listing.now.query.now.query.limit c.args.set.now.answers start done c.loop-given.place c.loop-given.invariant.place
-    (rw (c.limit.ensures, c.loop-given.invariant.answers) at ended.1) in
+    (subst (λ (l : List AnswerView). length (cut c.args.listing.now.query.now.query.limit l) ≤ c.loop-given.place) c.loop-given.invariant.answers
+    (subst (λ (o : Option ℕ). length (cut o c.loop-given.set.answers) ≤ c.loop-given.place) c.limit.ensures ended.1)) in
     record {
       printed =
           let last = ending_left (line g loop) (ending g loop) (members g loop) start done c.args.count short c.loop-given-test.true in
@@ -98,14 +102,16 @@ returns-in_default g c =
       kept = always c.print_end.result (c.in_ok-answer.ensures.kept ∙ c.loop-given.invariant.answers);
       paid =
           paid_spent g.E.Ranked.share g.met.E.Ranked.share_rises c.args.set.now c.next_member.new.set _ _ c.args.steps.now c.next_member.new.steps c.print_end.result
-          (given_spent (given g loop) c.next_member.new.set c.next_member.new.steps c.loop-given-test.true (rw c.limit.ensures at c.in_ok-answer.ensures.paid.spent));
+          (given_spent (given g loop) c.next_member.new.set c.next_member.new.steps c.loop-given-test.true (subst
+          (λ (o : Option ℕ). Spent g.E.Ranked.share c.loop-given.set c.next_member.new.set (c.loop-given.place + calls_at o c.loop-given.place) (calls_at o c.loop-given.place) c.loop-given.steps c.next_member.new.steps)
+          c.limit.ensures c.in_ok-answer.ensures.paid.spent));
     }
 
 pub print_answer-requires-clause-rows : goal.print_answer-requires-clause-rows
 print_answer-requires-clause-rows g c =
     let query = c.args.listing.now.query.now.query in
     let found = at_some _ _ _ c.in-Some.is c.in_ok-answer.ensures.some in
-    let at_place = rw c.loop-given.invariant.answers at found.2 in
+    let at_place = ap (λ (l : List AnswerView). slice_get l c.loop-given.place) (sym c.loop-given.invariant.answers) ∙ found.2 in
     told_all (λ (a : AnswerView). IsCombination (row_counts query.items c.args.listing.now.tables.now) (take (length query.items) a.rows)) c.args.set.now.answers
     c.loop-given.place _ c.requires.rows at_place
 
@@ -118,8 +124,8 @@ loop-given-preserved g c =
     let place = c.loop-given.place in
     let at = c.loop-given.invariant.place in
     let found = at_some _ _ _ c.in-Some.is c.in_ok-answer.ensures.some in
-    let below = rw c.limit.ensures at found.0 in
-    let here = rw c.loop-given.invariant.answers at found.2 in
+    let below = told_below _ c.args.listing.now.query.now.query.limit c.loop-given.place c.limit.ensures found.0 in
+    let here = ap (λ (l : List AnswerView). slice_get l c.loop-given.place) (sym c.loop-given.invariant.answers) ∙ found.2 in
     let split = answer_given (rows_of g loop) limit c.args.set.now.answers start done place at (line g loop) (ending g loop) c.args.count _
     c.loop-given-test.true below here in
     let printed = c.in_ok-print_answer.ensures in
@@ -131,8 +137,10 @@ loop-given-preserved g c =
           c.loop-given.invariant.places c.in_ok-answer.ensures.places;
       here = place_set c.loop-given.set.places c.next_member.new.set.places c.args.id.number place c.next_member.new.place c.loop-given.invariant.here
           c.in_ok-answer.ensures.places;
-      left = left_more (whole g loop) (left g loop) _ _ _ c.loop-given.invariant.left _ _ split printed.whole printed.later;
-      spent = given_more (given g loop) c.next_member.new.set c.next_member.new.steps below (rw c.limit.ensures at c.in_ok-answer.ensures.paid.spent);
+      left = left_more (whole g loop) (left g loop) (state_of g.S.Sink c.args.out.now) (state_of g.S.Sink c.loop-given.out) (state_of g.S.Sink c.print_answer.new.out) c.loop-given.invariant.left _ _ split printed.whole printed.later;
+      spent = given_more (given g loop) c.next_member.new.set c.next_member.new.steps below (subst
+          (λ (o : Option ℕ). Spent g.E.Ranked.share c.loop-given.set c.next_member.new.set (c.loop-given.place + calls_at o c.loop-given.place) (calls_at o c.loop-given.place) c.loop-given.steps c.next_member.new.steps)
+          c.limit.ensures c.in_ok-answer.ensures.paid.spent);
     }
 
 pub returns : goal.returns
@@ -160,15 +168,16 @@ print_answer-requires-clause-fits g c = c.requires.fits
 pub returns-in_err-answer : goal.returns-in_err-answer
 returns-in_err-answer g c =
     let loop = (goal.at.returns-in_err-answer g c).At-loop-given in
-    let e = handed_on c.from_residual.result fault.NoMemory c.from_residual.ensures.1 in
     record {
-      printed = rw e (left_unprinted (whole g loop) (left g loop) _ _ c.loop-given.invariant.left);
+      printed = handed_on (Printed _ _ _) c.from_residual.result fault.NoMemory c.from_residual.ensures.1 (left_unprinted _ _ _ _ c.loop-given.invariant.left);
       moved = IfOk-from_err c.from_residual.result _ c.from_residual.ensures.0;
       places = IfOk-from_err c.from_residual.result _ c.from_residual.ensures.0;
       kept = IfOk-from_err c.from_residual.result _ c.from_residual.ensures.0;
       paid = record {
         spent = IfOk-from_err c.from_residual.result _ c.from_residual.ensures.0;
-        within = given_within (given g loop) c.next_member.new.steps c.loop-given-test.true (rw c.limit.ensures at c.in_err-answer.ensures.paid.within);
+        within = given_within (given g loop) c.next_member.new.steps c.loop-given-test.true (subst
+            (λ (o : Option ℕ). IsWithin g.E.Ranked.share c.loop-given.set (c.loop-given.place + calls_at o c.loop-given.place) (calls_at o c.loop-given.place) c.loop-given.steps c.next_member.new.steps)
+            c.limit.ensures c.in_err-answer.ensures.paid.within);
       };
     }
 
@@ -177,14 +186,16 @@ returns-in_err-print_answer g c =
     let loop = (goal.at.returns-in_err-print_answer g c).At-loop-given in
     let found = at_some _ _ _ c.in-Some.is c.in_ok-answer.ensures.some in
     let split = answer_given (rows_of g loop) c.args.listing.now.query.now.query.limit c.args.set.now.answers c.args.place.now c.loop-given._given c.loop-given.place
-    c.loop-given.invariant.place (line g loop) (ending g loop) c.args.count _ c.loop-given-test.true (rw c.limit.ensures at found.0) (rw c.loop-given.invariant.answers at found.2) in
-    let e = handed_on c.from_residual-in_err-print_answer.result c.in_err-print_answer.field-0.0 c.from_residual-in_err-print_answer.ensures.1 in
+    c.loop-given.invariant.place (line g loop) (ending g loop) c.args.count _ c.loop-given-test.true (told_below _ c.args.listing.now.query.now.query.limit c.loop-given.place c.limit.ensures found.0) (ap (λ (l : List AnswerView). slice_get l c.loop-given.place) (sym c.loop-given.invariant.answers) ∙ found.2) in
     record {
-      printed = rw e (left_stopped (whole g loop) (left g loop) _ _ _ c.loop-given.invariant.left _ _ c.in_err-print_answer.field-0.0 split c.in_err-print_answer.ensures);
+      printed = handed_on (Printed _ _ _) c.from_residual-in_err-print_answer.result _ c.from_residual-in_err-print_answer.ensures.1
+          (left_stopped (whole g loop) (left g loop) _ _ _ c.loop-given.invariant.left _ _ _ split c.in_err-print_answer.ensures);
       moved = IfOk-from_err c.from_residual-in_err-print_answer.result _ c.from_residual-in_err-print_answer.ensures.0;
       places = IfOk-from_err c.from_residual-in_err-print_answer.result _ c.from_residual-in_err-print_answer.ensures.0;
       kept = IfOk-from_err c.from_residual-in_err-print_answer.result _ c.from_residual-in_err-print_answer.ensures.0;
       paid = paid_spent g.E.Ranked.share g.met.E.Ranked.share_rises c.args.set.now c.next_member.new.set _ _ c.args.steps.now c.next_member.new.steps
           c.from_residual-in_err-print_answer.result
-          (given_spent (given g loop) c.next_member.new.set c.next_member.new.steps c.loop-given-test.true (rw c.limit.ensures at c.in_ok-answer.ensures.paid.spent));
+          (given_spent (given g loop) c.next_member.new.set c.next_member.new.steps c.loop-given-test.true (subst
+          (λ (o : Option ℕ). Spent g.E.Ranked.share c.loop-given.set c.next_member.new.set (c.loop-given.place + calls_at o c.loop-given.place) (calls_at o c.loop-given.place) c.loop-given.steps c.next_member.new.steps)
+          c.limit.ensures c.in_ok-answer.ensures.paid.spent));
     }

@@ -1,9 +1,12 @@
-use Rattle.std.proofs.Common.{Err, Ok, ap, refl}
+use Rattle.std.proofs.Common.{◌∙◌, ℕ, List, Ok, ap, refl, sym}
+use Rattle.std.proofs.lemmas.Result.{IfOk-from_err}
 use Rattle.command_output.specs.CursorSet.{CursorSet}
 use Rattle.outer_io.specs.declared.fault.PrintFault.TheVariants as fault
+use Rattle.languages.specs.declared.step.Step.TheVariants.{Next}
+use Rattle.command_output.specs.SessionListing.{ends_in, line_in, members_in}
 use Rattle.command_output.proofs.Moves.{same_place, unknown_closed}
-use Rattle.command_output.proofs.SessionRun.{is_quiet, next_taken, quiet_taken}
-use Rattle.command_output.proofs.HandedOn.{handed_on}
+use Rattle.command_output.proofs.SessionRun.{is_quiet, next_taken, quiet_taken, taken_as}
+use Rattle.command_output.proofs.HandedOn.{memory_refused}
 use Rattle.command_output.proofs.session.take_step.Goals as goal
 
 pub returns-in_default-cursor_of : goal.returns-in_default-cursor_of
@@ -22,8 +25,10 @@ returns-in-Some g c =
       taken =
           λ places held can.
           let told = c.print_next-printed.ensures in
-          rw (c.in-Next.is, ← c.bytes-name.ensures.value)
-          (next_taken g.E.Ranked.share _ _ _ places c.in-Some.id.number c.bytes-name.result.now c.in-Some.place c.in-Next.count
+          taken_as g.E.Ranked.share (line_in c.args.listing.now) (ends_in c.args.listing.now c.args.set.now.answers) (members_in c.args.listing.now c.args.set.now.answers) places
+          c.args.step.now (Next c.bytes-name.result.now c.in-Next.count) _ _ c.print_next-printed.result
+          (c.in-Next.is ∙ ap (λ (name : List ℕ). Next name c.in-Next.count) (sym c.bytes-name.ensures.value))
+          (next_taken g.E.Ranked.share (line_in c.args.listing.now) (ends_in c.args.listing.now c.args.set.now.answers) (members_in c.args.listing.now c.args.set.now.answers) places c.in-Some.id.number c.bytes-name.result.now c.in-Some.place c.in-Next.count
           _ c.print_next-printed.new.set (record { name = c.bytes-name.result; place = c.print_next-printed.new.place }) _ c.print_next-printed.new.steps c.print_next-printed.result
           held c.in-Some.ensures.found refl told.printed told.moved told.places told.paid);
       kept = c.print_next-printed.ensures.kept;
@@ -42,12 +47,14 @@ returns-in_ok-move_cursor-in_default g c =
 
 pub returns-in_err-move_cursor-in_default : goal.returns-in_err-move_cursor-in_default
 returns-in_err-move_cursor-in_default g c =
-    let e = handed_on c.from_residual.result fault.NoMemory c.from_residual.ensures.1 in
-    rw e (record {
-      taken = λ places held can. quiet_taken g.E.Ranked.share g.met.E.Ranked.share_rises _ _ _ places c.args.step.now c.args.set.now c.move_cursor.new.set c.args.cursors.now
-          c.move_cursor.new.cursors _ c.args.steps.now (Err fault.NoMemory) (is_quiet c.args.step.now c.in_default.not-Next) c.move_cursor.ensures.only refl tt;
-      kept = tt;
-    })
+    record {
+      taken =
+          λ places held can.
+          quiet_taken g.E.Ranked.share g.met.E.Ranked.share_rises _ _ _ places c.args.step.now c.args.set.now c.move_cursor.new.set c.args.cursors.now
+          c.move_cursor.new.cursors _ c.args.steps.now _ (is_quiet c.args.step.now c.in_default.not-Next) c.move_cursor.ensures.only
+          (memory_refused fault.NoMemory c.from_residual.result c.from_residual.ensures.1) (IfOk-from_err c.from_residual.result _ c.from_residual.ensures.0);
+      kept = IfOk-from_err c.from_residual.result _ c.from_residual.ensures.0;
+    }
 
 pub print_next-printed-requires-clause-fits : goal.print_next-printed-requires-clause-fits
 print_next-printed-requires-clause-fits g c = c.requires.fits

@@ -1,23 +1,18 @@
-use Rattle.std.proofs.Common.{◌≡◌, Result, Ok, Err, ap, length, sym, take}
+use Rattle.std.proofs.Common.{length, sym, take, ◌∙◌}
 use Rattle.tdp_core.specs.AnswerView.{AnswerView}
-use Rattle.std.specs.Prelude.{IsErrAnd}
-use Rattle.outer_io.specs.declared.fault.PrintFault.{PrintFault}
 use Rattle.outer_io.specs.declared.fault.PrintFault.TheVariants as fault
+use Rattle.outer_io.specs.Printing.{Printed}
 use Rattle.outer_io.proofs.Prints.{unprinted}
+use Rattle.command_output.proofs.HandedOn.{handed_on, printed_as}
 use Rattle.command_output.proofs.EndMembers.{calls_map, ends_text_lem, first_rows, last_rows}
 use Rattle.command_output.proofs.summary.print_summary.Goals as goal
-
--- memory was refused
-out_of_memory : (r : Result (Unit {0}) PrintFault) → IsErrAnd r (λ e. e ≡ fault.NoMemory) → r ≡ Err fault.NoMemory
-out_of_memory (Ok done) h = absurd h
-out_of_memory (Err e) h = ap (λ (e : PrintFault). Err e) h
 
 pub returns-in_err-ends : goal.returns-in_err-ends
 returns-in_err-ends g c =
     let query = c.args.query.now.query in
     let calls = calls_map (λ (a : AnswerView). take (length query.items) a.rows) query.limit (g.E.Ranked.rest c.args.engine.now) in
     record {
-      printed = rw (out_of_memory c.from_residual.result c.from_residual.ensures.1) (unprinted _ _);
+      printed = handed_on (Printed _ _ _) c.from_residual.result fault.NoMemory c.from_residual.ensures.1 (unprinted _ _);
       bounded = rw (c.limit.ensures, sym calls) at c.take_ends.ensures.bounded;
     }
 
@@ -39,7 +34,7 @@ returns g c =
       printed =
           let same = ends_text_lem c.args.query.now.query c.args.tables.now c.in_ok-ends.ends (g.E.Ranked.rest c.args.engine.now) c.requires.rows
           (rw c.limit.ensures at c.in_ok-ends.ensures.ends) in
-          rw (c.deref.ensures.value, c.in_ok-text.ensures, same) at c.print.ensures;
+          printed_as _ _ _ _ _ (c.deref.ensures.value ∙ c.in_ok-text.ensures ∙ same) c.print.ensures;
       bounded = rw (c.limit.ensures, sym calls) at c.take_ends.ensures.bounded;
     }
 
@@ -48,6 +43,6 @@ returns-in_err-text g c =
     let query = c.args.query.now.query in
     let calls = calls_map (λ (a : AnswerView). take (length query.items) a.rows) query.limit (g.E.Ranked.rest c.args.engine.now) in
     record {
-      printed = rw (out_of_memory c.from_residual-in_err-text.result c.from_residual-in_err-text.ensures.1) (unprinted _ _);
+      printed = handed_on (Printed _ _ _) c.from_residual-in_err-text.result fault.NoMemory c.from_residual-in_err-text.ensures.1 (unprinted _ _);
       bounded = rw (c.limit.ensures, sym calls) at c.take_ends.ensures.bounded;
     }

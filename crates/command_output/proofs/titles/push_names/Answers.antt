@@ -1,9 +1,10 @@
-use Rattle.std.proofs.Common.{◌≡◌, ℕ, List, [], get_or, ap, subst, ◌∙◌}
+use Rattle.std.proofs.Common.{◌≡◌, ◌++◌, ℕ, List, [], get_or, map, take, ap, subst, ◌∙◌}
 use Rattle.anyk_model.specs.Table.{table_at}
+use Rattle.anyk_model.specs.Query.{Column}
 use Rattle.anyk_model.specs.Output.{column_name}
 use Rattle.bound_query.specs.StoredParts.{column_view}
 use Rattle.command_output.specs.WrittenRecords.{HasFields}
-use Rattle.command_output.proofs.Places.{column_there}
+use Rattle.command_output.proofs.Places.{all_columns, column_there}
 use Rattle.command_output.proofs.Pushing.{element_more}
 use Rattle.command_output.proofs.titles.push_names.Goals as goal
 
@@ -31,3 +32,9 @@ loop-item-preserved c = λ fields has.
     ∙ ap (column_name query c.args.tables.now) there.same in
     let more = element_more (column_name query c.args.tables.now) fields query.list c.loop-item.item-index (column_view (0, 0)) _ named there.place in
     subst (λ (fs : List (List ℕ)). HasFields fs c.push.new.self.begun) more (c.in_ok-push.ensures _ (c.loop-item.invariant fields has))
+
+pub returns : goal.returns
+returns c = λ fields has.
+    let list = c.args.query.now.query.list in
+    let all : take c.loop-item.item-index list ≡ list = all_columns c.columns-item-items.result.now list c.loop-item.item-index c.columns-item-items.ensures c.loop-item-test.false in
+    subst (λ (l : List Column). HasFields (fields ++ map (column_name c.args.query.now.query c.args.tables.now) l) c.loop-item.records.begun) all (c.loop-item.invariant fields has)

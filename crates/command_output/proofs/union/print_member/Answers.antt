@@ -1,9 +1,10 @@
-use Rattle.std.proofs.Common.{◌<◌, ℕ, List, length, map, arith}
+use Rattle.std.proofs.Common.{◌<◌, ◌∙◌, ℕ, List, length, map, arith}
 use Rattle.std.proofs.lemmas.List.{length-map}
 use Rattle.bound_query.specs.WeighedQuery.{BoundQuery}
 use Rattle.outer_io.specs.declared.fault.PrintFault.TheVariants as fault
+use Rattle.outer_io.specs.Printing.{Printed}
 use Rattle.outer_io.proofs.Prints.{unprinted}
-use Rattle.command_output.proofs.HandedOn.{handed_on}
+use Rattle.command_output.proofs.HandedOn.{handed_on, printed_as}
 use Rattle.command_output.proofs.union.print_member.Goals as goal
 
 inside_all : (queries : List BoundQuery) (b : ℕ) → b < length (map (λ (q : BoundQuery). q.query) queries) → b < length queries
@@ -14,8 +15,7 @@ write_line_of-requires-clause-branch g c = inside_all c.args.queries.now c.args.
 
 pub returns-in_err-write_line_of : goal.returns-in_err-write_line_of
 returns-in_err-write_line_of g c =
-    let e = handed_on c.from_residual.result fault.NoMemory c.from_residual.ensures.1 in
-    rw e (unprinted _ _)
+    handed_on (Printed _ _ _) c.from_residual.result fault.NoMemory c.from_residual.ensures.1 (unprinted _ _)
 
 pub returns : goal.returns
-returns g c = rw (c.text.ensures, c.in_ok-write_line_of.ensures) at c.print.ensures
+returns g c = printed_as _ _ _ _ _ (c.text.ensures ∙ c.in_ok-write_line_of.ensures) c.print.ensures

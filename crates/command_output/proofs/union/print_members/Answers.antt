@@ -1,15 +1,18 @@
-use Rattle.std.proofs.Common.{◌≡◌, ◌≤◌, [], ℕ, Option, None, IfSome, map, refl, subst, sym, rules}
+use Rattle.std.proofs.Common.{[], map, refl}
 use Rattle.command_output.specs.StyleView.{style_view}
 use Rattle.bound_query.specs.WeighedQuery.{BoundQuery}
 use Rattle.outer_io.specs.declared.fault.PrintFault.TheVariants as fault
 use Rattle.bound_query.proofs.Calls.{limit_below, limit_reached, limit_within}
+use Rattle.outer_io.specs.Printing.{Printed}
+use Rattle.outer_io.specs.SinkState.{state_of}
 use Rattle.outer_io.proofs.Prints.{appends_nothing}
 use Rattle.anyk_model.specs.TaggedRows.{tagged}
 use Rattle.anyk_model.specs.UnionOutput.{union_line_text}
 use Rattle.command_output.proofs.Given.{cut_short, first_left, printed_all, printed_limit, stopped_short}
 use Rattle.command_output.specs.UnionSteps.{IsMember}
 use Rattle.command_output.proofs.UnionMembers.{itself, none_printed, paced_next, paced_same, printed_more, seen_by}
-use Rattle.command_output.proofs.Spending.{same_most}
+use Rattle.command_output.proofs.Follows.{at_none, at_some}
+use Rattle.command_output.proofs.Limits.{none_within, reached_within}
 use Rattle.command_output.proofs.HandedOn.{handed_on}
 use Rattle.command_output.proofs.union.print_members.Goals as goal
 
@@ -26,19 +29,17 @@ returns-in_err-tagged g c =
     let all = map (λ (q : BoundQuery). q.query) c.args.queries.now in
     let tables = c.args.tables.now in
     let f = union_line_text all tables (style_view c.args.style.now) in
-    let e = handed_on c.from_residual.result fault.NoMemory c.from_residual.ensures.1 in
     let low = limit_within c.args.limit c.loop-given._given _ _ c.unwrap_or-most.ensures c.loop-given-test.true in
     let i = c.loop-given._given in
     let refused = c.in_err-tagged.ensures.refused in
     let below = limit_below c.args.limit i _ _ c.unwrap_or-most.ensures c.loop-given-test.true in
     record {
       printed =
-          rw e (stopped_short (IsMember all tables) f itself c.args.merge.now.rest
-          c.loop-given._given c.args.limit _ _ _ low c.loop-given.invariant.given);
+          handed_on (Printed _ _ _) c.from_residual.result fault.NoMemory c.from_residual.ensures.1
+          (stopped_short (IsMember all tables) f itself c.args.merge.now.rest i c.args.limit c.loop-given.merge.rest (state_of g.S.Sink c.args.out.now) (state_of g.S.Sink c.loop-given.out) low c.loop-given.invariant.given);
       paced =
-          let low = limit_within c.args.limit i _ _ c.unwrap_or-most.ensures c.loop-given-test.true in
           paced_next g.E.Ranked.share g.met.E.Ranked.share_rises all tables f c.args.merge.now c.args.limit i
-          _ _ _ _ _ c.loop-given.invariant refused.0 refused.1 _ _ refused.2 refused.4 below low _ [] (appends_nothing _);
+          c.loop-given.merge (state_of g.S.Sink c.args.out.now) (state_of g.S.Sink c.loop-given.out) c.args.steps.now c.loop-given.steps c.loop-given.invariant refused.0 refused.1 _ _ refused.2 refused.4 below low _ [] (appends_nothing _);
     }
 
 pub returns-in_default : goal.returns-in_default
@@ -47,16 +48,15 @@ returns-in_default g c =
     let tables = c.args.tables.now in
     let f = union_line_text all tables (style_view c.args.style.now) in
     let low = limit_within c.args.limit c.loop-given._given _ _ c.unwrap_or-most.ensures c.loop-given-test.true in
-    let ended = rw c.in_default.is at c.in_ok-tagged.ensures.end in
+    let ended = at_none _ _ c.in_default.is c.in_ok-tagged.ensures.end in
     let i = c.loop-given._given in
     record {
       printed =
           printed_all (IsMember all tables) f itself c.args.merge.now.rest
-          c.loop-given._given c.args.limit _ _ _ low ended.0 c.loop-given.invariant.given;
+          c.loop-given._given c.args.limit c.loop-given.merge.rest (state_of g.S.Sink c.args.out.now) (state_of g.S.Sink c.loop-given.out) low ended.0 c.loop-given.invariant.given;
       paced =
-          let low = limit_within c.args.limit i _ _ c.unwrap_or-most.ensures c.loop-given-test.true in
           let same = paced_same g.E.Ranked.share g.met.E.Ranked.share_rises all tables f c.args.merge.now c.args.limit i
-          _ _ _ _ _ c.loop-given.invariant low in
+          c.loop-given.merge (state_of g.S.Sink c.args.out.now) (state_of g.S.Sink c.loop-given.out) c.args.steps.now c.loop-given.steps c.loop-given.invariant low in
           rw ended.2 same;
     }
 
@@ -66,7 +66,7 @@ print_member-requires-clause-member g c =
     let all = map (λ (q : BoundQuery). q.query) c.args.queries.now in
     let tables = c.args.tables.now in
     let f = union_line_text all tables (style_view c.args.style.now) in
-    let found = rw c.in-Some.is at c.in_ok-tagged.ensures.found in
+    let found = at_some _ _ _ c.in-Some.is c.in_ok-tagged.ensures.found in
     let head = seen_by c.loop-given.merge c.in-Some.tagged _ all _ c.loop-given.invariant.queries
     c.requires.queries found.0 in
     first_left (IsMember all tables) f itself c.args.merge.now.rest
@@ -78,7 +78,7 @@ returns-in_err-print_member g c =
     let tables = c.args.tables.now in
     let f = union_line_text all tables (style_view c.args.style.now) in
     let i = c.loop-given._given in
-    let found = rw c.in-Some.is at c.in_ok-tagged.ensures.found in
+    let found = at_some _ _ _ c.in-Some.is c.in_ok-tagged.ensures.found in
     let below = limit_below c.args.limit i _ _ c.unwrap_or-most.ensures c.loop-given-test.true in
     let low = limit_within c.args.limit i _ _ c.unwrap_or-most.ensures c.loop-given-test.true in
     let part = c.print_member.ensures.prefix in
@@ -86,14 +86,13 @@ returns-in_err-print_member g c =
       printed =
           let head = seen_by c.loop-given.merge c.in-Some.tagged _ all _ c.loop-given.invariant.queries
           c.requires.queries found.0 in
-          let low = limit_below c.args.limit i _ _ c.unwrap_or-most.ensures c.loop-given-test.true in
-          let e = handed_on c.from_residual-in_err-print_member.result c.in_err-print_member.field-0.0 c.from_residual-in_err-print_member.ensures.1 in
-          rw e (cut_short (IsMember all tables) f itself c.args.merge.now.rest
-          i (tagged 0 []) _ _ _ c.loop-given.invariant.given.rest head c.args.limit _ _ _ c.in_err-print_member.field-0.0 low
+          handed_on (Printed _ _ _) c.from_residual-in_err-print_member.result c.in_err-print_member.field-0.0 c.from_residual-in_err-print_member.ensures.1
+          (cut_short (IsMember all tables) f itself c.args.merge.now.rest
+          i (tagged 0 []) _ c.loop-given.merge.rest _ c.loop-given.invariant.given.rest head c.args.limit (state_of g.S.Sink c.args.out.now) (state_of g.S.Sink c.loop-given.out) (state_of g.S.Sink c.print_member.new.out) c.in_err-print_member.field-0.0 below
           c.loop-given.invariant.given c.in_err-print_member.ensures);
       paced =
           paced_next g.E.Ranked.share g.met.E.Ranked.share_rises all tables f c.args.merge.now c.args.limit i
-          _ _ _ _ _ c.loop-given.invariant _ _ _ _ found.0 found.1 below low _ part.0 part.1;
+          c.loop-given.merge (state_of g.S.Sink c.args.out.now) (state_of g.S.Sink c.loop-given.out) c.args.steps.now c.loop-given.steps c.loop-given.invariant _ _ _ _ found.0 found.1 below low _ part.0 part.1;
     }
 
 pub loop-given-preserved : goal.loop-given-preserved
@@ -101,30 +100,28 @@ loop-given-preserved g c =
     let all = map (λ (q : BoundQuery). q.query) c.args.queries.now in
     let tables = c.args.tables.now in
     let f = union_line_text all tables (style_view c.args.style.now) in
-    let found = rw c.in-Some.is at c.in_ok-tagged.ensures.found in
+    let found = at_some _ _ _ c.in-Some.is c.in_ok-tagged.ensures.found in
     let head = seen_by c.loop-given.merge c.in-Some.tagged _ all _ c.loop-given.invariant.queries
     c.requires.queries found.0 in
     let printed = c.in_ok-print_member.ensures in
     printed_more g.E.Ranked.share g.met.E.Ranked.share_rises all tables f c.args.merge.now c.args.limit
     c.loop-given._given
-    _ _ _ _ _ c.loop-given.invariant _ _ _ _ head found.1 _ refl printed.whole printed.later
+    c.loop-given.merge (state_of g.S.Sink c.args.out.now) (state_of g.S.Sink c.loop-given.out) c.args.steps.now c.loop-given.steps c.loop-given.invariant _ _ _ _ head found.1 _ refl printed.whole printed.later
 
 pub returns-then-is_none : goal.returns-then-is_none
 returns-then-is_none g c =
     let all = map (λ (q : BoundQuery). q.query) c.args.queries.now in
     let tables = c.args.tables.now in
     let f = union_line_text all tables (style_view c.args.style.now) in
-    let none : c.args.limit ≡ None = search rules in
-    let low = subst (λ (o : Option ℕ). IfSome o (λ n. c.loop-given._given ≤ n)) (sym none) tt in
     let i = c.loop-given._given in
+    let low = none_within c.args.limit c.args.limit i refl c.if-is_none.ensures in
     record {
       printed =
           stopped_short (IsMember all tables) f itself c.args.merge.now.rest
-          c.loop-given._given c.args.limit _ _ _ low c.loop-given.invariant.given;
+          c.loop-given._given c.args.limit c.loop-given.merge.rest (state_of g.S.Sink c.args.out.now) (state_of g.S.Sink c.loop-given.out) low c.loop-given.invariant.given;
       paced =
-          let low = subst (λ (o : Option ℕ). IfSome o (λ n. i ≤ n)) (sym none) tt in
           paced_same g.E.Ranked.share g.met.E.Ranked.share_rises all tables f c.args.merge.now c.args.limit i
-          _ _ _ _ _ c.loop-given.invariant low;
+          c.loop-given.merge (state_of g.S.Sink c.args.out.now) (state_of g.S.Sink c.loop-given.out) c.args.steps.now c.loop-given.steps c.loop-given.invariant low;
     }
 
 pub returns : goal.returns
@@ -133,16 +130,12 @@ returns g c =
     let tables = c.args.tables.now in
     let f = union_line_text all tables (style_view c.args.style.now) in
     let i = c.loop-given._given in
+    let reached = limit_reached c.args.limit i _ _ c.unwrap_or-most.ensures c.if-is_none.ensures c.loop-given-test.false c.loop-given.auto._given-end in
     record {
       printed =
-          let reached = limit_reached c.args.limit c.loop-given._given _ _ c.unwrap_or-most.ensures c.if-is_none.ensures
-          c.loop-given-test.false c.loop-given.auto._given-end in
           printed_limit (IsMember all tables) f itself c.args.merge.now.rest
-          c.loop-given._given c.args.limit _ _ _ reached c.loop-given.invariant.given;
+          c.loop-given._given c.args.limit c.loop-given.merge.rest (state_of g.S.Sink c.args.out.now) (state_of g.S.Sink c.loop-given.out) reached c.loop-given.invariant.given;
       paced =
-          let reached = limit_reached c.args.limit i _ _ c.unwrap_or-most.ensures c.if-is_none.ensures
-          c.loop-given-test.false c.loop-given.auto._given-end in
-          let low = subst (λ (o : Option ℕ). IfSome o (λ n. i ≤ n)) (sym reached) (same_most i) in
           paced_same g.E.Ranked.share g.met.E.Ranked.share_rises all tables f c.args.merge.now c.args.limit i
-          _ _ _ _ _ c.loop-given.invariant low;
+          c.loop-given.merge (state_of g.S.Sink c.args.out.now) (state_of g.S.Sink c.loop-given.out) c.args.steps.now c.loop-given.steps c.loop-given.invariant (reached_within c.args.limit i reached);
     }

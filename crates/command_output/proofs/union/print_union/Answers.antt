@@ -1,3 +1,4 @@
+use Rattle.outer_io.specs.Printing.{Printed}
 use Rattle.outer_io.proofs.Prints.{printed_stopped, printed_then}
 use Rattle.command_output.proofs.Spending.{at_most_one}
 use Rattle.command_output.proofs.UnionPacing.{paced_after}
@@ -6,9 +7,8 @@ use Rattle.command_output.proofs.union.print_union.Goals as goal
 
 pub returns-in_err-print_union_header : goal.returns-in_err-print_union_header
 returns-in_err-print_union_header g c =
-    let e = handed_on c.from_residual.result c.in_err-print_union_header.field-0.0 c.from_residual.ensures.1 in
     record {
-      printed = rw e (printed_stopped _ _ _ _ c.in_err-print_union_header.field-0.0 c.in_err-print_union_header.ensures);
+      printed = handed_on (Printed _ _ _) c.from_residual.result _ c.from_residual.ensures.1 (printed_stopped _ _ _ _ _ c.in_err-print_union_header.ensures);
       bounded = at_most_one _ _;
       prompt = λ start part is_old is_new. at_most_one _ _;
     }

@@ -1,6 +1,7 @@
-use Rattle.std.proofs.Common.{◌≡◌, ◌+◌, ◌∷◌, [], ◌∙◌, ℕ, length, sym, ap, inr, None, true, false, rules}
+use Rattle.std.proofs.Common.{◌≡◌, ◌+◌, ◌∷◌, [], ◌∙◌, ℕ, length, sym, ap, inl, inr, None, true, false, rules}
 use Rattle.csv.specs.Records.{fields_of}
 use Rattle.anyk_model.specs.Table.{row_flaw, rows_flaw, table_of}
+use Rattle.csv_tables.specs.declared.fault.TableFault.TheVariants as fault
 use Rattle.csv_tables.specs.Faults.{refusal}
 use Rattle.csv_tables.proofs.Refusals.{memory_tells, none_on_ok, refusal_none, same_tells}
 use Rattle.csv_tables.proofs.Rows.{reads_all, reads_more, reads_none, turn_fault}
@@ -62,3 +63,6 @@ rows-preserved c =
 
 pub rows-init : goal.rows-init
 rows-init c = reads_none c.args.table.now.names c.args.records.now c.args.table.now c.requires.no_rows
+
+pub returns : goal.returns
+returns c = record { sound = tt; table = tt; fault = inl (λ _. fault.NoMemory) }

@@ -7,6 +7,7 @@ use Rattle.node_build.specs.PartialTrees.{AreFilled, HasOnlyMore}
 use Rattle.node_build.specs.Links.{HasRowsOf}
 use Rattle.node_build.specs.Rows.{lists_of}
 use Rattle.node_build.specs.Shapes.{AreShapesOf}
+use Rattle.node_build.proofs.Costs.{lists_within, one_list}
 use Rattle.node_build.proofs.Growing.{filled_more}
 use Rattle.node_build.proofs.Naming.{list_at, lists_length}
 use Rattle.node_build.proofs.Results.{failed}
@@ -68,9 +69,9 @@ returns-in_err-add_rows g c = record {
       let node = c.loop-node.node in
       let inside : node < length vs = omega (arith, c.requires.rows.count, lists_length vs, c.loop-node-test.true) in
       let list : c.as_slice-list.result.now ≡ get_or (lists_of vs) node [] = c.as_slice-list.ensures.value ∙ sym (list_at vs node c.index-rows-node.result inside c.index-rows-node.is) in
-      let size = ap (λ (xs : List ℕ). length xs * c.args.join.now.count) list in
-      let more = mul-le-mul_right c.args.join.now.count (sum_by_more_le (λ (xs : List ℕ). length xs) (lists_of vs) node [] (omega (arith, inside, lists_length vs))) in
-      omega (arith, size, more, c.loop-node.invariant.cost, c.in_err-add_rows.ensures.cost);
+      let more = sum_by_more_le (λ (xs : List ℕ). length xs) (lists_of vs) node [] (subst (λ (n : ℕ). node < n) (sym (lists_length vs)) inside) in
+      lists_within c.args.steps.now c.loop-node.steps c.add_rows.new.steps _ _ _ _ c.args.join.now.count (ap (λ (xs : List ℕ). length xs) list) more
+      c.loop-node.invariant.cost c.in_err-add_rows.ensures.cost;
   shapes = failed c.from_residual.result _ c.from_residual.ensures.0;
   filled = failed c.from_residual.result _ c.from_residual.ensures.0;
 }
@@ -89,10 +90,9 @@ loop-node-preserved g c =
     let before = c.loop-node.invariant in
     let now = c.in_ok-add_rows.ensures in
     let inside : node < length vs = omega (arith, c.requires.rows.count, lists_length vs, c.loop-node-test.true) in
-    let there : node < length (lists_of vs) = omega (arith, inside, lists_length vs) in
+    let there : node < length (lists_of vs) = subst (λ (n : ℕ). node < n) (sym (lists_length vs)) inside in
     let list : c.as_slice-list.result.now ≡ get_or (lists_of vs) node [] = c.as_slice-list.ensures.value ∙ sym (list_at vs node c.index-rows-node.result inside c.index-rows-node.is) in
-    let size = ap (λ (xs : List ℕ). length xs * join.count) list in
-    let one = ap (λ (n : ℕ). n * join.count) (sum_by_more (λ (xs : List ℕ). length xs) (lists_of vs) node [] there) in
+    let one = sum_by_more (λ (xs : List ℕ). length xs) (lists_of vs) node [] there in
     record {
       shapes = now.others.shapes ∙ before.shapes;
       count = now.more.count ∙ before.count;
@@ -100,7 +100,7 @@ loop-node-preserved g c =
       filled = filled_more query tables join own above g.R.Rank.KEYS g.R.Rank.key old new node (lists_of vs) c.loop-node.tree c.add_rows.new.tree now.more there before.filled
           (subst (λ (xs : List ℕ). HasOnlyMore node (length xs) c.loop-node.tree c.add_rows.new.tree) list now.others)
           (subst (λ (xs : List ℕ). HasRowsOf query tables join own above g.R.Rank.KEYS g.R.Rank.key new node (length xs) xs (rows_at c.add_rows.new.tree node)) list now.rows);
-      cost = omega (arith, size, one, before.cost, now.cost);
+      cost = one_list c.args.steps.now c.loop-node.steps c.add_rows.new.steps _ _ _ _ join.count (ap (λ (xs : List ℕ). length xs) list) one before.cost now.cost;
     }
 
 pub add_rows-requires-clause-ready : goal.add_rows-requires-clause-ready

@@ -1,11 +1,11 @@
 use Rattle.std.proofs.Common.{◌≡◌, ◌<◌, ◌≤◌, ◌+◌, ◌*◌, ◌∙◌, ℕ, length, get_or, refl, sym, ap, subst, arith}
-use Rattle.std.proofs.Math.Nat.{mul-le-mul_right}
 use Rattle.tdp_core.specs.RawView.{RawView, row_total, rows_at}
 use Rattle.rankings.proofs.Members.{get_member}
 use Rattle.node_build.specs.Links.{HasRowsOf}
 use Rattle.node_build.specs.PartialTrees.{HasOnlyMore}
 use Rattle.node_build.specs.Rows.{lists_of}
 use Rattle.node_build.specs.Shapes.{AreShapesOf}
+use Rattle.node_build.proofs.Costs.{one_row, rows_within}
 use Rattle.node_build.proofs.Growing.{no_rows, only_more, only_none, rows_more, rows_now}
 use Rattle.node_build.proofs.Numbering.{more_same, more_trans}
 use Rattle.node_build.proofs.Results.{failed}
@@ -47,9 +47,8 @@ returns-in_err-add_row g c =
     let r = c.from_residual-in_err-add_row.result in
     let e = c.from_residual-in_err-add_row.ensures.0 in
     record {
-      cost = let less : c.loop-row.row-index + 1 ≤ length c.args.rows.now = omega arith in
-          let most = mul-le-mul_right c.args.join.now.count less in
-          omega (arith, most, c.loop-row.invariant.cost, c.in_err-add_row.ensures.cost);
+      cost = rows_within c.args.steps.now c.loop-row.steps c.add_row.new.steps c.loop-row.row-index c.args.join.now.count (length c.args.rows.now) c.loop-row-test.true
+          c.loop-row.invariant.cost c.in_err-add_row.ensures.cost;
       more = failed r _ e;
       others = failed r _ e;
       rows = failed r _ e;
@@ -62,14 +61,14 @@ loop-row-preserved g c =
     let node = c.args.node in
     let i = c.loop-row.row-index in
     let same = ap (λ (t : RawView g.row.R.Denot). length t.rows) c.reserve.ensures in
-    let inside : node < length c.loop-row.tree.rows = omega (arith, c.requires.node, c.requires.each_node, same, before.others.each_node) in
+    let inside : node < length c.loop-row.tree.rows = subst (λ (n : ℕ). node < n) (sym (before.others.each_node ∙ same ∙ c.requires.each_node)) c.requires.node in
     record {
       more = more_trans c.args.links.now c.loop-row.links c.add_row.new.links before.more c.in_ok-add_row.ensures.more;
       others = only_more c.reserve.new.self c.loop-row.tree c.add_row.new.tree node i x.0 inside before.others x.1;
       rows = rows_more c.args.query.now c.args.tables.now c.args.join.now (lists_of c.args.columns.now.own.items) (lists_of c.args.columns.now.above.items) g.R.Rank.KEYS g.R.Rank.key
           c.loop-row.links c.add_row.new.links node i (get_or c.args.rows.now i 0) c.args.rows.now (rows_at c.loop-row.tree node) (rows_at c.add_row.new.tree node) x.0
           c.in_ok-add_row.ensures.more refl (rows_now c.loop-row.tree c.add_row.new.tree node x.0 inside x.1) before.rows x.2;
-      cost = omega (arith, before.cost, c.in_ok-add_row.ensures.cost);
+      cost = one_row c.args.steps.now c.loop-row.steps c.add_row.new.steps i c.args.join.now.count before.cost c.in_ok-add_row.ensures.cost;
     }
 
 pub returns : goal.returns

@@ -5,6 +5,7 @@ use Rattle.anyk_model.specs.Table.{table_at}
 use Rattle.bound_query.specs.Weights.{table_in}
 use Rattle.node_build.specs.Nodes.{item_of, parent_of}
 use Rattle.node_build.specs.Rows.{lists_of}
+use Rattle.node_build.proofs.Costs.{one_child}
 use Rattle.node_build.proofs.Items.{table_there}
 use Rattle.node_build.proofs.Naming.{above_there, kids_first, links_cost, list_at, lists_length, names_more, names_none, names_skip}
 use Rattle.node_build.proofs.Numbering.{more_same, more_trans}
@@ -33,7 +34,7 @@ loop-child-preserved-then-join-child g c =
       more = before.more;
       count = before.count ∙ sym same;
       names = names_skip c.args.query.now c.args.tables.now c.args.join.now (lists_of c.args.columns.now.own.items) (lists_of c.args.columns.now.above.items) c.loop-child.links c.args.node c.args.row c.loop-child.child c.loop-child.named.items other before.names;
-      cost = omega (arith, before.cost, same);
+      cost = subst (λ (n : ℕ). c.loop-child.steps ≤ c.args.steps.now + n) (sym same) before.cost;
     }
 
 pub table_of-table-requires : goal.table_of-table-requires
@@ -113,7 +114,7 @@ loop-child-preserved g c =
       count = ap length pushed ∙ length-append c.loop-child.named.items (c.in_ok-number.number ∷ []) ∙ ap (λ (n : ℕ). n + 1) before.count ∙ sym one;
       names = names_more query tables join own (lists_of vs) c.loop-child.links c.link.new.links c.args.node c.args.row child c.loop-child.named.items c.push.new.self.items
           c.in_ok-number.number c.in_ok-number.ensures.more (omega arith) below before.count pushed before.names here;
-      cost = omega (arith, one, before.cost, c.in_ok-number.ensures.cost);
+      cost = one_child c.args.steps.now c.loop-child.steps c.link.new.steps _ _ one before.cost c.in_ok-number.ensures.cost;
     }
 
 pub returns : goal.returns

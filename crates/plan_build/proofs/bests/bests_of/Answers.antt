@@ -1,4 +1,4 @@
-use Rattle.std.proofs.Common.{◌≡◌, ℕ, ◌+◌, ◌*◌, ◌<◌, ◌≤◌, Result, Ok, Err, IfOk, IsErr, [], ◌∷◌, length, length-append, sym, ap, ◌∙◌, arith}
+use Rattle.std.proofs.Common.{◌≡◌, ℕ, ◌+◌, ◌*◌, ◌<◌, ◌≤◌, Result, Ok, Err, IfOk, IsErr, [], ◌∷◌, length, length-append, sym, ap, subst, ◌∙◌, arith}
 use Rattle.std.proofs.Math.Nat.{mul-le-mul_right}
 use Rattle.std.proofs.lemmas.Bool.{false≢true}
 use Rattle.tdp_core.specs.declared.parts.NodeParts.{NodeParts}
@@ -6,6 +6,7 @@ use Rattle.tdp_core.specs.TreeView.{tree_view, rows}
 use Rattle.plan_build.specs.Orders.{key_at}
 use Rattle.plan_build.specs.Progress.{by_children}
 use Rattle.plan_build.proofs.Leasts.{keys_pushed}
+use Rattle.plan_build.proofs.LoopCounts.{at_list, below_count, ended, none_below}
 use Rattle.plan_build.proofs.NodeReads.{rows_read}
 use Rattle.plan_build.proofs.bests.bests_of.Given.{Over}
 use Rattle.plan_build.proofs.bests.bests_of.Goals.{After-len-row-end}
@@ -21,6 +22,9 @@ steps_more n k = omega arith
 -- one more row, of those that a node has
 row_within : (start before after row count nodes : ℕ) → before ≤ start + row * nodes → after ≤ before + nodes → row < count → after ≤ start + count * nodes
 row_within start before after row count nodes h k l = omega (arith, mul-le-mul_right {m = row + 1} {n = count} nodes (omega (arith, l)))
+
+row_more : (start before after row nodes : ℕ) → before ≤ start + row * nodes → after ≤ before + nodes → after ≤ start + (row + 1) * nodes
+row_more start before after row nodes h k = omega (arith, h, k)
 
 row_count : (g : Over) (c : After-len-row-end g) → c.len-row-end.result ≡ rows (tree_view c.args.nodes.now) c.args.node
 row_count g c =
@@ -38,18 +42,18 @@ loop-row-preserved g c =
     record {
       long = ap length pushed ∙ length-append l.bests.items (best ∷ []) ∙ ap (λ k. k + 1) l.invariant.long;
       bests = λ r h. ap (λ xs. key_at d key xs r) pushed ∙ keys_pushed d key found l.bests.items best l.row l.invariant.long l.invariant.bests c.row_best-best.ensures.best r h;
-      counted = omega (arith, l.invariant.counted, c.row_best-best.ensures.cost);
+      counted = row_more c.args.steps.now l.steps c.row_best-best.new.steps l.row (length c.args.nodes.now) l.invariant.counted c.row_best-best.ensures.cost;
     }
 
 pub loop-row-init : goal.loop-row-init
 loop-row-init g c =
-    record { long = ap length c.in_ok-bests.ensures.items; bests = λ r h. absurd (omega arith); counted = steps_more c.args.steps.now _ }
+    record { long = ap length c.in_ok-bests.ensures.items; bests = λ r h. absurd (none_below r h); counted = steps_more c.args.steps.now _ }
 
 pub row_best-best-requires-clause-row : goal.row_best-best-requires-clause-row
 row_best-best-requires-clause-row g c =
     let at = goal.at.row_best-best-requires-clause-row g c in
     let count = row_count g at.After-len-row-end in
-    omega (arith, count, c.loop-row-test.true)
+    below_count _ _ _ c.loop-row-test.true count
 
 pub returns-in_err-bests : goal.returns-in_err-bests
 returns-in_err-bests g c =
@@ -66,16 +70,28 @@ returns-in_err-push g c =
     record {
       count = none_given _ _ c.from_residual-in_err-push.ensures.0;
       bests = none_given _ _ c.from_residual-in_err-push.ensures.0;
-      cost = row_within c.args.steps.now c.loop-row.steps c.row_best-best.new.steps c.loop-row.row (rows (tree_view c.args.nodes.now) c.args.node) (length c.args.nodes.now) c.loop-row.invariant.counted c.row_best-best.ensures.cost (omega (arith, count, c.loop-row-test.true));
+      cost = row_within c.args.steps.now c.loop-row.steps c.row_best-best.new.steps c.loop-row.row (rows (tree_view c.args.nodes.now) c.args.node) (length c.args.nodes.now) c.loop-row.invariant.counted c.row_best-best.ensures.cost (below_count _ _ _ c.loop-row-test.true count);
     }
 
 pub returns : goal.returns
 returns g c =
     let at = goal.at.returns g c in
     let count = row_count g at.After-len-row-end in
-    let all : c.loop-row.row ≡ rows (tree_view c.args.nodes.now) c.args.node = omega (arith, count, c.loop-row-test.false, c.loop-row.auto.row-end) in
+    let all : c.loop-row.row ≡ rows (tree_view c.args.nodes.now) c.args.node = ended _ _ c.loop-row.auto.row-end c.loop-row-test.false ∙ count in
     record {
       count = c.loop-row.invariant.long ∙ all;
-      bests = λ r h. c.loop-row.invariant.bests r (omega (arith, h, all));
-      cost = omega (arith, c.loop-row.invariant.counted, ap (λ n. n * length c.args.nodes.now) all);
+      bests = λ r h. c.loop-row.invariant.bests r (at_list _ _ _ h all);
+      cost = subst (λ n. c.loop-row.steps ≤ c.args.steps.now + n * length c.args.nodes.now) all c.loop-row.invariant.counted;
     }
+
+pub row_best-best-requires-clause-node : goal.row_best-best-requires-clause-node
+row_best-best-requires-clause-node g c = c.requires.node
+
+pub row_best-best-requires-clause-laid_out : goal.row_best-best-requires-clause-laid_out
+row_best-best-requires-clause-laid_out g c = c.requires.laid_out
+
+pub row_best-best-requires-clause-solved : goal.row_best-best-requires-clause-solved
+row_best-best-requires-clause-solved g c = c.requires.solved
+
+pub row_best-best-requires-clause-leasts : goal.row_best-best-requires-clause-leasts
+row_best-best-requires-clause-leasts g c = c.requires.leasts

@@ -10,9 +10,19 @@ use Rattle.plan_build.specs.Progress.{IsSolvedFrom}
 use Rattle.plan_build.proofs.FirstParts.{first_part, first_part_none, first_part_child, first_part_other}
 use Rattle.plan_build.proofs.LaterNodes.{no_kids_yet, child_within, group_is, group_within, first_part_fits}
 use Rattle.plan_build.proofs.Leasts.{node_within, group_within_lem, least_read}
+use Rattle.plan_build.proofs.LoopCounts.{at_list, past_by, past_it, past_next, past_none}
 use Rattle.plan_build.proofs.NodeReads.{read_node}
 use Rattle.plan_build.proofs.bests.row_best.Goals.{then-nodes-child, else-nodes-child}
 use Rattle.plan_build.proofs.bests.row_best.Goals as goal
+
+parts_within : (v q n : ℕ) → v < q → q < n → suc (q - suc v) ≤ n - suc v
+parts_within v q n l h = omega (arith, l, h)
+
+one_step : (v q s new start : ℕ) {t : ℕ} → t ≡ new → new ≡ s + 1 → s + suc v ≤ start + q → t + suc v ≤ start + (q + 1)
+one_step v q s new start is one h = omega (arith, is, one, h)
+
+no_step : (v q s start : ℕ) {t : ℕ} → t ≡ s → s + suc v ≤ start + q → t + suc v ≤ start + (q + 1)
+no_step v q s start is h = omega (arith, is, h)
 
 -- the child at which the loop ends
 end_is : (node child nodes : ℕ) → node < nodes → (node + 1 ≤ nodes → child ≤ nodes) → nodes ≤ child → child ≡ nodes
@@ -29,7 +39,7 @@ loop-child-init g c =
     let t = tree_view parts in
     let v = c.args.node in
     let r = c.args.row in
-    let inside : v < length t = omega (arith, c.requires.node, length-map parts node_view) in
+    let inside : v < length t = at_list _ _ _ c.requires.node (length-map parts node_view) in
     let node = get_or parts v c.index-nodes-node.result in
     let at : node_at t v ≡ node_view node = read_node parts v c.index-nodes-node.result c.requires.node in
     let own : rank t d key v r ≡ key c.get-best.result.rank = sym (rank_read t v node at r c.get-best.result c.get-best.ensures d key) in
@@ -42,17 +52,17 @@ loop-child-init g c =
     }
 
 pub named_group-group-requires-clause-row : goal.named_group-group-requires-clause-row
-named_group-group-requires-clause-row g c = omega (arith, c.requires.row, c.requires.laid_out.all_name c.args.node (omega (arith, c.requires.node, length-map c.args.nodes.now node_view)))
+named_group-group-requires-clause-row g c = at_list _ _ _ c.requires.row (c.requires.laid_out.all_name c.args.node (at_list _ _ _ c.requires.node (length-map c.args.nodes.now node_view)))
 
 pub named_group-group-requires-clause-child : goal.named_group-group-requires-clause-child
 named_group-group-requires-clause-child g c =
     let parts = c.args.nodes.now in
     let t = tree_view parts in
     let q = c.loop-child.child in
-    let up : c.args.node < length t = omega (arith, c.requires.node, length-map parts node_view) in
-    let inside : q < length t = omega (arith, c.loop-child-test.true, length-map parts node_view) in
+    let up : c.args.node < length t = at_list _ _ _ c.requires.node (length-map parts node_view) in
+    let inside : q < length t = at_list _ _ _ c.loop-child-test.true (length-map parts node_view) in
     let is : parent t q ≡ c.args.node = ap (λ n. n.shape.parent) (read_node parts q c.index-nodes-child.result c.loop-child-test.true) ∙ c.if-nodes-child.true in
-    let some : 0 < q = omega arith in
+    let some : 0 < q = past_none _ _ c.loop-child.auto.child in
     subst (λ p. p < length (get_or (node_at t c.args.node).to_child c.args.row [])) (sym c.loop-child.invariant.placed)
     (child_within g.R.Rank.KEYS g.R.Rank.key t c.requires.laid_out c.args.node c.args.row q some inside up is c.requires.row)
 
@@ -72,8 +82,8 @@ pub bounds-leasts-child : goal.bounds-leasts-child
 bounds-leasts-child g c =
     let t = tree_view c.args.nodes.now in
     let q = c.loop-child.child in
-    let after : c.args.node < q = omega arith in
-    let inside : q < length t = omega (arith, c.loop-child-test.true, length-map c.args.nodes.now node_view) in
+    let after : c.args.node < q = past_it _ _ c.loop-child.auto.child in
+    let inside : q < length t = at_list _ _ _ c.loop-child-test.true (length-map c.args.nodes.now node_view) in
     node_within g.R.Rank.KEYS g.R.Rank.key t c.args.node c.args.leasts.now c.requires.leasts q after inside
 
 pub index-requires : goal.index-requires
@@ -85,12 +95,12 @@ index-requires g c =
     let v = c.args.node in
     let r = c.args.row in
     let q = c.loop-child.child in
-    let inside : q < length t = omega (arith, c.loop-child-test.true, length-map parts node_view) in
+    let inside : q < length t = at_list _ _ _ c.loop-child-test.true (length-map parts node_view) in
     let is : parent t q ≡ v = ap (λ n. n.shape.parent) (read_node parts q c.index-nodes-child.result c.loop-child-test.true) ∙ c.if-nodes-child.true in
-    let some : 0 < q = omega arith in
+    let some : 0 < q = past_none _ _ c.loop-child.auto.child in
     let named = sym (c.named_group-group.ensures ∙ ap (group_named t v r) c.loop-child.invariant.placed) in
     let within = subst (λ x. x < group_count t q) named (group_within d key t c.requires.laid_out v r q some inside is c.requires.row) in
-    let after : v < q = omega arith in
+    let after : v < q = past_it _ _ c.loop-child.auto.child in
     omega (
       arith,
       c.index-leasts-child.result.ok.0,
@@ -106,12 +116,12 @@ join-best-requires g c =
     let v = c.args.node in
     let r = c.args.row in
     let q = c.loop-child.child in
-    let up : v < length t = omega (arith, c.requires.node, length-map parts node_view) in
-    let inside : q < length t = omega (arith, c.loop-child-test.true, length-map parts node_view) in
+    let up : v < length t = at_list _ _ _ c.requires.node (length-map parts node_view) in
+    let inside : q < length t = at_list _ _ _ c.loop-child-test.true (length-map parts node_view) in
     let is : parent t q ≡ v = ap (λ n. n.shape.parent) (read_node parts q c.index-nodes-child.result c.loop-child-test.true) ∙ c.if-nodes-child.true in
-    let some : 0 < q = omega arith in
+    let some : 0 < q = past_none _ _ c.loop-child.auto.child in
     let so_far = first_part (key_below d 16) (key_add d 16) (key_none d 16) (tuple_keys d 16) (length t) (parent t) (rank t d key) (group t) (best t d key) v r in
-    let after : v < q = omega arith in
+    let after : v < q = past_it _ _ c.loop-child.auto.child in
     let named = c.named_group-group.ensures ∙ ap (group_named t v r) c.loop-child.invariant.placed in
     let within = subst (λ x. x < group_count t q) (sym named) (group_within d key t c.requires.laid_out v r q some inside is c.requires.row) in
     let least : key c.index.result.now ≡ best t d key q (get_or (group t q r) 0 0) =
@@ -122,12 +132,12 @@ join-best-requires g c =
     in
     let n = q - suc v in
     let next : so_far (suc n) ≡ key_add d 16 (so_far n) (best t d key q (get_or (group t q r) 0 0)) =
-    first_part_child (key_below d 16) (key_add d 16) (key_none d 16) (tuple_keys d 16) (length t) (parent t) (rank t d key) (group t) (best t d key) v r n q (omega arith) is
+    first_part_child (key_below d 16) (key_add d 16) (key_none d 16) (tuple_keys d 16) (length t) (parent t) (rank t d key) (group t) (best t d key) v r n q (past_by _ _ c.loop-child.auto.child) is
     in
     let solved = subst (IsSolvedFrom d key t) (let e : v + 1 ≡ suc v = omega arith in e) c.requires.solved in
     subst (λ k. KeyFits d key (key_add d 16 k (key c.index.result.now))) (sym c.loop-child.invariant.added)
     (subst (λ k. KeyFits d key (key_add d 16 (so_far n) k)) (sym least)
-    (subst (KeyFits d key) next (first_part_fits d key t c.requires.laid_out v solved r (suc n) up (omega arith) c.requires.row)))
+    (subst (KeyFits d key) next (first_part_fits d key t c.requires.laid_out v solved r (suc n) up (parts_within _ _ _ (past_it _ _ c.loop-child.auto.child) inside) c.requires.row)))
 
 pub overflow_add-place : goal.overflow_add-place
 overflow_add-place g c =
@@ -150,14 +160,14 @@ loop-child-preserved g c =
     let v = c.args.node in
     let r = c.args.row in
     let q = c.loop-child.child in
-    let inside : q < length t = omega (arith, c.loop-child-test.true, length-map parts node_view) in
-    let later : v < q = omega arith in
+    let inside : q < length t = at_list _ _ _ c.loop-child-test.true (length-map parts node_view) in
+    let later : v < q = past_it _ _ c.loop-child.auto.child in
     let at : parent t q ≡ (get_or parts q c.index-nodes-child.result).shape.parent = ap (λ n. n.shape.parent) (read_node parts q c.index-nodes-child.result c.loop-child-test.true) in
-    let some : 0 < q = omega arith in
+    let some : 0 < q = past_none _ _ c.loop-child.auto.child in
     let so_far = first_part (key_below d 16) (key_add d 16) (key_none d 16) (tuple_keys d 16) (length t) (parent t) (rank t d key) (group t) (best t d key) v r in
     let n = q - suc v in
-    let after : q ≡ suc v + n = omega arith in
-    let more : q + 1 - suc v ≡ suc n = omega arith in
+    let after : q ≡ suc v + n = past_by _ _ c.loop-child.auto.child in
+    let more : q + 1 - suc v ≡ suc n = past_next _ _ c.loop-child.auto.child in
     elim c.if-nodes-child.branch [
       | then-nodes-child w ↦
           let is : parent t q ≡ v = at ∙ w.if-nodes-child.true in
@@ -174,7 +184,7 @@ loop-child-preserved g c =
             added = ap key w.best-is ∙ w.join-best.ensures.sum ∙ ap (λ k. key_add d 16 k (key w.index.result.now)) c.loop-child.invariant.added ∙ ap (key_add d 16 (so_far n)) least
                 ∙ sym (first_part_child (key_below d 16) (key_add d 16) (key_none d 16) (tuple_keys d 16) (length t) (parent t) (rank t d key) (group t) (best t d key) v r n q after is)
                 ∙ ap so_far (sym more);
-            counted = omega (arith, w.steps-is, w.join-best.ensures.counted, c.loop-child.invariant.counted);
+            counted = one_step v q c.loop-child.steps w.join-best.new.steps c.args.steps.now w.steps-is w.join-best.ensures.counted c.loop-child.invariant.counted;
           }
       | else-nodes-child w ↦
           let other : parent t q ≢ v = λ e. w.if-nodes-child.false (sym at ∙ e) in
@@ -183,7 +193,7 @@ loop-child-preserved g c =
             added = ap key w.best-is ∙ c.loop-child.invariant.added
                 ∙ sym (first_part_other (key_below d 16) (key_add d 16) (key_none d 16) (tuple_keys d 16) (length t) (parent t) (rank t d key) (group t) (best t d key) v r n q after other)
                 ∙ ap so_far (sym more);
-            counted = omega (arith, w.steps-is, c.loop-child.invariant.counted);
+            counted = no_step v q c.loop-child.steps c.args.steps.now w.steps-is c.loop-child.invariant.counted;
           }
     ]
 

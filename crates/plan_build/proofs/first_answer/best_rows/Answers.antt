@@ -1,10 +1,18 @@
-use Rattle.std.proofs.Common.{◌≡◌, ◌<◌, ℕ, List, length, get_or, replicate, take, refl, sym, ap, subst, ◌∙◌, arith}
+use Rattle.std.proofs.Common.{◌≡◌, ◌+◌, ◌*◌, ◌<◌, ◌≤◌, ℕ, List, length, get_or, replicate, take, refl, sym, ap, subst, ◌∙◌, arith}
 use Rattle.std.proofs.Math.ListN.{set}
 use Rattle.std.proofs.lemmas.List.{get_or-replicate, length-set}
 use Rattle.rankings.specs.KeyTuple.{slot_of}
 use Rattle.tdp_core.specs.TreeView.{item, best}
 use Rattle.plan_build.proofs.FirstWalk.{least_with, key_of_rows, no_slots, root_lives, walk_begins, walk_goes_on, reached_kept, slots_go_on, walk_ends}
+use Rattle.plan_build.proofs.LoopCounts.{at_list, below_count, ended_some, within_few}
 use Rattle.plan_build.proofs.first_answer.best_rows.Goals as goal
+
+-- the steps of a walk, three for each node but the first
+walk_steps : (n start s below after : ℕ) → s + 3 ≤ start + 3 * n → below ≤ s + 2 → after ≡ below + 1 → after + 3 ≤ start + 3 * (n + 1)
+walk_steps n start s below after h two one = omega (arith, h, two, one)
+
+walk_end : (n m start first s : ℕ) → first ≡ start + 1 → s + 3 ≤ first + 3 * n → n ≡ m → s + 2 ≤ start + 3 * m
+walk_end n m start first s one h e = omega (arith, one, h, e)
 
 pub bounds-rows-shape : goal.bounds-rows-shape
 bounds-rows-shape g c =
@@ -52,8 +60,8 @@ loop-node-preserved g c =
     let q = c.loop-node.node in
     let chosen = c.loop-node.chosen in
     let row = c.first_row-below.result in
-    let inside : q < length t = omega (arith, c.loop-node-test.true, c.nodes-nodes.ensures.count) in
-    let room : q < length chosen = omega (arith, inside, c.loop-node.invariant.chosen_long, formed.shaped.few_nodes) in
+    let inside : q < length t = below_count _ _ _ c.loop-node-test.true c.nodes-nodes.ensures.count in
+    let room : q < length chosen = at_list _ _ _ (within_few _ _ 16 inside formed.shaped.few_nodes) c.loop-node.invariant.chosen_long in
     record {
       chosen_long = length-set chosen q row ∙ c.loop-node.invariant.chosen_long;
       rows_long = length-set c.loop-node.rows c.shape-in-loop-node.result.now.item c.row_at-in-loop-node.result.row ∙ c.loop-node.invariant.rows_long;
@@ -63,7 +71,8 @@ loop-node-preserved g c =
           ap (λ p. get_or (set c.loop-node.rows p c.row_at-in-loop-node.result.row) i 0) (ap (λ s. s.item) c.shape-in-loop-node.ensures)
           ∙ ap (λ n. get_or (set c.loop-node.rows (item t q) n) i 0) c.row_at-in-loop-node.ensures.number
           ∙ slots_go_on d key t formed live chosen q row inside room c.requires.tie_free c.loop-node.rows c.loop-node.invariant.rows_long c.loop-node.invariant.slots i l;
-      counted = omega (arith, c.loop-node.invariant.counted, c.first_row-below.ensures.cost, c.row_at-in-loop-node.ensures.counted);
+      counted = walk_steps c.loop-node.node c.row_at.new.steps c.loop-node.steps c.first_row-below.new.steps c.row_at-in-loop-node.new.steps
+          c.loop-node.invariant.counted c.first_row-below.ensures.cost c.row_at-in-loop-node.ensures.counted;
     }
 
 pub returns : goal.returns
@@ -74,7 +83,7 @@ returns g c =
     let formed = c.nodes-nodes.ensures.formed in
     let live = root_lives d key t formed c.args.row c.requires.row in
     let chosen = c.loop-node.chosen in
-    let all : c.loop-node.node ≡ length t = omega (arith, c.loop-node-test.false, c.loop-node.auto.node-end, c.nodes-nodes.ensures.count, formed.shaped.some_node) in
+    let all : c.loop-node.node ≡ length t = ended_some _ _ _ c.loop-node.auto.node-end c.loop-node-test.false c.nodes-nodes.ensures.count formed.shaped.some_node in
     let long : length chosen ≡ 16 = c.loop-node.invariant.chosen_long in
     let best_row = best t d key 0 c.args.row in
     let least : least_with d key t (take (length t) chosen) ≡ best_row = ap (λ n. least_with d key t (take n chosen)) (sym all) ∙ c.loop-node.invariant.least in
@@ -82,6 +91,15 @@ returns g c =
     λ i l. c.loop-node.invariant.slots i l ∙ ap (λ n. slot_of d 16 i (key_of_rows d key t (take n chosen))) all
     in
     record {
-      rows = walk_ends d key t formed live chosen (omega (arith, long, formed.shaped.few_nodes)) best_row least c.loop-node.rows c.loop-node.invariant.rows_long slots;
-      cost = omega (arith, c.loop-node.invariant.counted, all);
+      rows = walk_ends d key t formed live chosen (subst (λ n. length t ≤ n) (sym long) formed.shaped.few_nodes) best_row least c.loop-node.rows c.loop-node.invariant.rows_long slots;
+      cost = walk_end c.loop-node.node (length t) c.args.steps.now c.row_at.new.steps c.loop-node.steps c.row_at.ensures.counted c.loop-node.invariant.counted all;
     }
+
+pub row_at-requires-in-loop-node-clause-row : goal.row_at-requires-in-loop-node-clause-row
+row_at-requires-in-loop-node-clause-row g c = c.first_row-below.ensures.row
+
+pub row_at-requires-in-loop-node-clause-node : goal.row_at-requires-in-loop-node-clause-node
+row_at-requires-in-loop-node-clause-node g c = below_count _ _ _ c.loop-node-test.true c.nodes-nodes.ensures.count
+
+pub first_row-below-requires-clause-node : goal.first_row-below-requires-clause-node
+first_row-below-requires-clause-node g c = below_count _ _ _ c.loop-node-test.true c.nodes-nodes.ensures.count

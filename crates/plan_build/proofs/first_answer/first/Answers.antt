@@ -1,4 +1,4 @@
-use Rattle.std.proofs.Common.{◌≡◌, ◌<◌, ℕ, ℤ, Bool, true, false, Some, List, length, get_or, nat_lt, sym, ap, subst, ◌∙◌, arith}
+use Rattle.std.proofs.Common.{◌≡◌, ◌<◌, ◌≤◌, ℕ, ℤ, Bool, true, false, Some, List, length, get_or, nat_lt, sym, ap, subst, ◌∙◌, arith}
 use Rattle.std.proofs.lemmas.Bool.Decides.{nat_tests}
 use Rattle.rankings.specs.KeyNumbers.{numbers}
 use Rattle.tdp_core.specs.AnswerView.{AnswerView, rows_of_key}
@@ -14,6 +14,9 @@ is_dead n b e f = let test : nat_lt 0 n ≡ false = sym e ∙ f in no_less n tes
   where
     no_less : (n : ℕ) → nat_lt 0 n ≡ false → n ≡ 0
     no_less n h = grind (arith, nat_tests)
+
+first_node : (n : ℕ) → 1 ≤ n → 0 < n
+first_node n some = omega (arith, some)
 
 is_live : (n : ℕ) (b : Bool) → b ≡ nat_lt 0 n → b ≡ true → 0 < n
 is_live n b e f = let test : nat_lt 0 n ≡ true = sym e ∙ f in less n test
@@ -62,3 +65,16 @@ returns g c =
       head = λ ks ranking. top_ranked d key t formed live ks ranking ∙ ap (λ r. Some (seen r (numbers d 16 top))) (sym rows) ∙ ap (λ k. Some (seen c.best_rows-rows.result (numbers d 16 k))) (sym rank);
       cost = omega (arith, c.member-row.ensures.counted, c.best-rank.ensures.counted, c.best_rows-rows.ensures.cost, formed.shaped.some_node);
     }
+
+pub member-row-requires-clause-group : goal.member-row-requires-clause-group
+member-row-requires-clause-group g c = is_live (group_count c.args.tree.now 0) c.live.result c.live.ensures.live c.if-not-live.false
+
+pub member-row-requires-clause-node : goal.member-row-requires-clause-node
+member-row-requires-clause-node g c = first_node _ c.live.ensures.formed.shaped.some_node
+
+pub member-row-requires-clause-place : goal.member-row-requires-clause-place
+member-row-requires-clause-place g c =
+    c.live.ensures.formed.inhabited 0 0 (first_node _ c.live.ensures.formed.shaped.some_node) (member-row-requires-clause-group g c)
+
+pub best-rank-requires-clause-node : goal.best-rank-requires-clause-node
+best-rank-requires-clause-node g c = first_node _ c.live.ensures.formed.shaped.some_node

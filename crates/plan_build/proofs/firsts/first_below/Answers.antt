@@ -1,6 +1,7 @@
-use Rattle.std.proofs.Common.{◌≡◌, ◌<◌, None, get_or, sym, subst, ap, ◌∙◌}
-use Rattle.tdp_core.specs.TreeView.{group_count, parent, rows}
+use Rattle.std.proofs.Common.{◌≡◌, ◌<◌, None, get_or, length, sym, subst, ap, ◌∙◌}
+use Rattle.tdp_core.specs.TreeView.{child_count, group_count, parent, rows}
 use Rattle.tdp_core.proofs.TreeFacts.{member_is_row}
+use Rattle.plan_build.proofs.LoopCounts.{then_less}
 use Rattle.plan_build.proofs.firsts.first_below.Goals as goal
 
 pub group_of-group-requires-clause-row : goal.group_of-group-requires-clause-row
@@ -47,3 +48,16 @@ returns-clause-inside g c =
     let full = formed.inhabited q c.group_of-group.result c.requires.node within in
     subst (λ x. x < rows t q) (sym c.member.ensures.member)
     (member_is_row g.R.Rank.KEYS g.R.Rank.key t formed q c.group_of-group.result 0 c.requires.node full)
+
+pub group_of-group-requires-clause-node : goal.group_of-group-requires-clause-node
+group_of-group-requires-clause-node g c =
+    let t = c.args.tree.now in
+    let low = c.requires.formed.shaped.parents_first c.args.node c.requires.below c.requires.node in
+    subst (λ p. p < length t) (sym (ap (λ s. s.parent) c.shape.ensures)) (then_less _ _ _ low c.requires.node)
+
+pub group_of-group-requires-clause-child : goal.group_of-group-requires-clause-child
+group_of-group-requires-clause-child g c =
+    subst (λ p. c.child_place.result < child_count c.args.tree.now p) (sym (ap (λ s. s.parent) c.shape.ensures)) c.child_place.ensures.within
+
+pub member-requires-clause-node : goal.member-requires-clause-node
+member-requires-clause-node g c = c.requires.node

@@ -1,9 +1,10 @@
-use Rattle.std.proofs.Common.{◌≡◌, ◌<◌, ◌+◌, ◌≤◌, ◌++◌, ◌∷◌, [], map, length, sym, ap, subst, refl, ◌∙◌, arith, true, nat_eq, IfSome}
+use Rattle.std.proofs.Common.{◌≡◌, ℕ, ◌<◌, ◌+◌, ◌≤◌, ◌++◌, ◌∷◌, [], map, length, sym, ap, subst, refl, ◌∙◌, arith, true, nat_eq, IfSome}
 use Rattle.tdp_core.specs.RawView.{raw_len}
 use Rattle.tdp_core.proofs.RawReads.{length_within}
 use Rattle.plan_build.specs.Reduction.{links_of, child_nodes, has_partners, groups_named, EndsInPlaceOf}
 use Rattle.indexmap.specs.IndexSet.{insert_key}
 use Rattle.plan_build.proofs.FirstOnes.{kept_first}
+use Rattle.plan_build.proofs.LoopCounts.{below_count}
 use Rattle.plan_build.proofs.Rows.{length-map}
 use Rattle.plan_build.proofs.NamedGroups.{named_count}
 use Rattle.plan_build.proofs.SoFar.{IsSoFar, all_kept, drop_row, few_links, keep_row_lem, kept_steps, kids_below_lem, missed_steps, missing_row, none_so_far, room_all, steps_within}
@@ -11,12 +12,18 @@ use Rattle.plan_build.proofs.Handed.{failed}
 use Rattle.plan_build.proofs.node.add_rows.Goals as goal
 use Rattle.plan_build.proofs.node.add_rows.Goals.{in-Some+in_ok-keep_row+in-Heap-1, in-Some+in_ok-keep_row+in-Inline-1, in_default}
 
+few_of : (a b n : ℕ) → a ≡ b → b ≤ n → a ≤ n
+few_of a b n e l = omega (arith, e, l)
+
+few_chain : (a i m t : ℕ) → a ≤ i → i < m → m ≤ t → t ≤ 4194304 → a ≤ 4194304
+few_chain a i m t few l most all = omega (arith, few, l, most, all)
+
 pub returns-in_err-named : goal.returns-in_err-named
 returns-in_err-named g c =
     let r = c.from_residual.result in
     let e = c.from_residual.ensures.0 in
     let all = ap length c.requires.children in
-    let within : c.loop-i.i < raw_len c.args.raw.now c.args.node = omega (arith, c.len-i-end.ensures) in
+    let within : c.loop-i.i < raw_len c.args.raw.now c.args.node = below_count _ _ _ c.loop-i-test.true c.len-i-end.ensures in
     record {
       kept = failed r _ e;
       cost = steps_within c.loop-i.i (length (child_nodes c.args.raw.now c.args.node)) (raw_len c.args.raw.now c.args.node) (length c.args.raw.now.shapes) c.args.steps.now _ within
@@ -28,7 +35,7 @@ keep_row-requires-clause-few g c =
     let now = c.loop-i.kept in
     let few = few_links c.args.raw.now c.args.node (map links_of c.args.later.now) c.loop-i.i now.rows now.to_child.rows (links_of now.links) now.numbers.items c.loop-i.invariant.so_far in
     let most = length_within c.args.raw.now.rows c.args.node in
-    omega (arith, few, most, c.requires.later.few_rows, c.len-i-end.ensures)
+    few_chain _ _ _ _ few (below_count _ _ _ c.loop-i-test.true c.len-i-end.ensures) most c.requires.later.few_rows
 
 pub keep_row-requires-clause-width : goal.keep_row-requires-clause-width
 keep_row-requires-clause-width g c =
@@ -44,14 +51,14 @@ keep_row-requires-clause-few_rows g c =
     let so_far = c.loop-i.invariant.so_far in
     let most = length_within c.args.raw.now.rows c.args.node in
     let long = ap length so_far.to_child ∙ length-map (groups_named c.args.raw.now c.args.node (map links_of c.args.later.now)) (kept_first c.args.raw.now c.args.node (map links_of c.args.later.now) c.loop-i.i) in
-    omega (arith, long, so_far.few, most, c.requires.later.few_rows, c.len-i-end.ensures)
+    few_chain _ _ _ _ (few_of _ _ _ long so_far.few) (below_count _ _ _ c.loop-i-test.true c.len-i-end.ensures) most c.requires.later.few_rows
 
 pub returns-in_err-keep_row : goal.returns-in_err-keep_row
 returns-in_err-keep_row g c =
     let r = c.from_residual-in_err-keep_row.result in
     let e = c.from_residual-in_err-keep_row.ensures.0 in
     let all = ap length c.requires.children in
-    let within : c.loop-i.i < raw_len c.args.raw.now c.args.node = omega (arith, c.len-i-end.ensures) in
+    let within : c.loop-i.i < raw_len c.args.raw.now c.args.node = below_count _ _ _ c.loop-i-test.true c.len-i-end.ensures in
     record {
       kept = failed r _ e;
       cost = steps_within c.loop-i.i (length (child_nodes c.args.raw.now c.args.node)) (raw_len c.args.raw.now c.args.node) (length c.args.raw.now.shapes) c.args.steps.now _ within
@@ -129,7 +136,19 @@ loop-i-init g c =
     }
 
 pub child_groups-requires-clause-row : goal.child_groups-requires-clause-row
-child_groups-requires-clause-row g c = omega (arith, c.len-i-end.ensures)
+child_groups-requires-clause-row g c = below_count _ _ _ c.loop-i-test.true c.len-i-end.ensures
 
 pub group_link_of-own-requires-clause-row : goal.group_link_of-own-requires-clause-row
-group_link_of-own-requires-clause-row g c = omega (arith, c.len-i-end.ensures)
+group_link_of-own-requires-clause-row g c = below_count _ _ _ c.loop-i-test.true c.len-i-end.ensures
+
+pub child_groups-requires-clause-later : goal.child_groups-requires-clause-later
+child_groups-requires-clause-later g c = c.requires.later
+
+pub group_link_of-own-requires-clause-node : goal.group_link_of-own-requires-clause-node
+group_link_of-own-requires-clause-node g c = c.requires.node
+
+pub row-requires-clause-node : goal.row-requires-clause-node
+row-requires-clause-node g c = c.requires.node
+
+pub row-requires-clause-row : goal.row-requires-clause-row
+row-requires-clause-row g c = below_count _ _ _ c.loop-i-test.true c.len-i-end.ensures

@@ -1,4 +1,4 @@
-use Rattle.std.proofs.Common.{◌<◌, ◌∙◌, sym, ap, subst, arith, length, get_or, map, ◌-◌, suc, refl, nat_eq, position}
+use Rattle.std.proofs.Common.{◌≡◌, ℕ, ◌+◌, ◌≤◌, ◌<◌, ◌∙◌, sym, ap, subst, arith, length, get_or, map, ◌-◌, suc, refl, nat_eq, position}
 use Rattle.std.specs.List.{list_any}
 use Rattle.std.proofs.lemmas.Result.{IfOk-from_err}
 use Rattle.tdp_core.specs.RawView.{shape_parent}
@@ -6,6 +6,13 @@ use Rattle.plan_build.specs.Reduction.{links_of}
 use Rattle.plan_build.proofs.Kids.{kids_few, child_after, child_index, children_count}
 use Rattle.plan_build.proofs.Rows.{few_read, links_read, child_links_at, length-map, met_more, named_more, missed, found_any, missing_any}
 use Rattle.plan_build.proofs.node.child_groups.Goals as goal
+
+-- a step for each child
+counted_more : (before after start place : ℕ) → before ≤ start + place → after ≡ before + 1 → after ≤ start + (place + 1)
+counted_more before after start place h one = omega (arith, h, one)
+
+counted_all : (before after start place count : ℕ) → before ≤ start + place → after ≡ before + 1 → place < count → after ≤ start + count
+counted_all before after start place count h one l = omega (arith, h, one, l)
 
 pub overflow_cast-place : goal.overflow_cast-place
 overflow_cast-place g c =
@@ -47,7 +54,8 @@ returns-in-None g c = record {
       let less = subst (λ ks. c.loop-place.place < length ks) c.requires.children c.loop-place-test.true in
       missed c.args.raw.now c.args.node (map links_of c.args.later.now) c.loop-place.place _ c.args.i (links_of c.index-later-child.result) less names
       (ap (λ l. list_any (nat_eq l) (links_of c.index-later-child.result)) (sym c.link-link.ensures) ∙ missing_any (nat_eq c.link-link.result) (links_of c.index-later-child.result) c.in-None.ensures.number);
-  cost = omega arith;
+  cost = counted_all c.loop-place.steps c.number_of.new.steps c.args.steps.now c.loop-place.place (length c.args.children.now)
+      c.loop-place.invariant.counted c.number_of.ensures.cost c.loop-place-test.true;
 }
 
 pub loop-place-preserved : goal.loop-place-preserved
@@ -61,11 +69,11 @@ loop-place-preserved g c =
       named = c.in_ok-push-in-Some.ensures.ok
           ∙ named_more c.args.raw.now c.args.node (map links_of c.args.later.now) c.loop-place.place c.args.i c.in-Some.number (links_of c.index-later-child.result) c.loop-place.numbers.items names c.loop-place.invariant.named
           (c.in-Some.ensures.number ∙ ap (λ l. position (nat_eq l) (links_of c.index-later-child.result)) c.link-link.ensures);
-      counted = omega arith;
+      counted = counted_more c.loop-place.steps c.number_of.new.steps c.args.steps.now c.loop-place.place c.loop-place.invariant.counted c.number_of.ensures.cost;
     }
 
 pub returns-in_err-push-in-Some : goal.returns-in_err-push-in-Some
 returns-in_err-push-in-Some g c =
     let r = c.from_residual.result in
     let e = c.from_residual.ensures.0 in
-    record { found = IfOk-from_err r _ e; named = IfOk-from_err r _ e; missing = IfOk-from_err r _ e; cost = omega arith }
+    record { found = IfOk-from_err r _ e; named = IfOk-from_err r _ e; missing = IfOk-from_err r _ e; cost = counted_all c.loop-place.steps c.number_of.new.steps c.args.steps.now c.loop-place.place (length c.args.children.now) c.loop-place.invariant.counted c.number_of.ensures.cost c.loop-place-test.true }

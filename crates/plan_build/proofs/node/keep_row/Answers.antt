@@ -36,3 +36,9 @@ returns g c =
       number = (c.in_ok-number.number, made.within, made.stands, c.in_ok-push-2.ensures.items);
       cost = omega (arith, made.cost);
     }
+
+pub push-requires-3-clause-width : goal.push-requires-3-clause-width
+push-requires-3-clause-width g c = c.requires.width
+
+pub push-requires-3-clause-few : goal.push-requires-3-clause-few
+push-requires-3-clause-few g c = c.requires.few_rows

@@ -32,3 +32,9 @@ add_rows-added-requires-clause-none g c =
     let kept = c.in_ok-kept.kept in
     let width : c.len.result ≡ length c.deref.result.now = c.len.ensures ∙ c.in_ok-children.children.ok.0 ∙ ap length (sym c.deref.ensures.value) in
     subst (λ n. AreNone n kept.rows kept.to_child (links_of kept.links) kept.numbers.items) width c.in_ok-kept.ensures
+
+pub add_rows-added-requires-clause-later : goal.add_rows-added-requires-clause-later
+add_rows-added-requires-clause-later g c = c.requires.later
+
+pub add_rows-added-requires-clause-node : goal.add_rows-added-requires-clause-node
+add_rows-added-requires-clause-node g c = c.requires.node

@@ -38,3 +38,9 @@ of_numbers-requires g c = record {
 
 pub returns-in-Err : goal.returns-in-Err
 returns-in-Err g c = record { reduced = tt; links = tt; few = tt; cost = c.keep_rows.ensures.cost }
+
+pub keep_rows-requires-clause-later : goal.keep_rows-requires-clause-later
+keep_rows-requires-clause-later g c = c.requires.later
+
+pub keep_rows-requires-clause-node : goal.keep_rows-requires-clause-node
+keep_rows-requires-clause-node g c = c.requires.node

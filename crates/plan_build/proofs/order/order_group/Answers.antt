@@ -1,9 +1,10 @@
-use Rattle.std.proofs.Common.{◌<◌, ◌++◌, length, take, drop, refl, sym, ap, subst, ◌∙◌, arith}
+use Rattle.std.proofs.Common.{◌+◌, ◌*◌, ◌<◌, ◌≤◌, ◌++◌, ℕ, List, length, take, drop, refl, sym, ap, subst, ◌∙◌, arith}
 use Rattle.std.specs.List.Sorted.{IsPermutation}
 use Rattle.std.proofs.lemmas.List.{get_or_default}
 use Rattle.std.proofs.lemmas.Result.{IfOk-from_err}
 use Rattle.std.proofs.lemmas.List.Sorted.{length_permutation}
 use Rattle.plan_build.specs.Orders.{key_at, IsHeapOver}
+use Rattle.plan_build.proofs.LoopCounts.{at_list}
 use Rattle.plan_build.proofs.RowHeaps.{key_read, heap_over}
 use Rattle.plan_build.proofs.Copies.{after_slice, first_of}
 use Rattle.plan_build.proofs.order.order_group.Goals as goal
@@ -39,12 +40,12 @@ returns g c =
     let copied = c.deref_mut.ensures.value ∙ c.in_ok-extend_from_slice.ensures.items ∙ ap (λ xs. xs ++ c.args.group.now) c.clear.ensures.items in
     let moved = subst (λ xs. IsPermutation xs heap) copied c.heapify_by.ensures.permutation in
     let below = first_of (λ r. r < length c.args.best.now) c.args.group.now heap whole row c.requires.rows moved after c.requires.inhabited c.index.ensures in
-    let some : 0 < length whole = omega (arith, c.requires.inhabited, ap length after, length_permutation _ _ moved) in
+    let some : 0 < length whole = at_list _ _ _ c.requires.inhabited (ap length after ∙ length_permutation _ _ moved) in
     record {
       same_rows = subst (IsPermutation c.args.group.now) (sym after) moved;
       heap = subst (IsHeapOver g.R.Rank.KEYS g.R.Rank.key c.args.best.now) (sym after)
           (heap_over g.R.Rank.KEYS g.R.Rank.key c.args.best.now heap c.heapify_by.ensures.heap_order);
       least = key_read g.R.Rank.KEYS g.R.Rank.key c.args.best.now row c.index-best-index.result below c.index-best-index.is
           ∙ ap (key_at g.R.Rank.KEYS g.R.Rank.key c.args.best.now) (c.index.ensures ∙ get_or_default whole 0 row 0 some);
-      cost = omega (arith, c.heapify_by.ensures.cost, ap length copied);
+      cost = subst (λ (xs : List ℕ). c.heapify_by.new.steps ≤ c.args.steps.now + 2 * length xs) copied c.heapify_by.ensures.cost;
     }

@@ -7,6 +7,7 @@ use Rattle.std.proofs.lemmas.Result.{IfOk-from_err}
 use Rattle.std.proofs.lemmas.List.Sorted.{IsPermutation-refl, IsPermutation-trans, All-permutation, length_permutation}
 use Rattle.plan_build.specs.Orders.{key_at, IsHeapOver}
 use Rattle.plan_build.proofs.Grouping.{group_steps, same_members, below_next, without_rest}
+use Rattle.plan_build.proofs.LoopCounts.{at_list, below_count, ended, none_below}
 use Rattle.plan_build.proofs.Leasts.{leasts_pushed}
 use Rattle.plan_build.proofs.order.order_groups.Goals as goal
 
@@ -24,9 +25,9 @@ pub loop-number-init : goal.loop-number-init
 loop-number-init g c = record {
   group_count = refl;
   same_rows = λ m. IsPermutation-refl (get_or c.args.groups.now m []);
-  heaps = λ m l. absurd (omega arith);
+  heaps = λ m l. absurd (none_below m l);
   least_count = ap length c.in_ok-leasts.ensures.items;
-  leasts = λ m l. absurd (omega arith);
+  leasts = λ m l. absurd (none_below m l);
   counted = omega arith;
 }
 
@@ -38,7 +39,7 @@ order_group-requires-clause-rows g c =
 pub order_group-requires-clause-inhabited : goal.order_group-requires-clause-inhabited
 order_group-requires-clause-inhabited g c =
     let n = c.loop-number.number in
-    omega (arith, ap length c.group.ensures, length_permutation _ _ (c.loop-number.invariant.same_rows n), c.requires.inhabited n (omega (arith, c.loop-number-test.true, c.len-number-end.ensures)))
+    omega (arith, ap length c.group.ensures, length_permutation _ _ (c.loop-number.invariant.same_rows n), c.requires.inhabited n (below_count _ _ _ c.loop-number-test.true c.len-number-end.ensures))
 
 pub replace-requires-clause-size : goal.replace-requires-clause-size
 replace-requires-clause-size g c = ap length c.deref.ensures.value ∙ length_permutation _ _ c.in_ok-least.ensures.same_rows ∙ ap length c.group.ensures
@@ -49,8 +50,8 @@ loop-number-preserved g c =
     let first = c.args.groups.now in
     let n = c.loop-number.number in
     let new = c.order_group.new.rows.items in
-    let in_first : n < length first = omega (arith, c.loop-number-test.true, c.len-number-end.ensures) in
-    let within : n < length groups = omega (arith, in_first, c.loop-number.invariant.group_count) in
+    let in_first : n < length first = below_count _ _ _ c.loop-number-test.true c.len-number-end.ensures in
+    let within : n < length groups = at_list _ _ _ in_first c.loop-number.invariant.group_count in
     let moved : IsPermutation (get_or groups n []) new = subst (λ xs. IsPermutation xs new) c.group.ensures c.in_ok-least.ensures.same_rows in
     let written : c.replace.new.self ≡ set groups n new = c.replace.ensures ∙ ap (set groups n) c.deref.ensures.value in
     let long : length c.group.result.now ≡ length (get_or first n []) = ap length c.group.ensures ∙ length_permutation _ _ (c.loop-number.invariant.same_rows n) in
@@ -78,7 +79,7 @@ returns-in_err-least g c =
       heaps = IfOk-from_err c.from_residual-in_err-least.result _ c.from_residual-in_err-least.ensures.0;
       least_count = IfOk-from_err c.from_residual-in_err-least.result _ c.from_residual-in_err-least.ensures.0;
       leasts = IfOk-from_err c.from_residual-in_err-least.result _ c.from_residual-in_err-least.ensures.0;
-      cost = without_rest _ _ _ (group_steps first n (length c.group.result.now) c.args.steps.now c.loop-number.steps c.order_group.new.steps (omega (arith, c.loop-number-test.true, c.len-number-end.ensures)) long c.loop-number.invariant.counted c.order_group.ensures.cost);
+      cost = without_rest _ _ _ (group_steps first n (length c.group.result.now) c.args.steps.now c.loop-number.steps c.order_group.new.steps (below_count _ _ _ c.loop-number-test.true c.len-number-end.ensures) long c.loop-number.invariant.counted c.order_group.ensures.cost);
     }
 
 pub returns-in_err-push : goal.returns-in_err-push
@@ -92,20 +93,24 @@ returns-in_err-push g c =
       heaps = IfOk-from_err c.from_residual-in_err-push.result _ c.from_residual-in_err-push.ensures.0;
       least_count = IfOk-from_err c.from_residual-in_err-push.result _ c.from_residual-in_err-push.ensures.0;
       leasts = IfOk-from_err c.from_residual-in_err-push.result _ c.from_residual-in_err-push.ensures.0;
-      cost = without_rest _ _ _ (group_steps first n (length c.group.result.now) c.args.steps.now c.loop-number.steps c.order_group.new.steps (omega (arith, c.loop-number-test.true, c.len-number-end.ensures)) long c.loop-number.invariant.counted c.order_group.ensures.cost);
+      cost = without_rest _ _ _ (group_steps first n (length c.group.result.now) c.args.steps.now c.loop-number.steps c.order_group.new.steps (below_count _ _ _ c.loop-number-test.true c.len-number-end.ensures) long c.loop-number.invariant.counted c.order_group.ensures.cost);
     }
 
 pub returns : goal.returns
 returns g c =
-    let all : c.loop-number.number ≡ length c.args.groups.now = omega (arith, c.len-number-end.ensures) in
+    let all : c.loop-number.number ≡ length c.args.groups.now = ended _ _ c.loop-number.auto.number-end c.loop-number-test.false ∙ c.len-number-end.ensures in
     record {
       group_count = c.loop-number.invariant.group_count;
       same_rows = c.loop-number.invariant.same_rows;
       heaps = λ n. elim (cases_lt n (length c.loop-number.groups)) [
-        | inl l ↦ c.loop-number.invariant.heaps n (omega (arith, l, c.loop-number.invariant.group_count, all))
+        | inl l ↦ c.loop-number.invariant.heaps n (below_count _ _ _ l (c.loop-number.invariant.group_count ∙ sym all))
         | inr past ↦ λ i some h. absurd (omega (arith, ap length (get_or_past c.loop-number.groups n [] past), h))
       ];
       least_count = c.loop-number.invariant.least_count ∙ all;
       leasts = λ n l. c.loop-number.invariant.leasts n (subst (λ m. n < m) (sym all) l);
       cost = without_rest _ _ _ c.loop-number.invariant.counted;
     }
+
+pub replace-requires-clause-group : goal.replace-requires-clause-group
+replace-requires-clause-group g c =
+    at_list _ _ _ (below_count _ _ _ c.loop-number-test.true c.len-number-end.ensures) c.loop-number.invariant.group_count

@@ -76,7 +76,7 @@ returns g c =
     record {
       plan = record {
         whole = planned query c.args.tables.now c.args.join.now c.requires.stored.stored c.requires.stored.count c.args.over.now c.requires.over g.R.Rank.KEYS g.R.Rank.key c.requires.ranks.fits c.requires.ranks.keys
-            (omega (arith, nodes, built.formed.shaped.few_nodes)) c.requires.stored.ordered c.requires.stored.atoms
+            (subst (λ n. n ≤ 16) nodes built.formed.shaped.few_nodes) c.requires.stored.ordered c.requires.stored.atoms
             c.in_ok-built.built.tree built.built built.formed.each_node built.tie_free _ _ c.in_ok-reduced.ensures.reduced c.in_ok-tree.ensures.solved c.nodes-nodes.ensures.formed
             c.in_ok-built.built.rows_of.items _ built.counts c.in_order-node_rows.ensures.counted c.in_order-node_rows.ensures.moved
             c.in_ok-built.built.used _ built.all built.within (omega (arith, c.rows_of_tables.ensures.rows));

@@ -1,6 +1,7 @@
-use Rattle.std.proofs.Common.{◌≡◌, ◌+◌, ◌≤◌, ◌∙◌, ℕ, Bool, false, nat_lt, List, [], length, inl, inr, ap, sym, subst, arith}
+use Rattle.std.proofs.Common.{◌≡◌, ◌+◌, ◌<◌, ◌≤◌, ◌∙◌, ℕ, Bool, false, true, nat_lt, List, [], length, inl, inr, ap, sym, subst, arith}
 use Rattle.std.specs.List.{All}
 use Rattle.std.proofs.lemmas.Bool.{false≢true, lt-ltb, cases_lt}
+use Rattle.std.proofs.lemmas.Bool.Decides.{nat_tests}
 use Rattle.std.proofs.lemmas.List.{get_or_past}
 use Rattle.std.proofs.lemmas.Result.{IfOk-from_err}
 use Rattle.std.proofs.lemmas.List.Elements.{All-nil}
@@ -19,6 +20,24 @@ use Rattle.plan_build.proofs.queue.first_queue.Goals as goal
 -- what a test that failed says
 none_below : (n : ℕ) (b : Bool) → b ≡ nat_lt 0 n → b ≡ false → n ≤ 0
 none_below n b is fails = elim (cases_lt 0 n) [ inl some ↦ absurd (false≢true (sym fails ∙ is ∙ lt-ltb 0 n some)) | inr none ↦ none ]
+
+some_room : (n room : ℕ) → n + 1 ≤ room → 0 < room
+some_room n room l = omega (arith, l)
+
+none_besides : (a b n : ℕ) → a ≡ b + n → n ≡ 0 → a ≡ b
+none_besides a b n e z = omega (arith, e, z)
+
+one_at_most : (a n : ℕ) → a ≤ n + 1 → n ≡ 0 → a ≤ 1
+one_at_most a n l z = omega (arith, l, z)
+
+one_bit : bit_length 1 ≡ 1
+one_bit = bit_length_is 1 1 (omega arith) (λ _. omega arith)
+
+is_live : (n : ℕ) (b : Bool) → b ≡ nat_lt 0 n → b ≡ true → 0 < n
+is_live n b is holds = elim (cases_lt 0 n) [ inl some ↦ some | inr none ↦ absurd (not_below n none (sym is ∙ holds)) ]
+  where
+    not_below : (n : ℕ) → n ≤ 0 → nat_lt 0 n ≡ true → ⊥
+    not_below n none test = grind (arith, nat_tests)
 
 -- the queue over a tree without solutions
 none_begins : {R : Type 0} (d : ℕ) (key : R → KeyOf d 16) (t : List (NodeView R)) (es : List (Entry R ℕ)) (spare : ℕ) → IsFormed d key t → IsTieFreeTree t → group_count t 0 ≤ 0 → es ≡ []
@@ -58,11 +77,23 @@ returns g c =
     let empty : c.reserve.new.self.entries ≡ [] = c.reserve.ensures.entries ∙ c.new-queue.ensures.entries in
     let none : length c.reserve.new.self.entries ≡ 0 = ap (λ (es : List (Entry g.row.R.Denot ℕ)). length es) empty in
     let both = queue_begins g.R.Rank.KEYS g.R.Rank.key t c.offer.new.queue.entries c.offer.new.queue.spare c.live.ensures.formed c.requires.tie_free c.offer.ensures.entries
-    (λ i. omega (arith, c.offer.ensures.held i, nothing_held (root_len t) c.reserve.new.self.entries i none))
-    (omega (arith, c.offer.ensures.room, c.in_ok-reserve.ensures.ok, c.group_len.ensures)) (omega (arith, c.offer.ensures.length, none)) in
-    let one : bit_length (length c.reserve.new.self.entries + 1) ≡ 1 = ap (λ n. bit_length (n + 1)) none ∙ bit_length_is 1 1 (omega arith) (λ _. omega arith) in
+    (λ i. none_besides _ _ _ (c.offer.ensures.held i) (nothing_held (root_len t) c.reserve.new.self.entries i none))
+    (omega (arith, c.offer.ensures.room, c.in_ok-reserve.ensures.ok, c.group_len.ensures)) (one_at_most _ _ c.offer.ensures.length none) in
+    let one : bit_length (length c.reserve.new.self.entries + 1) ≡ 1 = ap (λ n. bit_length (n + 1)) none ∙ one_bit in
     record {
       queue = both.0;
       best = both.1;
       cost = omega (arith, c.offer.ensures.cost, one, c.live.ensures.formed.shaped.some_node);
     }
+
+pub offer-requires-clause-live : goal.offer-requires-clause-live
+offer-requires-clause-live g c = is_live (group_count c.args.tree.now 0) c.live.result c.live.ensures.live c.if-not-live.false
+
+pub group_len-requires-clause-group : goal.group_len-requires-clause-group
+group_len-requires-clause-group g c = is_live (group_count c.args.tree.now 0) c.live.result c.live.ensures.live c.if-not-live.false
+
+pub offer-requires-clause-formed : goal.offer-requires-clause-formed
+offer-requires-clause-formed g c = c.live.ensures.formed
+
+pub offer-requires-clause-room : goal.offer-requires-clause-room
+offer-requires-clause-room g c = some_room _ _ c.in_ok-reserve.ensures.ok

@@ -6,6 +6,3 @@ returns g c = record {
   reduced = handed c.and.result c.reduce_nodes-reduced.result _ _ c.and.ensures c.reduce_nodes-reduced.ensures.reduced;
   cost = c.reduce_nodes-reduced.ensures.cost;
 }
-
-pub reduce_nodes-reduced-requires : goal.reduce_nodes-reduced-requires
-reduce_nodes-reduced-requires g c = c.new-nodes.ensures.items

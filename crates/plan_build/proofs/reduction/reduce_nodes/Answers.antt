@@ -4,6 +4,7 @@ use Rattle.tdp_core.specs.RawView.{IsRawFormed, RawView, rows_at}
 use Rattle.tdp_core.specs.TreeView.{node_view}
 use Rattle.tdp_core.proofs.RawFacts.{formed_less}
 use Rattle.plan_build.specs.Reduction.{links_of, IsReducedNode, AreFew, group_links}
+use Rattle.plan_build.proofs.LoopCounts.{at_list}
 use Rattle.plan_build.proofs.FromLast.{links_last, AreReducedLast}
 use Rattle.plan_build.proofs.FromLast.{count_down, few_more, few_none, from_more, from_none, less_apart, less_before, links_more, links_none, step_down, steps_few, steps_more}
 use Rattle.plan_build.proofs.SameRows.{links_same, reduced_same, steps_same}
@@ -16,8 +17,8 @@ returns-in_err-grouped g c = record {
   reduced = failed c.from_residual.result _ c.from_residual.ensures.0;
   cost = let raw = c.args.tree.now in
       let v = c.loop-node.node - 1 in
-      let at = step_down c.loop-node.node (length c.loop-node.later.items) (length raw.shapes) (omega arith) c.loop-node.invariant.count in
-      let less : v < length raw.rows = rw c.nodes-node.ensures.formed.each_node at.below in
+      let at = step_down c.loop-node.node (length c.loop-node.later.items) (length raw.shapes) c.loop-node-test.true c.loop-node.invariant.count in
+      let less : v < length raw.rows = at_list _ _ _ at.below c.nodes-node.ensures.formed.each_node in
       let one = steps_same v [] c.loop-node.tree raw c.loop-node.invariant.shapes (c.loop-node.invariant.rows v at.first) c.loop-node.steps c.reduce_node.new.steps c.reduce_node.ensures.cost in
       steps_few raw.rows v (length raw.shapes) c.args.steps.now c.reduce_node.new.steps
       (steps_more raw.rows v c.loop-node.node (length raw.shapes) c.args.steps.now c.loop-node.steps c.reduce_node.new.steps less at.is c.loop-node.invariant.counted one);
@@ -28,8 +29,8 @@ returns-in_err-insert g c = record {
   reduced = failed c.from_residual-in_err-insert.result _ c.from_residual-in_err-insert.ensures.0;
   cost = let raw = c.args.tree.now in
       let v = c.loop-node.node - 1 in
-      let at = step_down c.loop-node.node (length c.loop-node.later.items) (length raw.shapes) (omega arith) c.loop-node.invariant.count in
-      let less : v < length raw.rows = rw c.nodes-node.ensures.formed.each_node at.below in
+      let at = step_down c.loop-node.node (length c.loop-node.later.items) (length raw.shapes) c.loop-node-test.true c.loop-node.invariant.count in
+      let less : v < length raw.rows = at_list _ _ _ at.below c.nodes-node.ensures.formed.each_node in
       let one = steps_same v [] c.loop-node.tree raw c.loop-node.invariant.shapes (c.loop-node.invariant.rows v at.first) c.loop-node.steps c.reduce_node.new.steps c.reduce_node.ensures.cost in
       steps_few raw.rows v (length raw.shapes) c.args.steps.now c.reduce_node.new.steps
       (steps_more raw.rows v c.loop-node.node (length raw.shapes) c.args.steps.now c.loop-node.steps c.reduce_node.new.steps less at.is c.loop-node.invariant.counted one);
@@ -40,8 +41,8 @@ returns-in_err-insert-2 g c = record {
   reduced = failed c.from_residual-in_err-insert-2.result _ c.from_residual-in_err-insert-2.ensures.0;
   cost = let raw = c.args.tree.now in
       let v = c.loop-node.node - 1 in
-      let at = step_down c.loop-node.node (length c.loop-node.later.items) (length raw.shapes) (omega arith) c.loop-node.invariant.count in
-      let less : v < length raw.rows = rw c.nodes-node.ensures.formed.each_node at.below in
+      let at = step_down c.loop-node.node (length c.loop-node.later.items) (length raw.shapes) c.loop-node-test.true c.loop-node.invariant.count in
+      let less : v < length raw.rows = at_list _ _ _ at.below c.nodes-node.ensures.formed.each_node in
       let one = steps_same v [] c.loop-node.tree raw c.loop-node.invariant.shapes (c.loop-node.invariant.rows v at.first) c.loop-node.steps c.reduce_node.new.steps c.reduce_node.ensures.cost in
       steps_few raw.rows v (length raw.shapes) c.args.steps.now c.reduce_node.new.steps
       (steps_more raw.rows v c.loop-node.node (length raw.shapes) c.args.steps.now c.loop-node.steps c.reduce_node.new.steps less at.is c.loop-node.invariant.counted one);
@@ -54,10 +55,10 @@ loop-node-preserved g c =
     let v = c.loop-node.node - 1 in
     let before = c.loop-node.invariant in
     let nodes = ap length before.shapes in
-    let some : 0 < c.loop-node.node = omega arith in
+    let some : 0 < c.loop-node.node = c.loop-node-test.true in
     let at = step_down c.loop-node.node (length c.loop-node.later.items) (length raw.shapes) some before.count in
-    let here : v < length tree.shapes = rw nodes at.below in
-    let less : v < length raw.rows = rw c.nodes-node.ensures.formed.each_node at.below in
+    let here : v < length tree.shapes = at_list _ _ _ at.below nodes in
+    let less : v < length raw.rows = at_list _ _ _ at.below c.nodes-node.ensures.formed.each_node in
     let same = before.rows v at.first in
     let later = map links_of c.loop-node.later.items in
     let part = node_view c.in_ok-grouped.grouped.parts in

@@ -1,4 +1,4 @@
-use Rattle.std.proofs.Common.{◌≡◌, ℕ, ◌<◌, [], All, length, map, get_or, refl, sym, ap, subst, ◌∙◌, arith}
+use Rattle.std.proofs.Common.{◌≡◌, ℕ, ◌+◌, ◌*◌, ◌<◌, ◌≤◌, [], All, length, map, get_or, refl, sym, ap, subst, ◌∙◌, arith}
 use Rattle.std.proofs.Math.ListN.{set}
 use Rattle.std.specs.List.{concat}
 use Rattle.std.proofs.lemmas.List.{length-map, length-set}
@@ -10,28 +10,36 @@ use Rattle.plan_build.specs.Orders.{key_at, IsHeapOver}
 use Rattle.plan_build.specs.SolvedTrees.{IsReordered}
 use Rattle.plan_build.proofs.LaterNodes.{member_row, members_total}
 use Rattle.plan_build.proofs.Leasts.{leasts_next}
+use Rattle.plan_build.proofs.LoopCounts.{at_list, below_count}
 use Rattle.plan_build.proofs.NodeReads.{read_node, written_here, written_elsewhere, written_reordered}
 use Rattle.plan_build.proofs.NodeSolved.{solved_next}
 use Rattle.plan_build.proofs.solving.solve_node.Goals as goal
+
+best_steps : (start best rows nodes : ℕ) → best ≤ start + rows * nodes → best ≤ start + rows * (nodes + 2)
+best_steps start best rows nodes h = omega (arith, h)
+
+solved_steps : (start best after rows members nodes : ℕ) → best ≤ start + rows * nodes → after ≤ best + 2 * members → members ≡ rows
+    → after ≤ start + rows * (nodes + 2)
+solved_steps start best after rows members nodes h k e = omega (arith, h, k, e)
 
 pub order_groups-requires-clause-rows : goal.order_groups-requires-clause-rows
 order_groups-requires-clause-rows g c =
     let parts = c.args.nodes.now in
     let t = tree_view parts in
     let v = c.args.node in
-    let inside : v < length t = omega (arith, c.requires.node, length-map parts node_view) in
+    let inside : v < length t = at_list _ _ _ c.requires.node (length-map parts node_view) in
     let groups : (node_at t v).groups ≡ (get_or parts v c.index-nodes-node.result).groups = ap (λ n. n.groups) (read_node parts v c.index-nodes-node.result c.requires.node) in
     let count : rows t v ≡ length c.as_slice.result.now = sym c.in_ok-best.ensures.count ∙ ap length (sym c.as_slice.ensures.value) in
     λ n. subst (λ gs. All (λ r. r < length c.as_slice.result.now) (get_or gs n [])) groups
     (All-from_get_or (λ r. r < length c.as_slice.result.now) (members t v n) 0
-    (λ i l. let low = member_row g.R.Rank.KEYS g.R.Rank.key t c.requires.laid_out v n i inside l in omega (arith, low, count)))
+    (λ i l. below_count _ _ _ (member_row g.R.Rank.KEYS g.R.Rank.key t c.requires.laid_out v n i inside l) count))
 
 pub order_groups-requires-clause-inhabited : goal.order_groups-requires-clause-inhabited
 order_groups-requires-clause-inhabited g c =
     let parts = c.args.nodes.now in
     let t = tree_view parts in
     let v = c.args.node in
-    let inside : v < length t = omega (arith, c.requires.node, length-map parts node_view) in
+    let inside : v < length t = at_list _ _ _ c.requires.node (length-map parts node_view) in
     let groups : (node_at t v).groups ≡ (get_or parts v c.index-nodes-node.result).groups = ap (λ n. n.groups) (read_node parts v c.index-nodes-node.result c.requires.node) in
     subst (λ gs. (n : ℕ) → n < length gs → 0 < length (get_or gs n [])) groups (λ n l. c.requires.laid_out.inhabited v n inside l)
 
@@ -41,7 +49,7 @@ returns-in_err-best g c =
       reordered = IfOk-from_err c.from_residual.result _ c.from_residual.ensures.0;
       solved = IfOk-from_err c.from_residual.result _ c.from_residual.ensures.0;
       leasts = IfOk-from_err c.from_residual.result _ c.from_residual.ensures.0;
-      cost = omega (arith, c.bests_of.ensures.cost);
+      cost = best_steps c.args.steps.now c.bests_of.new.steps _ (length c.args.nodes.now) c.bests_of.ensures.cost;
     }
 
 pub returns-in_err-own : goal.returns-in_err-own
@@ -49,13 +57,14 @@ returns-in_err-own g c =
     let parts = c.args.nodes.now in
     let t = tree_view parts in
     let v = c.args.node in
-    let inside : v < length t = omega (arith, c.requires.node, length-map parts node_view) in
+    let inside : v < length t = at_list _ _ _ c.requires.node (length-map parts node_view) in
     let groups : (node_at t v).groups ≡ (get_or parts v c.index-nodes-node.result).groups = ap (λ n. n.groups) (read_node parts v c.index-nodes-node.result c.requires.node) in
     record {
       reordered = IfOk-from_err c.from_residual-in_err-own.result _ c.from_residual-in_err-own.ensures.0;
       solved = IfOk-from_err c.from_residual-in_err-own.result _ c.from_residual-in_err-own.ensures.0;
       leasts = IfOk-from_err c.from_residual-in_err-own.result _ c.from_residual-in_err-own.ensures.0;
-      cost = omega (arith, c.order_groups.ensures.cost, c.bests_of.ensures.cost, ap (λ gs. length (concat gs)) groups, members_total g.R.Rank.KEYS g.R.Rank.key t c.requires.laid_out v inside);
+      cost = solved_steps c.args.steps.now c.bests_of.new.steps c.order_groups.new.steps (rows t v) _ (length parts) c.bests_of.ensures.cost c.order_groups.ensures.cost
+          (sym (ap (λ gs. length (concat gs)) groups) ∙ members_total g.R.Rank.KEYS g.R.Rank.key t c.requires.laid_out v inside);
     }
 
 pub returns : goal.returns
@@ -65,7 +74,7 @@ returns g c =
     let parts = c.args.nodes.now in
     let t = tree_view parts in
     let v = c.args.node in
-    let inside : v < length t = omega (arith, c.requires.node, length-map parts node_view) in
+    let inside : v < length t = at_list _ _ _ c.requires.node (length-map parts node_view) in
     let old = get_or parts v c.index-nodes-node.result in
     let groups = c.order_groups.new.groups in
     let best = c.in_ok-best.best in
@@ -97,5 +106,6 @@ returns g c =
           (λ n l.
           subst (λ x. key_at d key own.items n ≡ key_at d key x.best (get_or (get_or x.groups n []) 0 0)) (sym here)
           (c.in_ok-own.ensures.leasts n (omega (arith, l, ap (λ x. length x.groups) here, c.in_ok-own.ensures.group_count)) ∙ ap (λ bs. key_at d key bs (get_or (get_or new.groups n []) 0 0)) c.as_slice.ensures.value));
-      cost = omega (arith, c.order_groups.ensures.cost, c.bests_of.ensures.cost, ap (λ gs. length (concat gs)) before, members_total d key t c.requires.laid_out v inside);
+      cost = solved_steps c.args.steps.now c.bests_of.new.steps c.order_groups.new.steps (rows t v) _ (length parts) c.bests_of.ensures.cost c.order_groups.ensures.cost
+          (sym (ap (λ gs. length (concat gs)) before) ∙ members_total d key t c.requires.laid_out v inside);
     }

@@ -72,13 +72,6 @@ returns g c =
     found q above tree join d key start some at inside (Some n) e =
         (inside n e, inr (some, ap (named_bound tree q) (sym at) ∙ e))
 
-pub bound_count-requires : goal.bound_count-requires
-bound_count-requires g c =
-    let b = c.requires.ready.bounded in
-    let join = c.args.join.now in
-    at_list _ _ _ c.requires.ready.node
-    (b.bounded.each_node ∙ all_nodes b.query b.tables join c.requires.ready.ordered c.requires.ready.long)
-
 pub returns-then-bound_count-eq0 : goal.returns-then-bound_count-eq0
 returns-then-bound_count-eq0 g c h l group =
     let none = c.if-bound_count-eq0.true in let e = c.bound_count.ensures in absurd (omega (arith, l, none, e))

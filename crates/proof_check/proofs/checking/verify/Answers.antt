@@ -16,6 +16,7 @@ use Rattle.proof_model.specs.QueryProblem.{problem_in}
 use Rattle.proof_model.specs.Valid.{IsFirst, IsValid, missed}
 use Rattle.proof_check.specs.Choices.{IsMissed, TellsMissed}
 use Rattle.proof_check.specs.RowLists.{item_rows, list_at}
+use Rattle.proof_check.proofs.Counts.{at_list}
 use Rattle.proof_check.proofs.Missing.{missed_first}
 use Rattle.proof_check.proofs.Rows.{rows_at, rows_seen, tree_size}
 use Rattle.proof_check.proofs.Tellings.{told_err}
@@ -40,10 +41,10 @@ rows_of-requires-clause-each g c =
     let xs = c.args.proof.now.answers.items in
     let placed = c.in_ok-answers.ensures.placed in
     let long : length join.atom ≡ 16 = omega arith in
-    let some : 0 < join.count = let e = c.requires.count in let s = c.requires.fits.some in omega (arith, e, s) in
+    let some : 0 < join.count = at_list 0 _ _ c.requires.fits.some c.requires.count in
     let each : (i : ℕ) → i < length xs → length (list_at (map (λ a. a.rows.items) xs) i) ≡ join.count = λ i l.
     ap length (rows_at xs i l)
-    ∙ (placed.answers i (omega (arith, l, length-map xs listed_view))).count
+    ∙ (placed.answers i (at_list _ _ _ l (length-map xs listed_view))).count
     ∙ tree_size query tables join c.requires.ordered long some in
     subst (λ ys. (i : ℕ) → i < length ys → length (list_at (map (λ a. a.rows.items) ys) i) ≡ join.count)
     (sym c.deref.ensures.value) each

@@ -1,4 +1,4 @@
-use Rattle.std.proofs.Common.{◌<◌, length, sym, ap, subst, ◌∙◌, below_more}
+use Rattle.std.proofs.Common.{◌<◌, sym, ap, subst, ◌∙◌, below_more}
 use Rattle.std.proofs.lemmas.Bool.{false≢true}
 use Rattle.tdp_core.specs.RawView.{raw_len, raw_number}
 use Rattle.proof_model.specs.QueryProblem.{problem_in}
@@ -6,9 +6,6 @@ use Rattle.proof_model.specs.Valid.{IsCovered}
 use Rattle.proof_check.proofs.Coverings.{not-true}
 use Rattle.proof_check.proofs.Counts.{at_list, below_count, none_below, within_end}
 use Rattle.proof_check.proofs.covering.has_weak_row.Goals as goal
-
-pub len-row-end-requires : goal.len-row-end-requires
-len-row-end-requires g c = at_list _ _ _ c.requires.node (ap (λ z. length z.raw.shapes) c.tree.view_is)
 
 pub returns-then-not-is_covered : goal.returns-then-not-is_covered
 returns-then-not-is_covered g c = record {

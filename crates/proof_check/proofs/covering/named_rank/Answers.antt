@@ -3,12 +3,6 @@ use Rattle.proof_check.specs.BoundedRows.{rank_of_bound}
 use Rattle.proof_check.proofs.BoundReads.{at_node, named_items, named_read, rank_items, rank_read}
 use Rattle.proof_check.proofs.covering.named_rank.Goals as goal
 
-pub index-requires : goal.index-requires
-index-requires g c =
-    let b = c.index-bounds.result.now in
-    let at = at_node c.args.tree.now c.tree.inside.bounds.items c.args.node b (ap (λ t. t.bounds) c.tree.view_is) c.index-bounds.ensures in
-    omega (arith, ap length (named_items c.args.tree.now c.args.node b c.requires.node at), b.named.ok.0)
-
 pub returns-in_err-number : goal.returns-in_err-number
 returns-in_err-number g c =
     let b = c.index-bounds.result.now in
@@ -17,15 +11,6 @@ returns-in_err-number g c =
     let none = named_read c.args.tree.now c.args.node b c.requires.node at c.args.above _ (omega arith) c.index.ensures ∙ c.in_err-number.was in
     ap (option_map g.R.Rank.key) c.from_residual.ensures
     ∙ sym (ap (option_map (rank_of_bound c.args.tree.now g.R.Rank.KEYS g.R.Rank.key c.args.node)) none)
-
-pub index-requires-2 : goal.index-requires-2
-index-requires-2 g c =
-    let b = c.index-bounds.result.now in
-    let at = at_node c.args.tree.now c.tree.inside.bounds.items c.args.node b (ap (λ t. t.bounds) c.tree.view_is) c.index-bounds.ensures in
-    let few = ap length (named_items c.args.tree.now c.args.node b c.requires.node at) in
-    let is = named_read c.args.tree.now c.args.node b c.requires.node at c.args.above _ (omega arith) c.index.ensures ∙ c.in_ok-number.was in
-    let ranks = ap length (rank_items c.args.tree.now c.args.node b c.requires.node at) in
-    omega (arith, c.requires.each c.in_ok-number.number is, b.ranks.ok.0)
 
 pub returns : goal.returns
 returns g c =

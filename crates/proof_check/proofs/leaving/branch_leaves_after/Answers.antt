@@ -24,7 +24,7 @@ pub join-rank-requires : goal.join-rank-requires
 join-rank-requires g c =
     let at = goal.at.join-rank-requires g c in
     let found = c.in-Some-first_open.ensures.found in
-    (c.requires.fits c.in-Some.branch c.in-Some.is).1 found.0 c.in-Some-first_open.offer
+    c.requires.fits c.in-Some.branch c.in-Some.is found.0 c.in-Some-first_open.offer
     (subst (λ xs. slice_get xs found.0 ≡ Some c.in-Some-first_open.offer) (sym (list_is g at.After-deref)) found.1)
 
 pub returns-in_default : goal.returns-in_default

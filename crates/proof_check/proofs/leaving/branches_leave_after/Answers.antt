@@ -1,8 +1,8 @@
 use Rattle.std.proofs.Common.{◌≡◌, None, Some, map, option_map, slice_index_or, sym, ap, subst, ◌∙◌, inl, inr}
 use Rattle.std.proofs.lemmas.Bool.{cases_lt, false≢true}
-use Rattle.std.proofs.lemmas.List.{get_or_default, length-map}
+use Rattle.std.proofs.lemmas.List.{get_or_default}
 use Rattle.proof_check.specs.Levels.{IsFirstPast}
-use Rattle.proof_check.proofs.Counts.{at_list, last_one, none_below, within_end}
+use Rattle.proof_check.proofs.Counts.{last_one, none_below, within_end}
 use Rattle.proof_check.proofs.leaving.branches_leave_after.Goals as goal
 
 pub loop-number-init : goal.loop-number-init
@@ -10,14 +10,13 @@ loop-number-init g c n b l e = absurd (none_below _ l)
 
 pub branch_leaves_after-requires-clause-group : goal.branch_leaves_after-requires-clause-group
 branch_leaves_after-requires-clause-group g c b e =
-    let fits = c.requires c.loop-number.number b c.loop-number-test.true
+    c.requires.group c.loop-number.number b c.loop-number-test.true
     (get_or_default c.args.branches.now c.loop-number.number None c.index-branches-number.result c.loop-number-test.true
-    ∙ sym c.index-branches-number.is ∙ e) in
-    at_list _ _ _ fits.0 (sym (length-map c.args.lists.now (λ v. v.items)))
+    ∙ sym c.index-branches-number.is ∙ e)
 
 pub branch_leaves_after-requires-clause-fits : goal.branch_leaves_after-requires-clause-fits
 branch_leaves_after-requires-clause-fits g c b e =
-    c.requires c.loop-number.number b c.loop-number-test.true
+    c.requires.fits c.loop-number.number b c.loop-number-test.true
     (get_or_default c.args.branches.now c.loop-number.number None c.index-branches-number.result c.loop-number-test.true
     ∙ sym c.index-branches-number.is ∙ e)
 

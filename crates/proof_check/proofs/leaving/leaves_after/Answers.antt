@@ -1,7 +1,9 @@
 use Rattle.std.proofs.Common.{◌≡◌, ◌<◌, ℕ, None, Some, length, map, option_map, slice_index_or, sym, subst, arith}
+use Rattle.std.proofs.lemmas.List.{length-map}
 use Rattle.std.proofs.lemmas.Result.{IfOk-from_err}
 use Rattle.proof_check.specs.declared.branches.Branch.{Branch}
-use Rattle.proof_check.specs.Levels.{CanLeave, FitOffers, IsFirstEarly, IsFirstPast}
+use Rattle.proof_check.specs.Levels.{CanLeave, FitSums, IsFirstEarly, IsFirstPast}
+use Rattle.proof_check.proofs.Counts.{at_list}
 use Rattle.proof_check.proofs.Testing.{can_leave, way_from, way_past}
 use Rattle.proof_check.proofs.Walking.{left_after, left_before, offers_fit}
 use Rattle.proof_check.proofs.leaving.leaves_after.Given.{Over}
@@ -33,20 +35,29 @@ lists_of-requires-clause-branches g c n b l e =
     can g at.In_ok-branches n b (subst (λ xs. n < length xs) c.deref.ensures.value l)
     (subst (λ xs. slice_index_or xs n None ≡ Some b) c.deref.ensures.value e)
 
-pub branches_leave_after-requires : goal.branches_leave_after-requires
-branches_leave_after-requires g c n b l e =
+pub branches_leave_after-requires-clause-group : goal.branches_leave_after-requires-clause-group
+branches_leave_after-requires-clause-group g c n b l e =
+    let its = c.in_ok-lists.ensures n b
+    (subst (λ xs. n < length xs) (sym c.deref.ensures.value) (subst (λ xs. n < length xs) c.deref-2.ensures.value l))
+    (subst (λ xs. slice_index_or xs n None ≡ Some b) (sym c.deref.ensures.value)
+    (subst (λ xs. slice_index_or xs n None ≡ Some b) c.deref-2.ensures.value e)) in
+    subst (λ xs. b.group < length xs) (sym c.deref-3.ensures.value)
+    (at_list _ _ _ its.within (sym (length-map c.in_ok-lists.lists.items (λ v. v.items))))
+
+pub branches_leave_after-requires-clause-fits : goal.branches_leave_after-requires-clause-fits
+branches_leave_after-requires-clause-fits g c n b l e =
     let d = g.R.Rank.KEYS in
     let key = g.R.Rank.key in
     let join = c.args.join.now in
     let tree = c.args.tree.now in
     let p = c.args.node in
-    let at = goal.at.branches_leave_after-requires g c in
+    let at = goal.at.branches_leave_after-requires-clause-fits g c in
     let l' = subst (λ xs. n < length xs) c.deref-2.ensures.value l in
     let e' = subst (λ xs. slice_index_or xs n None ≡ Some b) c.deref-2.ensures.value e in
     let lists = map (λ v. v.items) c.in_ok-lists.lists.items in
     let its = c.in_ok-lists.ensures n b (subst (λ xs. n < length xs) (sym c.deref.ensures.value) l')
     (subst (λ xs. slice_index_or xs n None ≡ Some b) (sym c.deref.ensures.value) e') in
-    subst (λ xs. FitOffers d key b (map (λ v. v.items) xs)) (sym c.deref-3.ensures.value)
+    subst (λ xs. FitSums d key b (map (λ v. v.items) xs)) (sym c.deref-3.ensures.value)
     (offers_fit join tree d key p c.requires.ready (option_map key c.args.last.now) b lists its (can g at.In_ok-branches n b l' e'))
 
 pub returns : goal.returns

@@ -1,6 +1,7 @@
-use Rattle.std.proofs.Common.{◌≡◌, ◌<◌, None, Some, option_map, length, map, slice_index_or, sym, ap, subst, arith}
+use Rattle.std.proofs.Common.{◌≡◌, ◌<◌, ◌≤◌, None, Some, option_map, length, map, slice_index_or, sym, subst, ◌∙◌}
 use Rattle.std.proofs.lemmas.Result.{IfOk-from_err, IfOk-weaker}
 use Rattle.proof_check.specs.Levels.{AreGroups, AreLeast, own_bounds}
+use Rattle.proof_check.proofs.Counts.{at_list}
 use Rattle.proof_check.proofs.Preparing.{few_rows_lem, node_bounds, own_within}
 use Rattle.proof_check.proofs.Testing.{least_fits}
 use Rattle.proof_check.proofs.Walking.{listed}
@@ -16,9 +17,8 @@ own_numbers-requires g c =
 
 pub rows_by_bound-requires-clause-few : goal.rows_by_bound-requires-clause-few
 rows_by_bound-requires-clause-few g c =
-    let few = few_rows_lem c.args.join.now c.args.tree.now g.R.Rank.KEYS g.R.Rank.key c.args.node c.requires.ready in
-    let e = ap length c.own_numbers.ensures in
-    omega (arith, few, e)
+    subst (λ xs. length xs ≤ 4194304) (sym c.own_numbers.ensures)
+    (few_rows_lem c.args.join.now c.args.tree.now g.R.Rank.KEYS g.R.Rank.key c.args.node c.requires.ready)
 
 pub rows_by_bound-requires-clause-within : goal.rows_by_bound-requires-clause-within
 rows_by_bound-requires-clause-within g c i b l e =
@@ -37,8 +37,7 @@ lists_by_group-requires-clause-ready g c = c.requires.ready
 
 pub lists_by_group-requires-clause-groups : goal.lists_by_group-requires-clause-groups
 lists_by_group-requires-clause-groups g c =
-    let size : c.bound_count-count.result ≡ length c.deref.result.now =
-    let a = c.in_ok-least.ensures.count in let b = c.deref.ensures.len in omega (arith, a, b) in
+    let size : c.bound_count-count.result ≡ length c.deref.result.now = sym c.in_ok-least.ensures.count ∙ sym c.deref.ensures.len in
     subst (λ n. AreGroups (own_bounds c.args.tree.now c.args.node) n c.in_ok-groups.groups) size
     (subst (λ xs. AreGroups xs c.bound_count-count.result c.in_ok-groups.groups) c.own_numbers.ensures c.in_ok-groups.ensures)
 
@@ -56,8 +55,7 @@ returns g c =
     let tree = c.args.tree.now in
     let p = c.args.node in
     let least = c.deref.result.now in
-    let size : c.bound_count-count.result ≡ length least =
-    let a = c.in_ok-least.ensures.count in let b = c.deref.ensures.len in omega (arith, a, b) in
+    let size : c.bound_count-count.result ≡ length least = sym c.in_ok-least.ensures.count ∙ sym c.deref.ensures.len in
     let grouped = subst (λ n. AreGroups (own_bounds tree p) n c.in_ok-groups.groups) size
     (subst (λ xs. AreGroups xs c.bound_count-count.result c.in_ok-groups.groups) c.own_numbers.ensures c.in_ok-groups.ensures) in
     let its : AreLeast d key (length c.args.branches.now) c.args.branches.now least =
@@ -66,7 +64,7 @@ returns g c =
     (λ lists are n b l e.
     listed join tree d key p c.requires.ready c.in_ok-groups.groups least grouped (option_map key c.args.last.now)
     c.args.branches.now its (map (λ v. v.items) lists.items) are n b l e
-    (let h = (c.requires.branches n b l e).0 in let m = c.bound_count-count.ensures in omega (arith, h, m, size)))
+    (at_list _ _ _ (c.requires.branches n b l e).0 (sym size ∙ c.bound_count-count.ensures)))
     c.lists_by_group.ensures
 
 pub returns-in_err-groups : goal.returns-in_err-groups

@@ -1,12 +1,30 @@
-use Rattle.std.proofs.Common.{◌<◌, [], ℕ, length, map, get_or, refl, sym, ap, subst, ◌∙◌, inl, inr, arith}
+use Rattle.std.proofs.Common.{◌<◌, ◌≤◌, [], ℕ, length, map, get_or, refl, sym, ap, subst, ◌∙◌, inl, inr, arith}
 use Rattle.std.proofs.Math.ListN.{length-set, set}
 use Rattle.std.proofs.lemmas.Bool.{cases_eq}
 use Rattle.tdp_core.proofs.RawReads.{list_read}
 use Rattle.proof_check.specs.Lines.{AreNamed}
 use Rattle.proof_check.proofs.Pushed.{new_part, old_part, same_part}
 use Rattle.std.proofs.lemmas.Result.{IfOk-from_err}
-use Rattle.proof_check.proofs.Counts.{at_list, below_count, none_below}
+use Rattle.proof_check.proofs.Counts.{at_list, below_count, none_below, within_end}
 use Rattle.proof_check.proofs.names.name_all.Goals as goal
+
+pub name_groups-requires-clause-node : goal.name_groups-requires-clause-node
+name_groups-requires-clause-node g c = below_count _ _ _ c.loop-node-test.true c.nodes-node-end.ensures.count
+
+pub name_groups-requires-clause-groups : goal.name_groups-requires-clause-groups
+name_groups-requires-clause-groups g c =
+    let l : c.loop-node.node < length c.args.raw.now.shapes = below_count _ _ _ c.loop-node-test.true c.nodes-node-end.ensures.count in
+    let there = at_list _ _ _ l c.requires.each_group in
+    subst (λ xs. length xs ≤ 4194304)
+    (list_read c.args.groups.now c.loop-node.node c.index-groups-node.result there c.index-groups-node.is)
+    (c.requires.few c.loop-node.node l)
+
+pub returns : goal.returns
+returns g c = record {
+  named = λ v l.
+      c.loop-node.invariant.named v (within_end _ _ _ (at_list _ _ _ l (c.nodes-node-end.ensures.count)) c.loop-node-test.false);
+  ranks = c.loop-node.invariant.ranks;
+}
 
 pub returns-in_err-name_groups : goal.returns-in_err-name_groups
 returns-in_err-name_groups g c = record {

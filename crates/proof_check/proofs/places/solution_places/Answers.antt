@@ -1,5 +1,6 @@
-use Rattle.std.proofs.Common.{◌≡◌, ◌<◌, false, true, length, get_or, refl, sym, ap, subst, ◌∙◌, arith}
+use Rattle.std.proofs.Common.{◌≡◌, ◌<◌, ◌≤◌, ℕ, length, get_or, refl, sym, ap, subst, ◌∙◌, arith}
 use Rattle.std.proofs.Math.ListN.{length-set}
+use Rattle.std.proofs.lemmas.Bool.{false≢true}
 use Rattle.std.specs.Option.{MatchOption}
 use Rattle.tdp_core.specs.RawView.{raw_len, shape_parent}
 use Rattle.proof_model.specs.Problem.{IsSolutionAt}
@@ -9,10 +10,13 @@ use Rattle.proof_check.specs.Subtrees.{ArePlacedBefore, HasLinkOf, raw_below}
 use Rattle.proof_check.proofs.Placing.{placed_more, placed_none, placed_skip}
 use Rattle.proof_check.proofs.PlacedSolutions.{found, in_nodes, must_link, size_of, whole}
 use Rattle.proof_check.proofs.Subtrees.{below_up, parent_low, parents_first_lem}
-use Rattle.proof_check.proofs.Counts.{above_root, below_count, some_of}
+use Rattle.proof_check.proofs.Counts.{above_root, below_count, ended_at, no_more, not_both, place_fits, place_fits_4, some_of, within_few}
 use Rattle.proof_check.proofs.places.solution_places.Goals as goal
 use Rattle.proof_check.proofs.places.solution_places.Goals.{else-at-node-via-then-at-node+else-not-is_linked}
 use Rattle.proof_check.proofs.places.solution_places.Goals.{else-at-node-via-else-at-node}
+
+up_within : (p q i n m : ℕ) → p ≡ q → q ≤ i → i < n → n ≤ m → p < m
+up_within p q i n m e low l few = omega (arith, e, low, l, few)
 
 pub returns-then-rows-size : goal.returns-then-rows-size
 returns-then-rows-size g c = λ query tables join has s.
@@ -72,20 +76,16 @@ returns-then-not-is_linked g c = λ query tables join has s.
     c.in_ok-place.ensures.within
     (c.in_ok-place.ensures.number
     ∙ ap (λ i. get_or c.args.rows.now i 0) (c.item_place.ensures.place c.args.node c.requires c.subtree-below.ensures)) in
-    let both : false ≡ true = c.if-not-is_linked.ensures.1
-    (subst (λ p. HasLinkOf c.args.raw.now c.loop-at.at (get_or c.loop-at.places p 0) c.in_ok-place.place) (sym up) link) in
-    cc
+    false≢true (c.if-not-is_linked.ensures.1
+    (subst (λ p. HasLinkOf c.args.raw.now c.loop-at.at (get_or c.loop-at.places p 0) c.in_ok-place.place) (sym up) link))
 
 pub returns : goal.returns
 returns g c = λ query tables join has.
-    let end : c.loop-at.at ≡ length c.args.raw.now.shapes = omega (arith, c.nodes-nodes.ensures.count) in
+    let end = ended_at _ _ _ _ c.loop-at.auto.at-end c.loop-at-test.false c.requires c.nodes-nodes.ensures.count in
     whole query tables join g.R.Rank.KEYS g.R.Rank.key c.args.raw.now c.nodes-nodes.ensures.formed.shaped has c.args.node
     c.args.rows.now c.loop-at.places c.requires
     (c.if-rows-size.false ∙ c.size.ensures c.args.node c.requires c.subtree-below.ensures)
     (subst (ArePlacedBefore c.args.raw.now c.args.node c.args.rows.now c.loop-at.places) end c.loop-at.invariant.placed)
-
-pub size-requires : goal.size-requires
-size-requires g c = (c.args.node, c.requires, c.subtree-below.ensures)
 
 pub item_place-requires-clause-node : goal.item_place-requires-clause-node
 item_place-requires-clause-node g c = below_count _ _ _ c.loop-at-test.true c.nodes-nodes.ensures.count
@@ -102,19 +102,28 @@ bounds-rows-item_place g c =
     let size = c.size.ensures c.args.node c.requires c.subtree-below.ensures in
     below_count _ _ _ within (sym (c.if-rows-size.false ∙ size))
 
-pub row_place-requires : goal.row_place-requires
-row_place-requires g c = below_count _ _ _ c.loop-at-test.true c.nodes-nodes.ensures.count
-
-pub shape-requires : goal.shape-requires
-shape-requires g c = below_count _ _ _ c.loop-at-test.true c.nodes-nodes.ensures.count
-
 pub bounds-places-shape : goal.bounds-places-shape
 bounds-places-shape g c =
     let shaped = c.nodes-nodes.ensures.formed.shaped in
     let inside : c.loop-at.at < length c.args.raw.now.shapes = below_count _ _ _ c.loop-at-test.true c.nodes-nodes.ensures.count in
-    let up = ap (λ s. s.parent) c.shape.ensures in
-    let low = parent_low c.args.raw.now shaped c.loop-at.at inside in
-    let few = shaped.few_nodes in omega (arith, up, low, few, inside)
+    up_within _ _ _ _ 16 (ap (λ s. s.parent) c.shape.ensures) (parent_low c.args.raw.now shaped c.loop-at.at inside) inside
+    shaped.few_nodes
+
+pub bounds-places-at : goal.bounds-places-at
+bounds-places-at g c =
+    let inside : c.loop-at.at < length c.args.raw.now.shapes = below_count _ _ _ c.loop-at-test.true c.nodes-nodes.ensures.count in
+    within_few _ _ 16 inside c.nodes-nodes.ensures.formed.shaped.few_nodes
+
+pub overflow_cast-places : goal.overflow_cast-places
+overflow_cast-places g c =
+    place_fits _ _ (below_count _ _ _ c.loop-at-test.true c.nodes-nodes.ensures.count) c.nodes-nodes.ensures.formed.shaped.few_nodes
+
+pub offset_bounds-places-at : goal.offset_bounds-places-at
+offset_bounds-places-at g c =
+    place_fits_4 _ _ (below_count _ _ _ c.loop-at-test.true c.nodes-nodes.ensures.count) c.nodes-nodes.ensures.formed.shaped.few_nodes
+
+pub offset_bounds-places-shape : goal.offset_bounds-places-shape
+offset_bounds-places-shape g c = place_fits_4 _ 16 (bounds-places-shape g c) (no_more 16)
 
 pub is_linked-requires-clause-below_root : goal.is_linked-requires-clause-below_root
 is_linked-requires-clause-below_root g c = above_root _ _ c.if-at-node.true
@@ -154,6 +163,6 @@ loop-at-preserved g c =
           (λ far. elim c.else-at-node.branch [
             | else-at-node-via-then-at-node+else-not-is_linked w ↦
                 subst (λ p. HasLinkOf raw at (get_or places p 0) place) up (w.if-not-is_linked.ensures.0 refl)
-            | else-at-node-via-else-at-node w ↦ let near = w.if-at-node.false in absurd (omega (arith, near, far))
+            | else-at-node-via-else-at-node w ↦ absurd (not_both _ _ w.if-at-node.false far)
           ]);
     }

@@ -1,14 +1,14 @@
-use Rattle.std.proofs.Common.{◌+◌, ◌<◌, length, sym, ap, ◌∙◌, arith}
+use Rattle.std.proofs.Common.{◌+◌, ◌<◌, length, sym, ap, ◌∙◌}
 use Rattle.rankings.specs.TreeProblem.{sum_from}
 use Rattle.bound_query.proofs.NodeSums.{sum_none}
 use Rattle.proof_check.proofs.Subtrees.{before, below_small, place_more, place_same, place_within}
-use Rattle.proof_check.proofs.Counts.{below_count, ended, few_added, few_same}
+use Rattle.proof_check.proofs.Counts.{below_count, ended, few_added, few_fits, few_same, least_both, less_both, less_of, no_more}
 use Rattle.proof_check.proofs.subtree.item_place.Goals as goal
 use Rattle.proof_check.proofs.subtree.item_place.Goals.{then-shape-item, else-shape-item}
 
 pub loop-other-init : goal.loop-other-init
 loop-other-init g c = record {
-  few = omega arith;
+  few = no_more 0;
   sum = λ v l are. sym (sum_none (before c.args.raw.now c.nodes-nodes.ensures.formed.shaped v c.args.node));
 }
 
@@ -18,7 +18,7 @@ overflow_add-place g c =
     let few = c.nodes-nodes.ensures.formed.shaped.few_nodes in
     let at = c.requires.below.2 c.loop-other.other inside in
     let small = below_small c.args.raw.now c.nodes-nodes.ensures.formed.shaped c.requires.below.0 c.loop-other.other inside in
-    omega (arith, few, at, small, c.loop-other.invariant.few)
+    few_fits _ _ _ _ _ at small c.loop-other.invariant.few inside few
 
 pub loop-other-preserved : goal.loop-other-preserved
 loop-other-preserved g c =
@@ -32,13 +32,13 @@ loop-other-preserved g c =
         few = few_added _ _ _ _ _ w.place-is at small c.loop-other.invariant.few;
         sum = λ v l are. w.place-is
             ∙ place_more c.args.raw.now c.nodes-nodes.ensures.formed.shaped v c.args.node c.loop-other.other c.loop-other.place
-            c.args.below.now are inside (omega (arith, here, there, w.if-shape-item.true)) (c.loop-other.invariant.sum v l are);
+            c.args.below.now are inside (less_both _ _ _ _ there here w.if-shape-item.true) (c.loop-other.invariant.sum v l are);
       }
       | else-shape-item w ↦ record {
         few = few_same _ _ _ w.place-is c.loop-other.invariant.few;
         sum = λ v l are. w.place-is
             ∙ place_same c.args.raw.now c.nodes-nodes.ensures.formed.shaped v c.args.node c.loop-other.other c.loop-other.place
-            (omega (arith, here, there, w.if-shape-item.false)) (c.loop-other.invariant.sum v l are);
+            (least_both _ _ _ _ here there w.if-shape-item.false) (c.loop-other.invariant.sum v l are);
       }
     ]
 
@@ -52,5 +52,5 @@ returns g c = record {
       let end = ended _ _ c.loop-other.auto.other-end c.loop-other-test.false ∙ c.nodes-nodes.ensures.count in
       let place = c.loop-other.invariant.sum v l are
       ∙ ap (λ n. sum_from ◌+◌ 0 (before c.args.raw.now c.nodes-nodes.ensures.formed.shaped v c.args.node) n 0) end in
-      omega (arith, place, place_within c.args.raw.now c.nodes-nodes.ensures.formed.shaped v c.args.node c.requires.node some);
+      less_of _ _ _ place (place_within c.args.raw.now c.nodes-nodes.ensures.formed.shaped v c.args.node c.requires.node some);
 }

@@ -1,13 +1,13 @@
-use Rattle.std.proofs.Common.{◌+◌, ◌<◌, length, refl, sym, ap, ◌∙◌, arith}
+use Rattle.std.proofs.Common.{◌+◌, ◌<◌, length, refl, sym, ap, ◌∙◌}
 use Rattle.rankings.specs.TreeProblem.{sum_from}
 use Rattle.proof_check.specs.Subtrees.{raw_below}
 use Rattle.bound_query.proofs.NodeSums.{sum_none}
 use Rattle.proof_check.proofs.Subtrees.{below_small, size_more}
-use Rattle.proof_check.proofs.Counts.{below_count, ended, few_added}
+use Rattle.proof_check.proofs.Counts.{below_count, ended, few_added, few_fits, no_more}
 use Rattle.proof_check.proofs.subtree.size.Goals as goal
 
 pub loop-node-init : goal.loop-node-init
-loop-node-init g c = record { few = omega arith; sum = λ v l are. sym (sum_none (raw_below c.args.raw.now v)) }
+loop-node-init g c = record { few = no_more 0; sum = λ v l are. sym (sum_none (raw_below c.args.raw.now v)) }
 
 pub overflow_add-size : goal.overflow_add-size
 overflow_add-size g c =
@@ -15,7 +15,7 @@ overflow_add-size g c =
     let few = c.nodes-nodes.ensures.formed.shaped.few_nodes in
     let at = c.requires.2 c.loop-node.node inside in
     let small = below_small c.args.raw.now c.nodes-nodes.ensures.formed.shaped c.requires.0 c.loop-node.node inside in
-    omega (arith, few, at, small, c.loop-node.invariant.few)
+    few_fits _ _ _ _ _ at small c.loop-node.invariant.few inside few
 
 pub loop-node-preserved : goal.loop-node-preserved
 loop-node-preserved g c =

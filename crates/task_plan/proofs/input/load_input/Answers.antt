@@ -1,21 +1,22 @@
 use Rattle.std.proofs.Common.{◌≡◌, ◌∙◌, ap, length}
 use Rattle.std.proofs.lemmas.Result.{IfOk-from_err, IfOk-weaker}
 use Rattle.verdict.specs.Loading.{IsReading, file_in}
-use Rattle.verdict.specs.StageResults.{NoTurn}
+use Rattle.verdict.specs.StageResults.{NoTurn, Staged, shelved}
 use Rattle.verdict.specs.Stages.{Is}
-use Rattle.verdict.specs.Verdict.{IsAccompanied, IsRead}
+use Rattle.verdict.specs.Verdict.{IsAccompanied, IsLoadedOn, IsRead}
 use Rattle.verdict.proofs.Staging.{found_then, pure_staged, refusal_then}
-use Rattle.task_plan.specs.Turns.{IsAccompaniedTurn, IsReadTurn}
+use Rattle.task_plan.specs.Turns.{IsAccompaniedTurn, IsReadTurn, IsTurn}
 use Rattle.task_plan.specs.Sought.{sought_view}
-use Rattle.task_plan.proofs.Handing.{handed_on}
+use Rattle.task_plan.specs.StageViews.{input_result_view}
+use Rattle.task_plan.proofs.Handing.{handed_with}
 use Rattle.task_plan.proofs.input.load_input.Goals as goal
 
 pub returns-in_err-bytes : goal.returns-in_err-bytes
 returns-in_err-bytes g c = record {
   staged =
       let sought = sought_view c.args.sought.now in
-      let e = handed_on c.from_residual.result c.in_err-bytes.field-0.0 c.from_residual.ensures.1 in
-      rw e (refusal_then (λ files. Is (file_in files sought.query)) (λ files file. file ≡ sought.query) (λ bytes files. IsRead sought files bytes) (λ bytes files. IsReadTurn sought files bytes)
+      handed_with (λ r. Staged (IsLoadedOn sought) (IsTurn sought) (shelved g.F.Shelf c.args.shelf.now) (shelved g.F.Shelf c.load.new.shelf) (input_result_view r)) c.from_residual.result c.in_err-bytes.field-0.0 c.from_residual.ensures.1
+      (refusal_then (λ files. Is (file_in files sought.query)) (λ files file. file ≡ sought.query) (λ bytes files. IsRead sought files bytes) (λ bytes files. IsReadTurn sought files bytes)
       _ _ _ c.in_err-bytes.ensures.staged);
   alone = λ _. IfOk-from_err c.from_residual.result _ c.from_residual.ensures.0;
   unnamed = λ _. IfOk-from_err c.from_residual.result _ c.from_residual.ensures.0;

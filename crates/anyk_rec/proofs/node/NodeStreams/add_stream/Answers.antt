@@ -1,4 +1,4 @@
-use Rattle.std.proofs.Common.{◌≡◌, ◌+◌, ◌^◌, ◌<◌, ◌≤◌, List, [], ◌∷◌, ◌++◌, length, sym, ap, ◌∙◌, subst, inl, inr, arith}
+use Rattle.std.proofs.Common.{◌≡◌, ◌≢◌, ℕ, ◌+◌, ◌^◌, ◌<◌, ◌≤◌, List, [], ◌∷◌, ◌++◌, length, sym, ap, ◌∙◌, subst, inl, inr, arith}
 use Rattle.std.proofs.lemmas.Bool.{cases_eq, eqb-true, false≢true}
 use Rattle.std.specs.Bool.{◌==◌}
 use Rattle.std.specs.Vec.{vec_len}
@@ -9,6 +9,15 @@ use Rattle.anyk_rec.proofs.HeadedStreams.{stream_at_head, headed_first, headed_n
 use Rattle.anyk_rec.proofs.node.NodeStreams.add_stream.Given.{Over}
 use Rattle.anyk_rec.proofs.node.NodeStreams.add_stream.Goals.{After-push_reserved, then-is_empty, else-is_empty}
 use Rattle.anyk_rec.proofs.node.NodeStreams.add_stream.Goals as goal
+
+first_fits : (f h n m k : ℕ) → f ≡ h → n ≡ m → m ≡ k + 1 → k ≡ 0 → h < 2 ^ 32 → f + n ≤ 2 ^ 32
+first_fits f h n m k e e1 e2 none few = omega arith
+
+next_fits : (f f0 n m k h : ℕ) → f ≡ f0 → n ≡ m → m ≡ k + 1 → h ≡ f0 + k → h < 2 ^ 32 → f + n ≤ 2 ^ 32
+next_fits f f0 n m k h e e1 e2 is few = omega arith
+
+some_there : (n m : ℕ) → n ≢ 0 → n ≡ m → 0 < m
+some_there n m some e = omega arith
 
 -- the queues after that of the stream was added
 pushed : (g : Over) (c : After-push_reserved g) → c.push_reserved.new.self.items ≡ c.if-is_empty.self-inside.streams.items ++ (c.of.result ∷ [])
@@ -30,19 +39,19 @@ record Added (g : Over) (c : After-push_reserved g) : Type 0 where
 added : (g : Over) (c : After-push_reserved g) → Added g c
 added g c = elim c.if-is_empty.branch [
   | then-is_empty w ↦
-      let none : length c.self.inside.streams.items ≡ 0 = omega (arith, eqb-true (vec_len c.self.inside.streams) 0 (sym w.if-is_empty.ensures), c.self.inside.streams.ok.0) in
+      let none : length c.self.inside.streams.items ≡ 0 = sym c.self.inside.streams.ok.0 ∙ eqb-true (vec_len c.self.inside.streams) 0 (sym w.if-is_empty.ensures) in
       let first : c.if-is_empty.self-inside.first_head ≡ c.args.head = ap (λ z. z.first_head) w.self-inside-is in
       let items : c.push_reserved.new.self.items ≡ c.self.inside.streams.items ++ (c.of.result ∷ []) = pushed g c ∙ ap (λ z. z.streams.items ++ (c.of.result ∷ [])) w.self-inside-is in
       record {
         streams = ap (λ n. headed n c.push_reserved.new.self.items) first ∙ ap (λ z. headed c.args.head z) items ∙ headed_first c.self.inside.first_head c.args.head c.self.inside.streams.items c.of.result none;
         children = ap (λ z. z.children) w.self-inside-is;
         products = ap (λ z. z.products) w.self-inside-is;
-        few = omega (arith, first, ap length items, length_behind c.self.inside.streams.items c.of.result, none, c.requires.fits);
+        few = first_fits _ _ _ _ _ first (ap length items) (length_behind c.self.inside.streams.items c.of.result) none c.requires.fits;
       }
   | else-is_empty w ↦
       let some : 0 < length c.self.inside.streams.items = elim (cases_eq (vec_len c.self.inside.streams) 0) [
         | inl none ↦ absurd (false≢true (w.if-is_empty.ensures ∙ ap (λ n. n == 0) none))
-        | inr n ↦ omega (arith, n, c.self.inside.streams.ok.0)
+        | inr n ↦ some_there _ _ n c.self.inside.streams.ok.0
       ] in
       let next : IsNextHead (headed c.self.inside.first_head c.self.inside.streams.items) c.args.head = subst (λ (n : NodeStreamsView g.row.R.Denot). IsNextHead n.streams c.args.head) (sym c.self.view_is) c.requires.next in
       let first : c.if-is_empty.self-inside.first_head ≡ c.self.inside.first_head = ap (λ z. z.first_head) w.self-inside-is in
@@ -52,7 +61,7 @@ added g c = elim c.if-is_empty.branch [
             ∙ headed_next c.self.inside.first_head c.args.head c.self.inside.streams.items c.of.result some next;
         children = ap (λ z. z.children) w.self-inside-is;
         products = ap (λ z. z.products) w.self-inside-is;
-        few = omega (arith, first, ap length items, length_behind c.self.inside.streams.items c.of.result, next_head_is c.self.inside.first_head c.self.inside.streams.items c.args.head some next, c.requires.fits);
+        few = next_fits _ _ _ _ _ _ first (ap length items) (length_behind c.self.inside.streams.items c.of.result) (next_head_is c.self.inside.first_head c.self.inside.streams.items c.args.head some next) c.requires.fits;
       }
 ]
 

@@ -1,4 +1,4 @@
-use Rattle.std.proofs.Common.{None, ◌+◌, ◌<◌, ◌∷◌, IsSome, length, slice_index_or, sym, ap, ◌∙◌, subst, arith}
+use Rattle.std.proofs.Common.{ℕ, ◌≡◌, None, ◌+◌, ◌<◌, ◌∷◌, IsSome, length, slice_index_or, sym, ap, ◌∙◌, subst, arith}
 use Rattle.std.specs.List.Sorted.{IsPermutation}
 use Rattle.rank_key.specs.Bits.{bit_length}
 use Rattle.anyk_rec.specs.Offers.{offers}
@@ -7,6 +7,9 @@ use Rattle.anyk_rec.specs.StreamView.{StreamView}
 use Rattle.anyk_rec.specs.NodeStreamsView.{stream_at, with_queue}
 use Rattle.anyk_rec.proofs.NodeFacts.{in_queues, queue_read, queue_changed}
 use Rattle.anyk_rec.proofs.node.NodeStreams.pass.Goals as goal
+
+in_same : (v n m : ℕ) → v < n → m ≡ n → v < m
+in_same v n m l e = omega arith
 
 pub returns : goal.returns
 returns g c =
@@ -29,7 +32,7 @@ returns g c =
     }
 
 pub index_mut-requires : goal.index_mut-requires
-index_mut-requires g c = omega (arith, in_queues _ c.self.inside.first_head c.self.inside.streams.items _ c.args.self.now c.self.view_is c.args.group c.requires.group, c.self.inside.streams.ok.0)
+index_mut-requires g c = in_same _ _ _ (in_queues _ c.self.inside.first_head c.self.inside.streams.items _ c.args.self.now c.self.view_is c.args.group c.requires.group) c.self.inside.streams.ok.0
 
 pub pass-requires-clause-top : goal.pass-requires-clause-top
 pass-requires-clause-top g c = subst (λ (s : StreamView g.row.R.Denot). 0 < length s.queue) (queue_read _ c.self.inside.first_head c.self.inside.streams.items _ c.args.self.now c.self.view_is c.args.group c.requires.group c.index_mut.result.now c.index_mut.ensures.value) c.requires.top

@@ -1,15 +1,15 @@
-use Rattle.std.proofs.Common.{OnOk, ◌<◌, [], sym, ap, ◌∙◌, subst}
+use Rattle.std.proofs.Common.{OnOk, ◌<◌, sym, ap, ◌∙◌, subst}
 use Rattle.std.proofs.lemmas.Bool.{lt-ltb}
 use Rattle.anyk_rec.proofs.Errors.{ok_then}
-use Rattle.anyk_rec.specs.NodeStreamsView.{product_at, with_product}
+use Rattle.anyk_rec.specs.NodeStreamsView.{with_product}
 use Rattle.anyk_rec.specs.ProductView.{ProductView}
-use Rattle.anyk_rec.proofs.NodeFacts.{product_changed}
+use Rattle.anyk_rec.proofs.NodeFacts.{product_changed, product_read}
 use Rattle.anyk_rec.proofs.node.NodeStreams.reserve_product.Goals as goal
 
 pub returns : goal.returns
 returns g c =
     let o = product_changed c.self.inside.children.items _ _ c.args.self.now c.args.row c.args.child c.reserve.new.self c.self.view_is c.requires.child in
-    let same = c.product_mut-product.ensures.value (record { found = []; ranks = []; frontier = []; room = 0; frontier_room = 0 }) ∙ ap (λ n. product_at n c.args.row c.args.child) c.self.view_is in
+    let same = product_read c.self.inside.children.items _ _ c.args.self.now c.args.row c.args.child c.product_mut-product.result.now c.self.view_is c.product_mut-product.ensures.value in
     record {
       changed = o.1 ∙ ap (λ (p : ProductView g.row.R.Denot). with_product c.args.self.now c.args.row c.args.child p) (sym o.0);
       found = ap (λ (p : ProductView g.row.R.Denot). p.found) o.0 ∙ c.reserve.ensures.found ∙ ap (λ (p : ProductView g.row.R.Denot). p.found) same;

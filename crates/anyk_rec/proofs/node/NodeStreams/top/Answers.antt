@@ -1,4 +1,4 @@
-use Rattle.std.proofs.Common.{◌≡◌, ◌<◌, ◌↔◌, IsSome, IfSome, length, slice_index_or, sym, subst, arith}
+use Rattle.std.proofs.Common.{ℕ, ◌≡◌, ◌<◌, ◌↔◌, IsSome, IfSome, length, slice_index_or, sym, subst, arith}
 use Rattle.containers.specs.declared.entry.Entry.{Entry}
 use Rattle.containers.specs.Order.{IsLeast}
 use Rattle.anyk_rec.specs.declared.source.Source.{Source}
@@ -6,8 +6,11 @@ use Rattle.anyk_rec.specs.StreamView.{StreamView}
 use Rattle.anyk_rec.proofs.NodeFacts.{in_queues, queue_read}
 use Rattle.anyk_rec.proofs.node.NodeStreams.top.Goals as goal
 
+in_same : (v n m : ℕ) → v < n → m ≡ n → v < m
+in_same v n m l e = omega arith
+
 pub index-requires : goal.index-requires
-index-requires g c = omega (arith, in_queues _ c.self.inside.first_head c.self.inside.streams.items _ c.args.self.now c.self.view_is c.args.group c.requires, c.self.inside.streams.ok.0)
+index-requires g c = in_same _ _ _ (in_queues _ c.self.inside.first_head c.self.inside.streams.items _ c.args.self.now c.self.view_is c.args.group c.requires) c.self.inside.streams.ok.0
 
 pub returns : goal.returns
 returns g c =

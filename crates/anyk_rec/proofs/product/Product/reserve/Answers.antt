@@ -1,4 +1,4 @@
-use Rattle.std.proofs.Common.{◌≡◌, ℕ, ◌-◌, ◌^◌, ◌<◌, ◌≤◌, min, List, length, sym, ap, ◌∙◌, subst, arith}
+use Rattle.std.proofs.Common.{◌≡◌, ℕ, ◌-◌, ◌^◌, ◌<◌, ◌≤◌, min, List, length, refl, sym, ap, ◌∙◌, subst, arith}
 use Rattle.std.proofs.lemmas.Bool.{false≢true}
 use Rattle.anyk_rec.specs.declared.cell.Cell.{Cell}
 use Rattle.anyk_rec.specs.ProductView.{ProductView}
@@ -53,3 +53,15 @@ returns-else-beside g c =
       found = c.reserve.ensures.cells ∙ ap (λ (p : ProductView g.row.R.Denot). p.found) c.self.view_is;
       ranks = c.reserve.ensures.ranks ∙ ap (λ (p : ProductView g.row.R.Denot). p.ranks) c.self.view_is;
     }
+
+pub returns-then-len : goal.returns-then-len
+returns-then-len g c = record { found = refl; ranks = refl; frontier = refl; room = tt; frontier_room = tt }
+
+pub invariant_of-self : goal.invariant_of-self
+invariant_of-self g c = subst (λ (l : List Cell). (0 < length l) × (length l < 2 ^ 32)) (sym c.reserve.ensures.cells) c.self.invariant
+
+pub invariant_of-self-in_err-reserve-2 : goal.invariant_of-self-in_err-reserve-2
+invariant_of-self-in_err-reserve-2 g c = subst (λ (l : List Cell). (0 < length l) × (length l < 2 ^ 32)) (sym c.reserve.ensures.cells) c.self.invariant
+
+pub invariant_of-self-else-beside : goal.invariant_of-self-else-beside
+invariant_of-self-else-beside g c = subst (λ (l : List Cell). (0 < length l) × (length l < 2 ^ 32)) (sym c.reserve.ensures.cells) c.self.invariant

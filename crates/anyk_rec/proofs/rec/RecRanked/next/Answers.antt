@@ -1,4 +1,4 @@
-use Rattle.std.proofs.Common.{◌≡◌, ℕ, ◌+◌, ◌*◌, ◌<◌, ◌≤◌, Option, IfSome, IfNone, Result, Ok, Err, OnErr, Bool, true, false, nat_lt, List, length, sym, ap, ◌∙◌, subst, arith}
+use Rattle.std.proofs.Common.{◌≡◌, ℕ, ◌+◌, ◌*◌, ◌<◌, ◌≤◌, Option, IfSome, IfNone, Result, Ok, Err, OnErr, Bool, true, false, nat_lt, List, length, refl, sym, ap, ◌∙◌, subst, arith}
 use Rattle.std.proofs.lemmas.Bool.Decides.{nat_tests}
 use Rattle.tdp_core.specs.declared.ranked.Answer.{Answer}
 use Rattle.tdp_core.specs.TreeView.{NodeView, group_count}
@@ -18,6 +18,9 @@ no_groups n b e f = let h : nat_lt 0 n ≡ false = sym e ∙ f in grind (arith, 
 some_groups : (n : ℕ) (b : Bool) → b ≡ nat_lt 0 n → b ≡ true → 0 < n
 some_groups n b e f = let h : nat_lt 0 n ≡ true = sym e ∙ f in grind (arith, nat_tests)
 
+no_steps : (s n : ℕ) → s ≤ s + n
+no_steps s n = omega arith
+
 on_err : {A E P : Type 0} (r : Result A E) → P → OnErr r P
 on_err (Ok x) p = tt
 on_err (Err e) p = p
@@ -34,14 +37,25 @@ goes_on old n p e f = omega arith
 goes_within : (old n p : ℕ) → n ≡ old → p ≡ n → p + 1 ≤ old + 1
 goes_within old n p e f = omega arith
 
-pub returns-then-not-self-clause-end : goal.returns-then-not-self-clause-end
-returns-then-not-self-clause-end g c =
-    let s = c.self.inside.streams in
-    let none : group_count s.tree 0 ≡ 0 = no_groups (group_count s.tree 0) c.self.inside.live c.self.invariant.live_is c.if-not-self.true in
-    let r : RecView g.row.R.Denot = record { streams = s; given = given_of s c.self.inside.last; calls = c.self.inside.calls } in (
-      ap (rest_of g.R.Rank.KEYS g.R.Rank.key) (sym c.self.view_is) ∙ rest_none g.R.Rank.KEYS g.R.Rank.key r none,
-      rest_none g.R.Rank.KEYS g.R.Rank.key (record { streams = s; given = given_of s c.self.inside.last; calls = c.saturating_add-self-inside.result }) none,
-    )
+pub returns-then-not-self : goal.returns-then-not-self
+returns-then-not-self g c =
+    record {
+      found = tt;
+      end =
+          let s = c.self.inside.streams in
+          let none : group_count s.tree 0 ≡ 0 = no_groups (group_count s.tree 0) c.self.inside.live c.self.invariant.live_is c.if-not-self.true in
+          let r : RecView g.row.R.Denot = record { streams = s; given = given_of s c.self.inside.last; calls = c.self.inside.calls } in (
+            ap (rest_of g.R.Rank.KEYS g.R.Rank.key) (sym c.self.view_is) ∙ rest_none g.R.Rank.KEYS g.R.Rank.key r none,
+            rest_none g.R.Rank.KEYS g.R.Rank.key (record { streams = s; given = given_of s c.self.inside.last; calls = c.saturating_add-self-inside.result }) none,
+          );
+      refused = tt;
+      counted = c.saturating_add-self-inside.ensures ∙ ap (λ (r : RecView g.row.R.Denot). counted r.calls) c.self.view_is;
+      size = ap (λ (r : RecView g.row.R.Denot). size_of r.streams.tree) c.self.view_is;
+      cost = no_steps _ _;
+      forward = stays _ _ _ (ap (λ (r : RecView g.row.R.Denot). r.given) c.self.view_is) refl;
+      moved = stays_within _ _ _ (ap (λ (r : RecView g.row.R.Denot). r.given) c.self.view_is) refl;
+      growth = λ q. subst (λ (r : RecView g.row.R.Denot). size_of_node c.self.inside.streams q ≤ size_of_node r.streams q + 1) c.self.view_is (no_steps _ _);
+    }
 
 pub returns-in_err-entry : goal.returns-in_err-entry
 returns-in_err-entry g c =

@@ -1,7 +1,8 @@
-use Rattle.std.proofs.Common.{◌≡◌, ◌≢◌, ◌↔◌, ◌⊎◌, IsTrue, ℕ, suc, ◌+◌, ◌-◌, ◌*◌, ◌<◌, ◌≤◌, max, Some, None, is_some, OnOk, List, [], length, get_or, slice_index, refl, sym, ap, ◌∙◌, subst, inl, inr, arith}
+use Rattle.std.proofs.Common.{◌≡◌, ◌≢◌, ◌↔◌, ◌⊎◌, IsTrue, ℕ, suc, ◌+◌, ◌-◌, ◌*◌, ◌<◌, ◌≤◌, max, cond, nat_eq, Some, None, is_some, OnOk, List, [], length, get_or, slice_index, refl, sym, ap, ◌∙◌, subst, inl, inr, arith}
 use Rattle.containers.specs.declared.linked.Linked.{Linked}
 use Rattle.containers.specs.declared.entry.Entry.{Entry}
 use Rattle.anyk_rec.specs.declared.source.Source.{Source}
+use Rattle.rankings.specs.Below.{is_below}
 use Rattle.rank_key.specs.Bits.{bit_length}
 use Rattle.tdp_core.specs.TreeView.{NodeView, parent, rows, number, members, child_count, group_named}
 use Rattle.tdp_core.specs.WellFormed.{IsTieFreeTree}
@@ -13,8 +14,9 @@ use Rattle.anyk_rec.specs.StreamView.{StreamView}
 use Rattle.anyk_rec.specs.NodeStreamsView.{HasHead, product_at, known_of}
 use Rattle.anyk_rec.specs.Firsts.{can_enter}
 use Rattle.anyk_rec.specs.Rankings.{child}
-use Rattle.anyk_rec.specs.TreeStreams.{group_of, next_of, node_of, stream_of, part_known, row_known, lists_of, IsStreams}
-use Rattle.anyk_rec.specs.Growing.{IsGrown, IsExtended, IsReached, IsAnswered}
+use Rattle.anyk_rec.specs.TreeStreams.{group_of, next_of, node_of, product_of, stream_of, part_known, row_known, lists_of, products_of, IsStreams}
+use Rattle.anyk_rec.specs.Growing.{IsGrown, IsExtended, IsReached, IsAnswered, below_kids, kids_size}
+use Rattle.anyk_rec.proofs.Along.{chain, along, back, same}
 use Rattle.anyk_rec.proofs.Heads.{lists_at}
 use Rattle.anyk_rec.proofs.Stores.{any_default}
 use Rattle.anyk_rec.proofs.StepCells.{no_top}
@@ -25,7 +27,7 @@ use Rattle.anyk_rec.proofs.Errors.{none_given, none_done}
 use Rattle.anyk_rec.proofs.SearchCosts.{none_within}
 use Rattle.anyk_rec.proofs.SearchRoom.{unstepped_on}
 use Rattle.anyk_rec.proofs.SearchSteps.{searched, left_or_none, all_or_none, left_reached, left_few, left_within, count_few}
-use Rattle.anyk_rec.proofs.SearchCalls.{on_ok, on_err, not_some, next_is, opened_grown}
+use Rattle.anyk_rec.proofs.SearchCalls.{on_ok, on_err, not_some, next_read, opened_grown}
 use Rattle.anyk_rec.proofs.solutions.Solutions.+growth.Given.{Over}
 use Rattle.anyk_rec.proofs.solutions.Solutions.+growth.Goals.{after-After-extend, after-After-get-found, after-After-open_row, after-After-place_after-count, after-In-Some-top, search-After-after, search-After-extend, search-After-make_room, extend-then-place-known-via-then-place-known, extend-then-place-known-via-else-place-known+then-count-eq0}
 use Rattle.anyk_rec.proofs.solutions.Solutions.+growth.Goals as goal
@@ -87,6 +89,9 @@ queue_itself n more = omega arith
 queue_grown : (n m more : ℕ) → n ≤ m + 0 → n ≤ m + more
 queue_grown n m more h = omega arith
 
+few_steps : (s s' : ℕ) → s' ≡ s + 1 → s' ≤ s + 4
+few_steps s s' e = omega arith
+
 first_step : (s s' b n : ℕ) → s' ≡ s + 1 → s' ≤ s + (14 + 4 * b + n)
 first_step s s' b n e = omega arith
 
@@ -107,6 +112,14 @@ later_steps s n b = omega arith
 
 fewer_digits : (s n b b' : ℕ) → s ≤ n + 4 * b → b ≤ b' → s ≤ n + 4 * b'
 fewer_digits s n b b' h l = omega arith
+
+-- # The tree stays
+
+two_calls : {R : Type 0} (t t1 t2 : List (NodeView R)) → t1 ≡ t → t2 ≡ t1 → t2 ≡ t
+two_calls t t1 t2 e f = f ∙ e
+
+tie_free_twice : {R : Type 0} (t t1 t2 : List (NodeView R)) → t1 ≡ t → t2 ≡ t1 → IsTieFreeTree t → IsTieFreeTree t2
+tie_free_twice t t1 t2 e f h = subst IsTieFreeTree (sym (f ∙ e)) h
 
 -- # What gets smaller with each call
 
@@ -138,7 +151,7 @@ module _ (g : Over) (t : ℕ) where
 
   row_of : (c : after-After-open_row g t) → IsOwned g.R.Rank.KEYS g.R.Rank.key c.args.self.now.tree.now c.args.self.now.entries.entries c.args.self.now.nodes.items c.args.entry c.get-found.result.now → IsTopRead c.args.self.now.tree.now c.args.self.now.nodes.items c.get-found.result.now c.in-Some-top.top → IsRowOpen g.R.Rank.KEYS g.R.Rank.key c.args.self.now.tree.now c.args.self.now.entries.entries c.args.self.now.nodes.items c.open_row.new.self.nodes.items c.get-found.result.now c.in-Some-top.top c.in-Some-top.top.tag.row c.args.steps.now c.open_row.new.steps
   row_of c o p =
-      row_open o p c.open_row.new.self.tree.now c.open_row.new.self.entries.entries c.open_row.new.self.nodes.items c.in-Some-top.top.tag.row c.args.steps.now c.open_row.new.steps p.row c.open_row.ensures.tree (ap (λ z. z.entries) c.open_row.ensures.entries) c.open_row.ensures.formed c.open_row.ensures.above c.open_row.ensures.streams c.open_row.ensures.queues (opened_steps _ _ _ _ _ c.next_of.ensures.cost c.get-found.ensures.cost c.open_row.ensures.cost)
+      row_open o p c.open_row.new.self.tree.now c.open_row.new.self.entries.entries c.open_row.new.self.nodes.items c.in-Some-top.top.tag.row c.args.steps.now c.open_row.new.steps p.row c.open_row.ensures.tree (ap (λ z. z.entries) c.open_row.ensures.entries) c.open_row.ensures.formed c.open_row.ensures.above c.open_row.ensures.streams c.open_row.ensures.queues (opened_steps c.args.steps.now c.next_of.new.steps c.get-found.new.steps c.open_row.new.steps (3 * child_count c.args.self.now.tree.now c.get-found.result.now.node) c.next_of.ensures.cost c.get-found.ensures.cost c.open_row.ensures.cost)
 
   counted_of : (c : after-After-place_after-count g t) → IsOwned g.R.Rank.KEYS g.R.Rank.key c.args.self.now.tree.now c.args.self.now.entries.entries c.args.self.now.nodes.items c.args.entry c.get-found.result.now → IsRowOpen g.R.Rank.KEYS g.R.Rank.key c.args.self.now.tree.now c.args.self.now.entries.entries c.args.self.now.nodes.items c.open_row.new.self.nodes.items c.get-found.result.now c.in-Some-top.top c.in-Some-top.top.tag.row c.args.steps.now c.open_row.new.steps → IsRowCounted c.args.self.now.tree.now c.open_row.new.self.nodes.items c.get-found.result.now c.in-Some-top.top c.in-Some-top.top.tag.row c.place_after-count.result.0
   counted_of c o a = row_counted o a c.place_after-count.result.0 c.place_after-count.ensures.count c.in_ok-open_row.ensures.count
@@ -216,7 +229,7 @@ after-place_after-count-requires-clause-opened g t c =
     let o = entry_owned g t at.After-get-found in
     let p = top_of g t at.In-Some-top o in
     let a = row_of g t at.After-open_row o p in
-    c.in_ok-open_row.ensures.count ∙ sym (a.formed.all_children c.get-found.result.now.node o.node)
+    chain (length (products_of c.open_row.new.self.nodes.items c.get-found.result.now.node c.in-Some-top.top.tag.row)) (child_count c.args.self.now.tree.now c.get-found.result.now.node) (length (lists_of c.open_row.new.self.nodes.items c.get-found.result.now.node).children) c.in_ok-open_row.ensures.count (sym (a.formed.all_children c.get-found.result.now.node o.node))
 
 pub after-place_after-count-requires-clause-known : goal.after-place_after-count-requires-clause-known
 after-place_after-count-requires-clause-known g t c =
@@ -233,7 +246,7 @@ after-extend-requires g t c κs within =
     let p = top_of g t at.In-Some-top o in
     let a = row_of g t at.After-open_row o p in
     let k = counted_of g t at.After-place_after-count o a in
-    (row_smaller _ _ _ _ _ _ c.decreases o.node_is (ap length c.open_row.ensures.tree) o.node (kids_few _ _ _ _ k.all (kids_below_most (parent c.args.self.now.tree.now) c.get-found.result.now.node (length c.args.self.now.tree.now)) o.formed.tree.shaped.few_nodes), (within.0, (within.1.0, (within.1.1, (c.open_row.ensures.formed, (subst IsTieFreeTree (sym c.open_row.ensures.tree) c.requires.tie_free, (subst (λ z. c.get-found.result.now.node < length z) (sym c.open_row.ensures.tree) o.node, (subst (λ z. c.in-Some-top.top.tag.row < rows z c.get-found.result.now.node) (sym c.open_row.ensures.tree) a.row, (k.within, next_within _ _ _ k.known c.place_after-count.ensures.place)))))))))
+    (row_smaller _ _ _ _ _ _ c.decreases o.node_is (same (λ (z : List (NodeView g.row.R.Denot)). length z) c.open_row.new.self.tree.now c.args.self.now.tree.now c.open_row.ensures.tree) o.node (kids_few _ _ _ _ k.all (kids_below_most (parent c.args.self.now.tree.now) c.get-found.result.now.node (length c.args.self.now.tree.now)) o.formed.tree.shaped.few_nodes), (within.0, (within.1.0, (within.1.1, (c.open_row.ensures.formed, (back IsTieFreeTree c.args.self.now.tree.now c.open_row.new.self.tree.now c.open_row.ensures.tree c.requires.tie_free, (back (λ (z : List (NodeView g.row.R.Denot)). c.get-found.result.now.node < length z) c.args.self.now.tree.now c.open_row.new.self.tree.now c.open_row.ensures.tree o.node, (back (λ (z : List (NodeView g.row.R.Denot)). c.in-Some-top.top.tag.row < rows z c.get-found.result.now.node) c.args.self.now.tree.now c.open_row.new.self.tree.now c.open_row.ensures.tree a.row, (k.within, next_within _ _ _ k.known c.place_after-count.ensures.place)))))))))
 
 pub after-advance-requires-clause-row : goal.after-advance-requires-clause-row
 after-advance-requires-clause-row g t c =
@@ -243,21 +256,24 @@ after-advance-requires-clause-row g t c =
     let a = row_of g t at.After-open_row o p in
     let k = counted_of g t at.After-place_after-count o a in
     let s = search_of g t at.After-extend in
-    let tree = sym (c.extend.ensures.tree ∙ c.open_row.ensures.tree) in
-    let same = searched_queue o a k s in
-    let first : (x : Entry g.row.R.Denot Source) → get_or (stream_of c.extend.new.self.nodes.items c.get-found.result.now.node c.get-found.result.now.group).queue 0 x ≡ c.in-Some-top.top = λ x. ap (λ z. get_or z 0 x) same ∙ any_default (stream_of c.args.self.now.nodes.items c.get-found.result.now.node c.get-found.result.now.group).queue 0 x c.in-Some-top.top p.some ∙ sym p.first in
+    let tree : c.args.self.now.tree.now ≡ c.extend.new.self.tree.now = sym (two_calls c.args.self.now.tree.now c.open_row.new.self.tree.now c.extend.new.self.tree.now c.open_row.ensures.tree c.extend.ensures.tree) in
+    let kids : child_count c.args.self.now.tree.now c.get-found.result.now.node ≡ child_count c.extend.new.self.tree.now c.get-found.result.now.node = ap (λ (z : List (NodeView g.row.R.Denot)). child_count z c.get-found.result.now.node) tree in
+    let queue = searched_queue o a k s in
+    let first : (x : Entry g.row.R.Denot Source) → get_or (stream_of c.extend.new.self.nodes.items c.get-found.result.now.node c.get-found.result.now.group).queue 0 x ≡ c.in-Some-top.top = λ x. ap (λ z. get_or z 0 x) queue ∙ any_default (stream_of c.args.self.now.nodes.items c.get-found.result.now.node c.get-found.result.now.group).queue 0 x c.in-Some-top.top p.some ∙ sym p.first in
     record {
       top = record {
-        some = subst (λ z. 0 < length z) (sym same) p.some;
+        some = subst (λ z. 0 < length z) (sym queue) p.some;
         member = λ x. ap (λ e. e.tag.member) (first x);
         after = λ x. ap (λ e. e.tag.place + 1) (first x) ∙ sym c.place_after-count.ensures.place;
       };
-      row = subst (λ (z : List (NodeView g.row.R.Denot)). c.in-Some-top.top.tag.row ≡ get_or (members z c.get-found.result.now.node c.get-found.result.now.group) c.in-Some-top.top.tag.member 0) tree p.row;
+      row = along (λ (z : List (NodeView g.row.R.Denot)). c.in-Some-top.top.tag.row ≡ get_or (members z c.get-found.result.now.node c.get-found.result.now.group) c.in-Some-top.top.tag.member 0) c.args.self.now.tree.now c.extend.new.self.tree.now tree p.row;
       number = p.numbered ∙ ap (number c.args.self.now.tree.now c.get-found.result.now.node) (sym p.row) ∙ ap (λ (z : List (NodeView g.row.R.Denot)). number z c.get-found.result.now.node c.in-Some-top.top.tag.row) tree;
-      count = c.extend.ensures.extended.count ∙ c.in_ok-open_row.ensures.count ∙ ap (λ z. child_count z c.get-found.result.now.node) tree;
+      count =
+          chain (length (products_of c.extend.new.self.nodes.items c.get-found.result.now.node c.in-Some-top.top.tag.row)) (length (products_of c.open_row.new.self.nodes.items c.get-found.result.now.node c.in-Some-top.top.tag.row)) (child_count c.extend.new.self.tree.now c.get-found.result.now.node) c.extend.ensures.extended.count
+          (chain (length (products_of c.open_row.new.self.nodes.items c.get-found.result.now.node c.in-Some-top.top.tag.row)) (child_count c.args.self.now.tree.now c.get-found.result.now.node) (child_count c.extend.new.self.tree.now c.get-found.result.now.node) c.in_ok-open_row.ensures.count kids);
       place =
-          subst (λ z. IsReached g.R.Rank.KEYS g.R.Rank.key c.extend.new.self.tree.now c.extend.new.self.nodes.items c.get-found.result.now.node c.in-Some-top.top.tag.row z c.place_after-count.result.1) (k.all ∙ ap (λ z. child_count z c.get-found.result.now.node) tree)
-          (subst (λ z. IsReached g.R.Rank.KEYS g.R.Rank.key z c.extend.new.self.nodes.items c.get-found.result.now.node c.in-Some-top.top.tag.row c.place_after-count.result.0 c.place_after-count.result.1) (sym c.extend.ensures.tree) c.in_ok-extend.ensures.reached);
+          along (λ z. IsReached g.R.Rank.KEYS g.R.Rank.key c.extend.new.self.tree.now c.extend.new.self.nodes.items c.get-found.result.now.node c.in-Some-top.top.tag.row z c.place_after-count.result.1) c.place_after-count.result.0 (child_count c.extend.new.self.tree.now c.get-found.result.now.node) (k.all ∙ kids)
+          (back (λ (z : List (NodeView g.row.R.Denot)). IsReached g.R.Rank.KEYS g.R.Rank.key z c.extend.new.self.nodes.items c.get-found.result.now.node c.in-Some-top.top.tag.row c.place_after-count.result.0 c.place_after-count.result.1) c.open_row.new.self.tree.now c.extend.new.self.tree.now c.extend.ensures.tree c.in_ok-extend.ensures.reached);
       queue_room =
           λ one.
           subst (λ (z : List (NodeView g.row.R.Denot)). can_enter (length (members z c.get-found.result.now.node c.get-found.result.now.group)) ≤ (stream_of c.extend.new.self.nodes.items c.get-found.result.now.node c.get-found.result.now.group).room) tree
@@ -275,11 +291,11 @@ search-extend-requires g t c κs within =
     let at = goal.at.search-extend-requires g t c in
     let a = room_of g t at.After-make_room in
     let b = child_of g t at.After-after a in
-    let in_tree = subst (λ (z : List (NodeView g.row.R.Denot)). c.args.node < length z) (sym c.after.ensures.tree) c.requires.node in
-    let in_node = subst (λ (z : List (NodeView g.row.R.Denot)). c.args.row < rows z c.args.node) (sym c.after.ensures.tree) c.requires.row in
+    let in_tree = back (λ (z : List (NodeView g.row.R.Denot)). c.args.node < length z) c.args.self.now.tree.now c.after.new.self.tree.now c.after.ensures.tree c.requires.node in
+    let in_node = back (λ (z : List (NodeView g.row.R.Denot)). c.args.row < rows z c.args.node) c.args.self.now.tree.now c.after.new.self.tree.now c.after.ensures.tree c.requires.row in
     let left = left_or_none c.has_beside-beside.result c.left_search-earlier.result.0 (c.args.count - 1) c.left_search-earlier.result.1 (c.in-Some.top.tag.left + 1) c.left_search-earlier.ensures.beside c.left_search-earlier.ensures.apart in
     let few = left_few _ _ _ _ left in
-    (left_smaller _ _ _ _ _ _ c.decreases a.last (ap length c.after.ensures.tree) few, (within.0, (within.1.0, (within.1.1, (c.after.ensures.formed, (subst IsTieFreeTree (sym c.after.ensures.tree) c.requires.tie_free, (in_tree, (in_node, (few_below _ _ _ few b.in_row, left_within c.after.new.self.nodes.items c.args.node c.args.row (c.args.count - 1) c.left_search-earlier.result.0 c.left_search-earlier.result.1 c.in-Some.top.tag.left b.left left)))))))))
+    (left_smaller _ _ _ _ _ _ c.decreases a.last (same (λ (z : List (NodeView g.row.R.Denot)). length z) c.after.new.self.tree.now c.args.self.now.tree.now c.after.ensures.tree) few, (within.0, (within.1.0, (within.1.1, (c.after.ensures.formed, (back IsTieFreeTree c.args.self.now.tree.now c.after.new.self.tree.now c.after.ensures.tree c.requires.tie_free, (in_tree, (in_node, (few_below _ _ _ few b.in_row, left_within c.after.new.self.nodes.items c.args.node c.args.row (c.args.count - 1) c.left_search-earlier.result.0 c.left_search-earlier.result.1 c.in-Some.top.tag.left b.left left)))))))))
 
 pub extend-search-requires : goal.extend-search-requires
 extend-search-requires g t c κs within =
@@ -395,8 +411,8 @@ extend-returns g t c =
       extended = c.search.ensures.extended;
       reached =
           let known : c.known.result ≡ part_known c.args.self.now.nodes.items c.args.node c.args.row c.args.count = c.known.ensures ∙ ap (λ z. known_of z c.args.row c.args.count) (sym (lists_at c.args.self.now.nodes.items c.args.node c.index.result.now c.index.ensures (in_same _ _ _ c.requires.node c.requires.formed.all_nodes))) in
-          let same : part_known c.args.self.now.nodes.items c.args.node c.args.row c.args.count ≡ c.args.place = place_is _ _ _ known c.if-place-known.false c.requires.place in
-          subst (λ z. OnOk c.search.result (IsReached g.R.Rank.KEYS g.R.Rank.key c.args.self.now.tree.now c.search.new.self.nodes.items c.args.node c.args.row c.args.count z)) same c.search.ensures.reached;
+          let known_same : part_known c.args.self.now.nodes.items c.args.node c.args.row c.args.count ≡ c.args.place = place_is _ _ _ known c.if-place-known.false c.requires.place in
+          subst (λ z. OnOk c.search.result (IsReached g.R.Rank.KEYS g.R.Rank.key c.args.self.now.tree.now c.search.new.self.nodes.items c.args.node c.args.row c.args.count z)) known_same c.search.ensures.reached;
       room = c.search.ensures.room;
       refused = c.search.ensures.refused;
       queues = c.search.ensures.queues;
@@ -421,14 +437,14 @@ after-advance-requires-clause-formed g t c =
 
 pub after-advance-requires-clause-tie_free : goal.after-advance-requires-clause-tie_free
 after-advance-requires-clause-tie_free g t c =
-    subst IsTieFreeTree (sym (c.extend.ensures.tree ∙ c.open_row.ensures.tree)) c.requires.tie_free
+    tie_free_twice c.args.self.now.tree.now c.open_row.new.self.tree.now c.extend.new.self.tree.now c.open_row.ensures.tree c.extend.ensures.tree c.requires.tie_free
 
 pub after-advance-requires-clause-last : goal.after-advance-requires-clause-last
 after-advance-requires-clause-last g t c =
     let at = goal.at.after-advance-requires-clause-last g t c in
     let o = entry_owned g t at.After-get-found in
     let s = search_of g t at.After-extend in
-    let none = next_is c.args.self.now.entries.entries c.args.entry None c.requires.entry (λ x. c.next_of.ensures.next x ∙ c.in_default.is) in
+    let none = next_read c.args.self.now.entries.entries c.args.entry c.next_of.result None c.requires.entry c.next_of.ensures.next c.in_default.is in
     record {
       within = in_longer _ _ _ c.requires.entry s.extended.store.longer;
       node = s.extended.store.nodes c.args.entry c.requires.entry ∙ o.node_is;
@@ -448,18 +464,21 @@ after-returns g t c =
     let a = row_of g t at.After-open_row o p in
     let k = counted_of g t at.After-place_after-count o a in
     let s = search_of g t at.After-extend in
+    let tree : c.extend.new.self.tree.now ≡ c.args.self.now.tree.now = two_calls c.args.self.now.tree.now c.open_row.new.self.tree.now c.extend.new.self.tree.now c.open_row.ensures.tree c.extend.ensures.tree in
+    let stays : c.advance.new.self.tree.now ≡ c.args.self.now.tree.now = two_calls c.args.self.now.tree.now c.extend.new.self.tree.now c.advance.new.self.tree.now tree c.advance.ensures.tree in
+    let formed = subst (λ z. IsStreams g.R.Rank.KEYS g.R.Rank.key z c.advance.new.self.entries.entries c.advance.new.self.nodes.items) stays c.advance.ensures.formed in
     record {
       formed = c.advance.ensures.formed;
-      tree = c.advance.ensures.tree ∙ c.extend.ensures.tree ∙ c.open_row.ensures.tree;
-      grown = linked_grown o a k s c.advance.new.self.entries.entries c.advance.new.self.nodes.items (subst (λ z. IsStreams g.R.Rank.KEYS g.R.Rank.key z c.advance.new.self.entries.entries c.advance.new.self.nodes.items) (c.advance.ensures.tree ∙ c.extend.ensures.tree ∙ c.open_row.ensures.tree) c.advance.ensures.formed) c.advance.ensures.store c.advance.ensures.above c.advance.ensures.products c.advance.ensures.growth;
-      answer = subst (λ (z : List (NodeView g.row.R.Denot)). IsAnswered g.R.Rank.KEYS g.R.Rank.key z c.advance.new.self.entries.entries c.args.entry c.advance.result) (c.advance.ensures.tree ∙ c.extend.ensures.tree ∙ c.open_row.ensures.tree) (subst (λ (z : List (NodeView g.row.R.Denot)). IsAnswered g.R.Rank.KEYS g.R.Rank.key z c.advance.new.self.entries.entries c.args.entry c.advance.result) (sym c.advance.ensures.tree) c.advance.ensures.answer);
+      tree = stays;
+      grown = linked_grown o a k s c.advance.new.self.entries.entries c.advance.new.self.nodes.items formed c.advance.ensures.store c.advance.ensures.above c.advance.ensures.products c.advance.ensures.growth;
+      answer = subst (λ (z : List (NodeView g.row.R.Denot)). IsAnswered g.R.Rank.KEYS g.R.Rank.key z c.advance.new.self.entries.entries c.args.entry c.advance.result) stays (subst (λ (z : List (NodeView g.row.R.Denot)). IsAnswered g.R.Rank.KEYS g.R.Rank.key z c.advance.new.self.entries.entries c.args.entry c.advance.result) (sym c.advance.ensures.tree) c.advance.ensures.answer);
       known =
-          let none = next_is c.args.self.now.entries.entries c.args.entry None c.requires.entry (λ x. c.next_of.ensures.next x ∙ c.in_default.is) in
+          let none = next_read c.args.self.now.entries.entries c.args.entry c.next_of.result None c.requires.entry c.next_of.ensures.next c.in_default.is in
           λ some. not_some (next_of c.args.self.now.entries.entries c.args.entry) none some;
-      queues = linked_queues o a k s c.advance.new.self.entries.entries c.advance.new.self.nodes.items (subst (λ z. IsStreams g.R.Rank.KEYS g.R.Rank.key z c.advance.new.self.entries.entries c.advance.new.self.nodes.items) (c.advance.ensures.tree ∙ c.extend.ensures.tree ∙ c.open_row.ensures.tree) c.advance.ensures.formed) c.advance.ensures.store c.advance.ensures.above c.advance.ensures.products c.advance.ensures.growth;
+      queues = linked_queues o a k s c.advance.new.self.entries.entries c.advance.new.self.nodes.items formed c.advance.ensures.store c.advance.ensures.above c.advance.ensures.products c.advance.ensures.growth;
       cost =
           let last : c.advance.new.steps ≤ c.extend.new.steps + 10 + 3 * child_count c.args.self.now.tree.now c.get-found.result.now.node + 4 * bit_length (length (members c.args.self.now.tree.now c.get-found.result.now.node c.get-found.result.now.group) + 1) =
-          subst (λ (z : List (NodeView g.row.R.Denot)). c.advance.new.steps ≤ c.extend.new.steps + 10 + 3 * child_count z c.get-found.result.now.node + 4 * bit_length (length (members z c.get-found.result.now.node c.get-found.result.now.group) + 1)) (c.extend.ensures.tree ∙ c.open_row.ensures.tree) c.advance.ensures.cost in
+          subst (λ (z : List (NodeView g.row.R.Denot)). c.advance.new.steps ≤ c.extend.new.steps + 10 + 3 * child_count z c.get-found.result.now.node + 4 * bit_length (length (members z c.get-found.result.now.node c.get-found.result.now.group) + 1)) tree c.advance.ensures.cost in
           searched_steps o a k s c.advance.new.steps (λ b members. fewer_digits _ _ _ _ last (members c.get-found.result.now.node c.get-found.result.now.group));
     }
 
@@ -476,8 +495,8 @@ search-returns-in_err-below g t c =
       formed = c.after.ensures.formed;
       tree = c.after.ensures.tree;
       extended = asked_extended a b;
-      reached = none_done _ c.from_residual-in_err-below.result c.from_residual-in_err-below.ensures.0;
-      room = none_done _ c.from_residual-in_err-below.result c.from_residual-in_err-below.ensures.0;
+      reached = none_done (IsReached g.R.Rank.KEYS g.R.Rank.key c.args.self.now.tree.now c.after.new.self.nodes.items c.args.node c.args.row c.args.count (part_known c.args.self.now.nodes.items c.args.node c.args.row c.args.count)) c.from_residual-in_err-below.result c.from_residual-in_err-below.ensures.0;
+      room = none_done (0 < c.after.new.self.entries.spare) c.from_residual-in_err-below.result c.from_residual-in_err-below.ensures.0;
       refused = on_err c.from_residual-in_err-below.result (asked_unstepped a b);
       queues = asked_queues a b;
       cost = asked_within a b;
@@ -491,10 +510,10 @@ search-returns-in_err-extend g t c =
     let l = left_of g t at.After-extend a b in
     record {
       formed = c.extend.ensures.formed;
-      tree = c.extend.ensures.tree ∙ c.after.ensures.tree;
+      tree = two_calls c.args.self.now.tree.now c.after.new.self.tree.now c.extend.new.self.tree.now c.after.ensures.tree c.extend.ensures.tree;
       extended = left_extended a b l;
-      reached = none_done _ c.from_residual-in_err-extend.result c.from_residual-in_err-extend.ensures.0;
-      room = none_done _ c.from_residual-in_err-extend.result c.from_residual-in_err-extend.ensures.0;
+      reached = none_done (IsReached g.R.Rank.KEYS g.R.Rank.key c.args.self.now.tree.now c.extend.new.self.nodes.items c.args.node c.args.row c.args.count (part_known c.args.self.now.nodes.items c.args.node c.args.row c.args.count)) c.from_residual-in_err-extend.result c.from_residual-in_err-extend.ensures.0;
+      room = none_done (0 < c.extend.new.self.entries.spare) c.from_residual-in_err-extend.result c.from_residual-in_err-extend.ensures.0;
       refused = on_err c.from_residual-in_err-extend.result (unstepped_on c.args.node c.args.self.now.nodes.items c.after.new.self.nodes.items c.extend.new.self.nodes.items (asked_unstepped a b) c.in_err-extend.ensures.refused);
       queues = left_queues a b l;
       cost = left_steps a b l c.extend.new.steps (one_later _) (later_digits _ _);
@@ -510,12 +529,12 @@ after-returns-in_err-open_row g t c =
       grown =
           subst (λ v. IsGrown (parent c.args.self.now.tree.now) v c.args.self.now.entries.entries c.args.self.now.nodes.items c.open_row.new.self.entries.entries c.open_row.new.self.nodes.items) (sym o.node_is)
           (opened_grown c.args.self.now.tree.now c.get-found.result.now.node c.args.self.now.entries.entries c.open_row.new.self.entries.entries c.args.self.now.nodes.items c.open_row.new.self.nodes.items (ap (λ z. z.entries) c.open_row.ensures.entries) c.open_row.ensures.above);
-      answer = none_given _ c.from_residual.result c.from_residual.ensures.0;
+      answer = none_given (IsAnswered g.R.Rank.KEYS g.R.Rank.key c.args.self.now.tree.now c.open_row.new.self.entries.entries c.args.entry) c.from_residual.result c.from_residual.ensures.0;
       known =
-          let none = next_is c.args.self.now.entries.entries c.args.entry None c.requires.entry (λ x. c.next_of.ensures.next x ∙ c.in_default.is) in
+          let none = next_read c.args.self.now.entries.entries c.args.entry c.next_of.result None c.requires.entry c.next_of.ensures.next c.in_default.is in
           λ some. not_some (next_of c.args.self.now.entries.entries c.args.entry) none some;
-      queues = λ v r k. queue_grown _ _ _ (c.open_row.ensures.queues v r k);
-      cost = only_opened o c.args.steps.now c.open_row.new.steps (opened_steps _ _ _ _ _ c.next_of.ensures.cost c.get-found.ensures.cost c.open_row.ensures.cost);
+      queues = λ v r k. queue_grown (length (product_of c.open_row.new.self.nodes.items v r k).frontier) (max 1 (length (product_of c.args.self.now.nodes.items v r k).frontier)) (is_below (parent c.args.self.now.tree.now) (node_of c.args.self.now.entries.entries c.args.entry) v) (c.open_row.ensures.queues v r k);
+      cost = only_opened o c.args.steps.now c.open_row.new.steps (opened_steps c.args.steps.now c.next_of.new.steps c.get-found.new.steps c.open_row.new.steps (3 * child_count c.args.self.now.tree.now c.get-found.result.now.node) c.next_of.ensures.cost c.get-found.ensures.cost c.open_row.ensures.cost);
     }
 
 pub after-returns-in_err-extend : goal.after-returns-in_err-extend
@@ -528,11 +547,11 @@ after-returns-in_err-extend g t c =
     let s = search_of g t at.After-extend in
     record {
       formed = c.extend.ensures.formed;
-      tree = c.extend.ensures.tree ∙ c.open_row.ensures.tree;
+      tree = two_calls c.args.self.now.tree.now c.open_row.new.self.tree.now c.extend.new.self.tree.now c.open_row.ensures.tree c.extend.ensures.tree;
       grown = searched_grown o a k s;
-      answer = none_given _ c.from_residual-in_err-extend.result c.from_residual-in_err-extend.ensures.0;
+      answer = none_given (IsAnswered g.R.Rank.KEYS g.R.Rank.key c.args.self.now.tree.now c.extend.new.self.entries.entries c.args.entry) c.from_residual-in_err-extend.result c.from_residual-in_err-extend.ensures.0;
       known =
-          let none = next_is c.args.self.now.entries.entries c.args.entry None c.requires.entry (λ x. c.next_of.ensures.next x ∙ c.in_default.is) in
+          let none = next_read c.args.self.now.entries.entries c.args.entry c.next_of.result None c.requires.entry c.next_of.ensures.next c.in_default.is in
           λ some. not_some (next_of c.args.self.now.entries.entries c.args.entry) none some;
       queues = searched_queues o a k s;
       cost = searched_steps o a k s c.extend.new.steps (λ b members. later_steps _ _ _);
@@ -544,10 +563,10 @@ search-returns-in_err-make_room g t c =
     let a = room_of g t at.After-make_room in
     record {
       formed = a.formed;
-      tree = refl;
+      tree = refl {a = c.args.self.now.tree.now};
       extended = made_none a;
-      reached = none_done _ c.from_residual.result c.from_residual.ensures.0;
-      room = none_done _ c.from_residual.result c.from_residual.ensures.0;
+      reached = none_done (IsReached g.R.Rank.KEYS g.R.Rank.key c.args.self.now.tree.now c.make_room.new.nodes.items c.args.node c.args.row c.args.count (part_known c.args.self.now.nodes.items c.args.node c.args.row c.args.count)) c.from_residual.result c.from_residual.ensures.0;
+      room = none_done (0 < c.args.self.now.entries.spare) c.from_residual.result c.from_residual.ensures.0;
       refused = on_err c.from_residual.result (made_unstepped a);
       queues = made_queues a c.make_room.new.nodes.items (λ w s k. queue_itself _ _);
       cost =
@@ -558,9 +577,9 @@ search-returns-in_err-make_room g t c =
 pub search-returns-in_default : goal.search-returns-in_default
 search-returns-in_default g t c =
     record {
-      formed = subst (λ (z : List (Linked (Found g.row.R.Denot))). IsStreams g.R.Rank.KEYS g.R.Rank.key c.args.self.now.tree.now z c.args.self.now.nodes.items) (sym c.reserve.ensures.entries) c.requires.formed;
-      tree = refl;
-      extended = subst (λ (z : List (Linked (Found g.row.R.Denot))). IsExtended c.args.self.now.tree.now c.args.node c.args.row c.args.count c.args.self.now.entries.entries c.args.self.now.nodes.items z c.args.self.now.nodes.items) (sym c.reserve.ensures.entries) (extended_none g.R.Rank.KEYS g.R.Rank.key c.args.self.now.tree.now c.args.node c.args.row c.args.count c.args.self.now.entries.entries c.args.self.now.nodes.items);
+      formed = back (λ (z : List (Linked (Found g.row.R.Denot))). IsStreams g.R.Rank.KEYS g.R.Rank.key c.args.self.now.tree.now z c.args.self.now.nodes.items) c.args.self.now.entries.entries c.reserve.new.self.entries c.reserve.ensures.entries c.requires.formed;
+      tree = refl {a = c.args.self.now.tree.now};
+      extended = back (λ (z : List (Linked (Found g.row.R.Denot))). IsExtended c.args.self.now.tree.now c.args.node c.args.row c.args.count c.args.self.now.entries.entries c.args.self.now.nodes.items z c.args.self.now.nodes.items) c.args.self.now.entries.entries c.reserve.new.self.entries c.reserve.ensures.entries (extended_none g.R.Rank.KEYS g.R.Rank.key c.args.self.now.tree.now c.args.node c.args.row c.args.count c.args.self.now.entries.entries c.args.self.now.nodes.items);
       reached =
           let last : suc (c.args.count - 1) ≡ c.args.count = last_is c.args.count c.requires.some in
           let empty = ap (λ n. (product_at n c.args.row (c.args.count - 1)).frontier) (lists_at c.args.self.now.nodes.items c.args.node c.index.result.now c.index.ensures (in_same _ _ _ c.requires.node c.requires.formed.all_nodes)) ∙ no_top c.product_top.result (product_at c.index.result.now c.args.row (c.args.count - 1)).frontier c.in_default.is c.product_top.ensures.variant in
@@ -568,7 +587,7 @@ search-returns-in_default g t c =
           on_ok c.reserve.result (subst (λ z. IsReached g.R.Rank.KEYS g.R.Rank.key c.args.self.now.tree.now c.args.self.now.nodes.items c.args.node c.args.row z (part_known c.args.self.now.nodes.items c.args.node c.args.row c.args.count)) last (inr (all_found _ _ _ done (ap (λ z. part_known c.args.self.now.nodes.items c.args.node c.args.row z) last))));
       room = c.reserve.ensures.ok;
       refused = on_err c.reserve.result (λ s k. (refl, refl, refl));
-      queues = λ v r k. queue_itself _ _;
+      queues = λ v r k. queue_itself (length (product_of c.args.self.now.nodes.items v r k).frontier) (below_kids c.args.self.now.tree.now c.args.node c.args.count v + cond (nat_eq v c.args.node) 1 0);
       cost =
           let kids = count_few g.R.Rank.KEYS g.R.Rank.key c.args.self.now.tree.now c.args.self.now.entries.entries c.args.self.now.nodes.items c.requires.formed c.args.node c.args.row c.args.count c.requires.node c.requires.row c.requires.count in
           λ k b one bits members queues. none_within g.R.Rank.KEYS g.R.Rank.key c.args.self.now.tree.now c.requires.formed.tree c.args.node c.args.count b c.args.steps.now kids;
@@ -577,9 +596,9 @@ search-returns-in_default g t c =
 pub extend-returns-then-place-known : goal.extend-returns-then-place-known
 extend-returns-then-place-known g t c =
     record {
-      formed = subst (λ (z : List (Linked (Found g.row.R.Denot))). IsStreams g.R.Rank.KEYS g.R.Rank.key c.args.self.now.tree.now z c.args.self.now.nodes.items) (sym c.reserve.ensures.entries) c.requires.formed;
-      tree = refl;
-      extended = subst (λ (z : List (Linked (Found g.row.R.Denot))). IsExtended c.args.self.now.tree.now c.args.node c.args.row c.args.count c.args.self.now.entries.entries c.args.self.now.nodes.items z c.args.self.now.nodes.items) (sym c.reserve.ensures.entries) (extended_none g.R.Rank.KEYS g.R.Rank.key c.args.self.now.tree.now c.args.node c.args.row c.args.count c.args.self.now.entries.entries c.args.self.now.nodes.items);
+      formed = back (λ (z : List (Linked (Found g.row.R.Denot))). IsStreams g.R.Rank.KEYS g.R.Rank.key c.args.self.now.tree.now z c.args.self.now.nodes.items) c.args.self.now.entries.entries c.reserve.new.self.entries c.reserve.ensures.entries c.requires.formed;
+      tree = refl {a = c.args.self.now.tree.now};
+      extended = back (λ (z : List (Linked (Found g.row.R.Denot))). IsExtended c.args.self.now.tree.now c.args.node c.args.row c.args.count c.args.self.now.entries.entries c.args.self.now.nodes.items z c.args.self.now.nodes.items) c.args.self.now.entries.entries c.reserve.new.self.entries c.reserve.ensures.entries (extended_none g.R.Rank.KEYS g.R.Rank.key c.args.self.now.tree.now c.args.node c.args.row c.args.count c.args.self.now.entries.entries c.args.self.now.nodes.items);
       reached =
           let known : c.known.result ≡ part_known c.args.self.now.nodes.items c.args.node c.args.row c.args.count = c.known.ensures ∙ ap (λ z. known_of z c.args.row c.args.count) (sym (lists_at c.args.self.now.nodes.items c.args.node c.index.result.now c.index.ensures (in_same _ _ _ c.requires.node c.requires.formed.all_nodes))) in
           on_ok c.reserve.result (elim c.then-place-known.branch [
@@ -590,7 +609,7 @@ extend-returns-then-place-known g t c =
           ]);
       room = c.reserve.ensures.ok;
       refused = on_err c.reserve.result (λ s k. (refl, refl, refl));
-      queues = λ v r k. queue_itself _ _;
+      queues = λ v r k. queue_itself (length (product_of c.args.self.now.nodes.items v r k).frontier) (below_kids c.args.self.now.tree.now c.args.node c.args.count v + cond (nat_eq v c.args.node) 1 0);
       cost =
           let kids = count_few g.R.Rank.KEYS g.R.Rank.key c.args.self.now.tree.now c.args.self.now.entries.entries c.args.self.now.nodes.items c.requires.formed c.args.node c.args.row c.args.count c.requires.node c.requires.row c.requires.count in
           λ k b one bits members queues. none_within g.R.Rank.KEYS g.R.Rank.key c.args.self.now.tree.now c.requires.formed.tree c.args.node c.args.count b c.args.steps.now kids;
@@ -598,34 +617,33 @@ extend-returns-then-place-known g t c =
 
 pub after-returns-in_default-top : goal.after-returns-in_default-top
 after-returns-in_default-top g t c =
-    let none = next_is c.args.self.now.entries.entries c.args.entry None c.requires.entry (λ x. c.next_of.ensures.next x ∙ c.in_default.is) in
+    let none = next_read c.args.self.now.entries.entries c.args.entry c.next_of.result None c.requires.entry c.next_of.ensures.next c.in_default.is in
     record {
       formed = c.requires.formed;
-      tree = refl;
+      tree = refl {a = c.args.self.now.tree.now};
       grown = opened_grown c.args.self.now.tree.now (node_of c.args.self.now.entries.entries c.args.entry) c.args.self.now.entries.entries c.args.self.now.entries.entries c.args.self.now.nodes.items c.args.self.now.nodes.items refl (λ w other. refl);
       answer =
           let at = goal.at.after-returns-in_default-top g t c in
           let o = entry_owned g t at.After-get-found in
-          let none = next_is c.args.self.now.entries.entries c.args.entry None c.requires.entry (λ x. c.next_of.ensures.next x ∙ c.in_default.is) in
           let empty : (stream_of c.args.self.now.nodes.items c.get-found.result.now.node c.get-found.result.now.group).queue ≡ [] =
           no_top c.top.result (stream_of c.args.self.now.nodes.items c.get-found.result.now.node c.get-found.result.now.group).queue c.in_default-top.is c.top.ensures.variant in
           last_of_all g.R.Rank.KEYS g.R.Rank.key c.args.self.now.tree.now c.args.self.now.entries.entries c.args.self.now.nodes.items c.requires.formed c.args.entry c.requires.entry none
           (subst (λ v. (stream_of c.args.self.now.nodes.items v (group_of c.args.self.now.entries.entries c.args.entry)).queue ≡ []) (sym o.node_is) (subst (λ k. (stream_of c.args.self.now.nodes.items c.get-found.result.now.node k).queue ≡ []) (sym o.group_is) empty));
       known = λ some. not_some (next_of c.args.self.now.entries.entries c.args.entry) none some;
-      queues = λ v r k. queue_itself _ _;
-      cost = λ k b one bits few queues. second_step _ _ _ _ _ c.next_of.ensures.cost c.get-found.ensures.cost;
+      queues = λ v r k. queue_itself (length (product_of c.args.self.now.nodes.items v r k).frontier) (is_below (parent c.args.self.now.tree.now) (node_of c.args.self.now.entries.entries c.args.entry) v);
+      cost = λ k b one bits few queues. second_step c.args.steps.now c.next_of.new.steps c.get-found.new.steps b (20 * kids_size c.args.self.now.tree.now (node_of c.args.self.now.entries.entries c.args.entry) (child_count c.args.self.now.tree.now (node_of c.args.self.now.entries.entries c.args.entry)) * (1 + b)) c.next_of.ensures.cost c.get-found.ensures.cost;
     }
 
 pub after-returns-in-Some : goal.after-returns-in-Some
 after-returns-in-Some g t c =
     record {
       formed = c.requires.formed;
-      tree = refl;
+      tree = refl {a = c.args.self.now.tree.now};
       grown = opened_grown c.args.self.now.tree.now (node_of c.args.self.now.entries.entries c.args.entry) c.args.self.now.entries.entries c.args.self.now.entries.entries c.args.self.now.nodes.items c.args.self.now.nodes.items refl (λ w other. refl);
-      answer = next_is c.args.self.now.entries.entries c.args.entry (Some c.in-Some.next) c.requires.entry (λ x. c.next_of.ensures.next x ∙ c.in-Some.is);
-      known = λ some. (refl, refl, omega (arith, c.next_of.ensures.cost));
-      queues = λ v r k. queue_itself _ _;
-      cost = λ k b one bits few queues. first_step _ _ _ _ c.next_of.ensures.cost;
+      answer = next_read c.args.self.now.entries.entries c.args.entry c.next_of.result (Some c.in-Some.next) c.requires.entry c.next_of.ensures.next c.in-Some.is;
+      known = λ some. (refl, refl, few_steps _ _ c.next_of.ensures.cost);
+      queues = λ v r k. queue_itself (length (product_of c.args.self.now.nodes.items v r k).frontier) (is_below (parent c.args.self.now.tree.now) (node_of c.args.self.now.entries.entries c.args.entry) v);
+      cost = λ k b one bits few queues. first_step c.args.steps.now c.next_of.new.steps b (20 * kids_size c.args.self.now.tree.now (node_of c.args.self.now.entries.entries c.args.entry) (child_count c.args.self.now.tree.now (node_of c.args.self.now.entries.entries c.args.entry)) * (1 + b)) c.next_of.ensures.cost;
     }
 
 pub search-returns : goal.search-returns
@@ -636,16 +654,16 @@ search-returns g t c =
     let l = left_of g t at.After-extend a b in
     record {
       formed = c.step.ensures.formed;
-      tree = c.step.ensures.tree ∙ l.searched.tree;
-      extended = subst (λ (y : List (Linked (Found g.row.R.Denot))). IsExtended c.args.self.now.tree.now c.args.node c.args.row c.args.count c.args.self.now.entries.entries c.args.self.now.nodes.items y c.step.new.self.nodes.items) (sym (ap (λ z. z.entries) c.step.ensures.entries)) (one_more_extended a b l c.step.new.self.nodes.items c.step.ensures.changed);
+      tree = two_calls c.args.self.now.tree.now c.extend.new.self.tree.now c.step.new.self.tree.now l.searched.tree c.step.ensures.tree;
+      extended = subst (λ (y : List (Linked (Found g.row.R.Denot))). IsExtended c.args.self.now.tree.now c.args.node c.args.row c.args.count c.args.self.now.entries.entries c.args.self.now.nodes.items y c.step.new.self.nodes.items) (sym (same (λ z. z.entries) c.step.new.self.entries c.extend.new.self.entries c.step.ensures.entries)) (one_more_extended a b l c.step.new.self.nodes.items c.step.ensures.changed);
       reached =
-          let same : part_known c.extend.new.self.nodes.items c.args.node c.args.row c.args.count ≡ part_known c.args.self.now.nodes.items c.args.node c.args.row c.args.count =
+          let known_same : part_known c.extend.new.self.nodes.items c.args.node c.args.row c.args.count ≡ part_known c.args.self.now.nodes.items c.args.node c.args.row c.args.count =
           ap (λ z. part_known c.extend.new.self.nodes.items c.args.node c.args.row z) (sym a.last) ∙ ap (λ (z : ProductView g.row.R.Denot). length z.found) l.product ∙ ap length a.found ∙ ap (λ z. part_known c.args.self.now.nodes.items c.args.node c.args.row z) a.last in
           let more : (c.args.count - 1) + 1 ≡ c.args.count = next_last c.args.count a.last in
-          subst (λ z. IsReached g.R.Rank.KEYS g.R.Rank.key c.args.self.now.tree.now c.step.new.self.nodes.items c.args.node c.args.row c.args.count z) same
+          subst (λ z. IsReached g.R.Rank.KEYS g.R.Rank.key c.args.self.now.tree.now c.step.new.self.nodes.items c.args.node c.args.row c.args.count z) known_same
           (subst (λ z. IsReached g.R.Rank.KEYS g.R.Rank.key c.args.self.now.tree.now c.step.new.self.nodes.items c.args.node c.args.row z (part_known c.extend.new.self.nodes.items c.args.node c.args.row z)) more
           (subst (λ (y : List (NodeView g.row.R.Denot)). IsReached g.R.Rank.KEYS g.R.Rank.key y c.step.new.self.nodes.items c.args.node c.args.row ((c.args.count - 1) + 1) (part_known c.extend.new.self.nodes.items c.args.node c.args.row ((c.args.count - 1) + 1))) l.searched.tree c.step.ensures.reached));
-      room = subst (λ n. 0 < n) (sym (ap (λ z. z.spare) c.step.ensures.entries)) c.in_ok-extend.ensures.room;
+      room = back (λ z. 0 < z.spare) c.extend.new.self.entries c.step.new.self.entries c.step.ensures.entries c.in_ok-extend.ensures.room;
       refused = tt;
       queues = one_more_queues a b l c.step.new.self.nodes.items c.step.ensures.changed c.step.ensures.queue;
       cost = left_steps a b l c.step.new.steps (one_later _) c.step.ensures.cost;

@@ -1,4 +1,4 @@
-use Rattle.std.proofs.Common.{◌≡◌, ◌≢◌, ℕ, suc, ◌+◌, ◌*◌, ◌<◌, ◌≤◌, None, Some, IfSome, IfNone, is_some, List, [], ◌∷◌, ◌++◌, length, get_or, refl, sym, ap, ◌∙◌, subst, arith}
+use Rattle.std.proofs.Common.{◌≡◌, ◌≢◌, ℕ, suc, ◌+◌, ◌*◌, ◌<◌, ◌≤◌, None, Some, IfSome, IfNone, is_some, List, [], ◌∷◌, ◌++◌, length, slice_set, get_or, refl, sym, ap, ◌∙◌, subst, arith}
 use Rattle.tdp_core.specs.TreeView.{number, members, child_count}
 use Rattle.rankings.specs.KeyTuple.{key_none}
 use Rattle.containers.specs.declared.linked.Linked.{Linked}
@@ -8,6 +8,7 @@ use Rattle.anyk_rec.specs.declared.stream.Solved.{Solved}
 use Rattle.anyk_rec.specs.NodeStreamsView.{NodeStreamsView, with_queue}
 use Rattle.anyk_rec.specs.TreeStreams.{IsSumOf, row_known, products_of, IsStreams, node_list, group_list_of, node_of, group_of, stream, lists_of, stream_of}
 use Rattle.anyk_rec.specs.Growing.{IsAnswered}
+use Rattle.anyk_rec.proofs.Along.{back, same}
 use Rattle.anyk_rec.proofs.Changes.{lists_other, lists_same}
 use Rattle.anyk_rec.proofs.Kept.{held_itself}
 use Rattle.anyk_rec.proofs.StepCells.{first_of, no_top}
@@ -26,6 +27,9 @@ use Rattle.anyk_rec.proofs.solutions.Solutions.advance.Goals.{After-as_slice, Af
 use Rattle.anyk_rec.proofs.solutions.Solutions.advance.Goals as goal
 
 -- # Numbers
+
+in_equal : (v n m : ℕ) → v < n → m ≡ n → v < m
+in_equal v n m l e = omega arith
 
 next_some : (x p : ℕ) → x + 1 ≡ p → 0 < p
 next_some x p e = omega arith
@@ -47,6 +51,18 @@ at_end v n m e f = omega arith
 
 no_more : (n m : ℕ) → n ≤ n + m
 no_more n m = omega arith
+
+fewer : (n m : ℕ) → n ≤ m → n ≤ m + 1
+fewer n m h = omega arith
+
+one_fewer : (n m : ℕ) → n ≤ m → n + 1 ≤ m + 1
+one_fewer n m h = omega arith
+
+digit_steps : (s o p k b b1 b2 d : ℕ) → o ≤ s + 3 * k → p ≤ o + 8 + 2 * b + b1 + b2 → b ≤ d → b1 ≤ d → b2 ≤ d → p ≤ s + 8 + 3 * k + 4 * d
+digit_steps s o p k b b1 b2 d h h1 l l1 l2 = omega arith
+
+linked_steps : (s p q r k b : ℕ) → p ≤ s + 8 + 3 * k + 4 * b → q ≡ p + 1 → r ≡ q + 1 → r ≤ s + 10 + 3 * k + 4 * b
+linked_steps s p q r k b h e f = omega arith
 
 two_more : (s s' k b : ℕ) → s' ≤ s + 8 + 3 * k + 4 * b → s' ≤ s + 10 + 3 * k + 4 * b
 two_more s s' k b h = omega arith
@@ -80,14 +96,9 @@ module _ (g : Over) where
       let n : ℕ = length (members c.args.self.now.tree.now c.args.node c.args.group) in
       let old : length (stream_of c.args.self.now.nodes.items c.args.node c.args.group).queue ≤ n = old_queue c o in
       let new : length (stream_of c.pass_last.new.nodes.items c.args.node c.args.group).queue ≤ n = (passed_of c o).few in
-      omega (
-        arith,
-        c.row_offer-offer.ensures.cost,
-        c.pass_last.ensures.cost,
-        bit_length_rises (length (stream_of c.args.self.now.nodes.items c.args.node c.args.group).queue) (n + 1) (omega (arith, old)),
-        bit_length_rises (length (stream_of c.args.self.now.nodes.items c.args.node c.args.group).queue + 1) (n + 1) (omega (arith, old)),
-        bit_length_rises (length (stream_of c.pass_last.new.nodes.items c.args.node c.args.group).queue) (n + 1) (omega (arith, new)),
-      )
+      digit_steps _ _ _ _ _ _ _ _ c.row_offer-offer.ensures.cost c.pass_last.ensures.cost (bit_length_rises (length (stream_of c.args.self.now.nodes.items c.args.node c.args.group).queue) (n + 1) (fewer _ _ old))
+      (bit_length_rises (length (stream_of c.args.self.now.nodes.items c.args.node c.args.group).queue + 1) (n + 1) (one_fewer _ _ old))
+      (bit_length_rises (length (stream_of c.pass_last.new.nodes.items c.args.node c.args.group).queue) (n + 1) (fewer _ _ new))
 
   -- the nodes but this one are as they were
   others_of : (c : After-pass_last g) (v : ℕ) → v ≢ c.args.node → lists_of c.pass_last.new.nodes.items v ≡ lists_of c.args.self.now.nodes.items v
@@ -122,7 +133,7 @@ top-requires-clause-group g c =
     let o = top_of g at.After-as_slice in
     let n = c.args.self.now.nodes.items in
     let queued = with_queue (lists_of n c.args.node) c.args.group (stream_of c.pass_last.new.nodes.items c.args.node c.args.group).queue (stream_of c.pass_last.new.nodes.items c.args.node c.args.group).room in
-    let streams = ap (λ (z : List (NodeStreamsView g.row.R.Denot)). length (lists_of z c.args.node).streams) c.pass_last.ensures.changed ∙ ap (λ (m : NodeStreamsView g.row.R.Denot). length m.streams) (lists_same n c.args.node queued o.in_nodes)
+    let streams = same (λ (z : List (NodeStreamsView g.row.R.Denot)). length (lists_of z c.args.node).streams) c.pass_last.new.nodes.items (slice_set c.args.self.now.nodes.items c.args.node (with_queue (lists_of c.args.self.now.nodes.items c.args.node) c.args.group (stream_of c.pass_last.new.nodes.items c.args.node c.args.group).queue (stream_of c.pass_last.new.nodes.items c.args.node c.args.group).room)) c.pass_last.ensures.changed ∙ ap (λ (m : NodeStreamsView g.row.R.Denot). length m.streams) (lists_same n c.args.node queued o.in_nodes)
     ∙ set_length (lists_of n c.args.node).streams c.args.group (record (stream_of n c.args.node c.args.group) { queue = (stream_of c.pass_last.new.nodes.items c.args.node c.args.group).queue; room = (stream_of c.pass_last.new.nodes.items c.args.node c.args.group).room }) in
     in_streams _ _ _ _ o.group (c.requires.formed.all_streams c.args.node o.node) streams
 
@@ -165,7 +176,7 @@ top-requires-clause-node g c =
     let at = goal.at.top-requires-clause-node g c in
     let o = top_of g at.After-as_slice in
     let long = set_length c.args.self.now.nodes.items c.args.node (with_queue (lists_of c.args.self.now.nodes.items c.args.node) c.args.group (stream_of c.pass_last.new.nodes.items c.args.node c.args.group).queue (stream_of c.pass_last.new.nodes.items c.args.node c.args.group).room) in
-    in_nodes _ _ _ _ o.in_nodes (ap length c.pass_last.ensures.changed) long
+    in_nodes _ _ _ _ o.in_nodes (same (λ (z : List (NodeStreamsView g.row.R.Denot)). length z) c.pass_last.new.nodes.items (slice_set c.args.self.now.nodes.items c.args.node (with_queue (lists_of c.args.self.now.nodes.items c.args.node) c.args.group (stream_of c.pass_last.new.nodes.items c.args.node c.args.group).queue (stream_of c.pass_last.new.nodes.items c.args.node c.args.group).room)) c.pass_last.ensures.changed) long
 
 pub returns-in_err-top : goal.returns-in_err-top
 returns-in_err-top g c =
@@ -173,17 +184,17 @@ returns-in_err-top g c =
     let o = top_of g at.After-as_slice in
     let p = passed_of g at.After-pass_last o in
     let empty : (stream_of c.pass_last.new.nodes.items c.args.node c.args.group).queue ≡ [] = no_top c.top.result (stream_of c.pass_last.new.nodes.items c.args.node c.args.group).queue c.in_err-top.was c.top.ensures.variant in
-    let changed = c.pass_last.ensures.changed in
+    let changed : c.pass_last.new.nodes.items ≡ slice_set c.args.self.now.nodes.items c.args.node (with_queue (lists_of c.args.self.now.nodes.items c.args.node) c.args.group (stream_of c.pass_last.new.nodes.items c.args.node c.args.group).queue (stream_of c.pass_last.new.nodes.items c.args.node c.args.group).room) = c.pass_last.ensures.changed in
     record {
       answer =
-          let link = subst (λ o. IsLinkedAt (node_list c.args.self.now.entries.entries) (group_list_of c.args.self.now.entries.entries) c.args.last o) c.requires.last.none (c.requires.formed.linked c.args.last (omega (arith, c.requires.last.within, node_length c.args.self.now.entries.entries))) in
+          let link = subst (λ o. IsLinkedAt (node_list c.args.self.now.entries.entries) (group_list_of c.args.self.now.entries.entries) c.args.last o) c.requires.last.none (c.requires.formed.linked c.args.last (in_equal _ _ _ c.requires.last.within (node_length c.args.self.now.entries.entries))) in
           subst (λ o. IsAnswered g.R.Rank.KEYS g.R.Rank.key c.args.self.now.tree.now c.args.self.now.entries.entries c.args.last o) (sym c.from_residual.ensures)
           (ap (λ z. length (group_list g.R.Rank.KEYS g.R.Rank.key c.args.self.now.tree.now z (group_of c.args.self.now.entries.entries c.args.last))) c.requires.last.node ∙ ap (λ z. length (group_list g.R.Rank.KEYS g.R.Rank.key c.args.self.now.tree.now c.args.node z)) c.requires.last.group ∙ sym (whole_stream p empty) ∙ stream_owned c.args.self.now.entries.entries c.args.node c.args.group
           ∙ ap (λ z. owned (node_list c.args.self.now.entries.entries) (group_list_of c.args.self.now.entries.entries) z c.args.group) (sym c.requires.last.node) ∙ ap (λ z. owned (node_list c.args.self.now.entries.entries) (group_list_of c.args.self.now.entries.entries) (node_of c.args.self.now.entries.entries c.args.last) z) (sym c.requires.last.group) ∙ sym link);
-      formed = subst (λ (z : List (NodeStreamsView g.row.R.Denot)). IsStreams g.R.Rank.KEYS g.R.Rank.key c.args.self.now.tree.now c.args.self.now.entries.entries z) (sym changed) (passed_ends p (stream_of c.pass_last.new.nodes.items c.args.node c.args.group).room empty);
+      formed = back (λ (z : List (NodeStreamsView g.row.R.Denot)). IsStreams g.R.Rank.KEYS g.R.Rank.key c.args.self.now.tree.now c.args.self.now.entries.entries z) (slice_set c.args.self.now.nodes.items c.args.node (with_queue (lists_of c.args.self.now.nodes.items c.args.node) c.args.group (stream_of c.pass_last.new.nodes.items c.args.node c.args.group).queue (stream_of c.pass_last.new.nodes.items c.args.node c.args.group).room)) c.pass_last.new.nodes.items changed (passed_ends p (stream_of c.pass_last.new.nodes.items c.args.node c.args.group).room empty);
       growth = λ v. no_more _ _;
       store = store_stays c.args.node c.args.self.now.entries.entries;
-      products = ap (λ (z : List (NodeStreamsView g.row.R.Denot)). (lists_of z c.args.node).products) changed ∙ queued_products g.R.Rank.KEYS g.R.Rank.key c.args.self.now.tree.now c.args.self.now.entries.entries c.args.self.now.entries.entries c.args.self.now.nodes.items c.requires.formed (held_itself c.args.self.now.entries.entries) c.args.node c.args.group o.node o.group (stream_of c.pass_last.new.nodes.items c.args.node c.args.group).queue (stream_of c.pass_last.new.nodes.items c.args.node c.args.group).room c.args.node;
+      products = same (λ (z : List (NodeStreamsView g.row.R.Denot)). (lists_of z c.args.node).products) c.pass_last.new.nodes.items (slice_set c.args.self.now.nodes.items c.args.node (with_queue (lists_of c.args.self.now.nodes.items c.args.node) c.args.group (stream_of c.pass_last.new.nodes.items c.args.node c.args.group).queue (stream_of c.pass_last.new.nodes.items c.args.node c.args.group).room)) changed ∙ queued_products g.R.Rank.KEYS g.R.Rank.key c.args.self.now.tree.now c.args.self.now.entries.entries c.args.self.now.entries.entries c.args.self.now.nodes.items c.requires.formed (held_itself c.args.self.now.entries.entries) c.args.node c.args.group o.node o.group (stream_of c.pass_last.new.nodes.items c.args.node c.args.group).queue (stream_of c.pass_last.new.nodes.items c.args.node c.args.group).room c.args.node;
       above = λ v other. others_of g at.After-pass_last v other;
       tree = refl;
       cost = two_more _ _ _ _ (digits_of g at.After-pass_last o);
@@ -214,16 +225,14 @@ returns g c =
     let at = goal.at.returns g c in
     let o = top_of g at.After-as_slice in
     let e = linked_of g at.After-set_next o in
-    let changed = c.pass_last.ensures.changed in
+    let changed : c.pass_last.new.nodes.items ≡ slice_set c.args.self.now.nodes.items c.args.node (with_queue (lists_of c.args.self.now.nodes.items c.args.node) c.args.group (stream_of c.pass_last.new.nodes.items c.args.node c.args.group).queue (stream_of c.pass_last.new.nodes.items c.args.node c.args.group).room) = c.pass_last.ensures.changed in
     record {
-      cost =
-          let digits = digits_of g at.After-pass_last o in
-          omega (arith, digits, c.push_reserved-next.ensures.cost, c.set_next.ensures.cost);
+      cost = linked_steps _ _ _ _ _ _ (digits_of g at.After-pass_last o) c.push_reserved-next.ensures.cost c.set_next.ensures.cost;
       store = e.store;
-      products = ap (λ (z : List (NodeStreamsView g.row.R.Denot)). (lists_of z c.args.node).products) changed ∙ queued_products g.R.Rank.KEYS g.R.Rank.key c.args.self.now.tree.now c.args.self.now.entries.entries c.args.self.now.entries.entries c.args.self.now.nodes.items c.requires.formed (held_itself c.args.self.now.entries.entries) c.args.node c.args.group o.node o.group (stream_of c.pass_last.new.nodes.items c.args.node c.args.group).queue (stream_of c.pass_last.new.nodes.items c.args.node c.args.group).room c.args.node;
+      products = same (λ (z : List (NodeStreamsView g.row.R.Denot)). (lists_of z c.args.node).products) c.pass_last.new.nodes.items (slice_set c.args.self.now.nodes.items c.args.node (with_queue (lists_of c.args.self.now.nodes.items c.args.node) c.args.group (stream_of c.pass_last.new.nodes.items c.args.node c.args.group).queue (stream_of c.pass_last.new.nodes.items c.args.node c.args.group).room)) changed ∙ queued_products g.R.Rank.KEYS g.R.Rank.key c.args.self.now.tree.now c.args.self.now.entries.entries c.args.self.now.entries.entries c.args.self.now.nodes.items c.requires.formed (held_itself c.args.self.now.entries.entries) c.args.node c.args.group o.node o.group (stream_of c.pass_last.new.nodes.items c.args.node c.args.group).queue (stream_of c.pass_last.new.nodes.items c.args.node c.args.group).room c.args.node;
       formed =
           let p = passed_of g at.After-pass_last o in
-          subst (λ (z : List (NodeStreamsView g.row.R.Denot)). IsStreams g.R.Rank.KEYS g.R.Rank.key c.args.self.now.tree.now c.set_next.new.self.entries z) (sym changed)
+          back (λ (z : List (NodeStreamsView g.row.R.Denot)). IsStreams g.R.Rank.KEYS g.R.Rank.key c.args.self.now.tree.now c.set_next.new.self.entries z) (slice_set c.args.self.now.nodes.items c.args.node (with_queue (lists_of c.args.self.now.nodes.items c.args.node) c.args.group (stream_of c.pass_last.new.nodes.items c.args.node c.args.group).queue (stream_of c.pass_last.new.nodes.items c.args.node c.args.group).room)) c.pass_last.new.nodes.items changed
           (passed_grows p (stream_of c.pass_last.new.nodes.items c.args.node c.args.group).room c.set_next.new.self.entries c.in_ok-top.top (entry_held c.args.self.now.entries.entries c.set_next.new.self.entries e.store) e.owners e.linked e.others
           (e.longer ∙ ap (λ (z : Entry g.row.R.Denot Solved). stream c.args.self.now.entries.entries c.args.node c.args.group ++ (z ∷ [])) c.kept_solution.ensures) (c.top.ensures.variant.0 (ap is_some c.in_ok-top.was)) (c.in_ok-top.ensures.top c.in_ok-top.top) c.in_ok-top.ensures.least);
       tree = refl;

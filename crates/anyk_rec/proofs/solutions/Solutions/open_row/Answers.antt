@@ -24,6 +24,15 @@ in_same v n m l e = omega arith
 in_rows : (r n k m : ℕ) → r < n → m ≡ k → k ≡ n → r < m
 in_rows r n k m l e f = omega arith
 
+same_queue : (n m : ℕ) → n ≡ m → n ≤ max 1 m + 0
+same_queue n m e = omega arith
+
+no_steps : (s n : ℕ) → s ≤ s + 1 + n
+no_steps s n = omega arith
+
+no_place : {P : Type 0} (p : ℕ) → 0 < p → p ≡ 0 → P
+no_place p some none = absurd (omega (arith, some, none))
+
 queue_itself : (n more : ℕ) → n ≤ max 1 n + more
 queue_itself n more = omega arith
 
@@ -81,7 +90,7 @@ make_queue_room-requires-clause-node g c =
 
 pub make_queue_room-requires-clause-group : goal.make_queue_room-requires-clause-group
 make_queue_room-requires-clause-group g c =
-    omega (arith, c.requires.group, c.requires.formed.all_streams c.args.node c.requires.node)
+    in_same _ _ _ c.requires.group (c.requires.formed.all_streams c.args.node c.requires.node)
 
 pub make_queue_room-requires-clause-few : goal.make_queue_room-requires-clause-few
 make_queue_room-requires-clause-few g c =
@@ -117,13 +126,13 @@ returns-in_err-set_products g c =
       queues =
           λ v r k.
           subst (λ (z : List (NodeStreamsView g.row.R.Denot)). length (product_of z v r k).frontier ≤ max 1 (length (product_of c.args.self.now.nodes.items v r k).frontier) + 0) (sym (refused g at.After-set_products c.in_err-set_products.ensures.refused))
-          (omega (arith, room_queues g at.After-make_queue_room v r k));
+          (same_queue _ _ (room_queues g at.After-make_queue_room v r k));
       count = none_done _ c.from_residual-in_err-set_products.result c.from_residual-in_err-set_products.ensures.0;
       formed = subst (λ (z : List (NodeStreamsView g.row.R.Denot)). IsStreams g.R.Rank.KEYS g.R.Rank.key c.args.self.now.tree.now c.args.self.now.entries.entries z) (sym (refused g at.After-set_products c.in_err-set_products.ensures.refused)) (room_of g at.After-make_queue_room).formed;
       tree = refl;
       streams = subst (λ (z : List (NodeStreamsView g.row.R.Denot)). (lists_of z c.args.node).streams ≡ (with_queue (lists_of c.args.self.now.nodes.items c.args.node) c.args.group (stream_of c.args.self.now.nodes.items c.args.node c.args.group).queue (stream_of z c.args.node c.args.group).room).streams) (sym (refused g at.After-set_products c.in_err-set_products.ensures.refused)) (room_of g at.After-make_queue_room).streams;
       above = λ v n. ap (λ z. lists_of z v) (refused g at.After-set_products c.in_err-set_products.ensures.refused) ∙ (room_of g at.After-make_queue_room).above v n;
-      cost = omega (arith, c.make_products.ensures.cost);
+      cost = c.make_products.ensures.cost;
     }
 
 pub returns-in_err-make_products : goal.returns-in_err-make_products
@@ -132,10 +141,10 @@ returns-in_err-make_products g c =
     record {
       entries = refl;
       count = none_done _ c.from_residual-in_err-make_products.result c.from_residual-in_err-make_products.ensures.0;
-      queues = λ v r k. omega (arith, room_queues g at.After-make_queue_room v r k);
+      queues = λ v r k. same_queue _ _ (room_queues g at.After-make_queue_room v r k);
       room = on_ok c.from_residual-in_err-make_products.result (λ none. roomy g at.In_ok-make_queue_room);
       above = (room_of g at.After-make_queue_room).above;
-      cost = omega (arith, c.make_products.ensures.cost);
+      cost = c.make_products.ensures.cost;
       tree = refl;
       formed = (room_of g at.After-make_queue_room).formed;
       streams = (room_of g at.After-make_queue_room).streams;
@@ -149,7 +158,7 @@ returns-in_ok-set_products g c =
     let few = row_lacks g.R.Rank.KEYS g.R.Rank.key c.args.self.now.tree.now c.args.self.now.entries.entries c.make_queue_room.new.nodes.items (room_of g at.After-make_queue_room).formed c.args.node c.args.row c.requires.node c.requires.row c.index-lists.result.now c.index-lists.ensures c.product_count.result c.child_count.result c.product_count.ensures c.child_count.ensures c.if-product_count-child_count.true in
     let fresh = subst (λ (z : List (NodeStreamsView g.row.R.Denot)). AreFreshTo g.R.Rank.KEYS g.R.Rank.key c.args.self.now.tree.now z c.args.node c.args.row (child_count c.args.self.now.tree.now c.args.node) c.make_products.new.products.items) c.as_slice.ensures.value c.in_ok-make_products.ensures.fresh in
     record {
-      cost = omega (arith, c.make_products.ensures.cost);
+      cost = c.make_products.ensures.cost;
       streams =
           stay ∙ (room_of g at.After-make_queue_room).streams
           ∙ ap (λ (z : List (StreamView g.row.R.Denot)). (with_queue (lists_of c.args.self.now.nodes.items c.args.node) c.args.group (stream_of c.args.self.now.nodes.items c.args.node c.args.group).queue (get_or z c.args.group (record { head = 0; queue = []; room = 0 })).room).streams) (sym stay);
@@ -182,10 +191,10 @@ returns-else-product_count-child_count g c =
       tree = refl;
       count = row_whole g.R.Rank.KEYS g.R.Rank.key c.args.self.now.tree.now c.args.self.now.entries.entries c.make_queue_room.new.nodes.items (room_of g at.After-make_queue_room).formed c.args.node c.args.row c.requires.node c.requires.row c.index-lists.result.now c.index-lists.ensures c.product_count.result c.child_count.result c.product_count.ensures c.child_count.ensures c.if-product_count-child_count.false;
       streams = (room_of g at.After-make_queue_room).streams;
-      queues = λ v r k. omega (arith, room_queues g at.After-make_queue_room v r k);
+      queues = λ v r k. same_queue _ _ (room_queues g at.After-make_queue_room v r k);
       entries = refl;
       formed = (room_of g at.After-make_queue_room).formed;
-      cost = omega arith;
+      cost = no_steps _ _;
     }
 
 pub returns-in_err-make_queue_room : goal.returns-in_err-make_queue_room
@@ -195,8 +204,8 @@ returns-in_err-make_queue_room g c =
       room = none_done _ c.from_residual.result c.from_residual.ensures.0;
       formed = (room_of g at.After-make_queue_room).formed;
       count = none_done _ c.from_residual.result c.from_residual.ensures.0;
-      cost = omega arith;
-      queues = λ v r k. omega (arith, room_queues g at.After-make_queue_room v r k);
+      cost = no_steps _ _;
+      queues = λ v r k. same_queue _ _ (room_queues g at.After-make_queue_room v r k);
       entries = refl;
       above = (room_of g at.After-make_queue_room).above;
       streams = (room_of g at.After-make_queue_room).streams;
@@ -207,12 +216,12 @@ pub returns-then-place-gt0 : goal.returns-then-place-gt0
 returns-then-place-gt0 g c =
     record {
       count = c.requires.formed.whole_rows c.args.node c.args.row c.requires.node c.requires.row (products_of_second (lists_of c.args.self.now.nodes.items c.args.node) c.args.row (length (products_of c.args.self.now.nodes.items c.args.node c.args.row)) c.args.place c.if-place-gt0.true c.requires.place);
-      cost = omega arith;
+      cost = no_steps _ _;
       tree = refl;
       queues = λ v r k. queue_itself _ _;
       above = λ v n. refl;
       formed = c.requires.formed;
-      room = λ none. absurd (omega (arith, none, c.if-place-gt0.true));
+      room = λ none. no_place _ c.if-place-gt0.true none;
       streams = sym (set-get_or (lists_of c.args.self.now.nodes.items c.args.node).streams c.args.group (record { head = 0; queue = []; room = 0 }));
       entries = refl;
     }

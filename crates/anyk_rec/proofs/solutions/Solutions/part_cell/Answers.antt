@@ -5,7 +5,7 @@ use Rattle.anyk_rec.specs.Rankings.{child}
 use Rattle.anyk_rec.specs.TreeStreams.{IsHeaded, products_of, stream_of}
 use Rattle.anyk_rec.proofs.Entries.{headed_of}
 use Rattle.anyk_rec.proofs.Heads.{lists_at}
-use Rattle.anyk_rec.proofs.PartRows.{first_cell, product_cell}
+use Rattle.anyk_rec.proofs.PartRows.{first_cell, in_products, in_found, product_cell}
 use Rattle.anyk_rec.proofs.solutions.Solutions.part_cell.Goals as goal
 
 same_few : (n m : ℕ) → n ≡ m → n ≤ m
@@ -58,3 +58,17 @@ returns-then-product_count-eq0 g c =
           first_cell g.R.Rank.KEYS g.R.Rank.key c.args.self.now.tree.now c.args.self.now.entries.entries n c.requires.formed c.requires.tie_free c.args.node c.args.row c.args.child c.args.place c.child_head-right.result c.requires.node c.requires.row c.requires.child none c.requires.place
           (c.child_head-right.ensures.head ∙ ap (λ (z : List (NodeStreamsView g.row.R.Denot)). (stream_of z (child c.args.self.now.tree.now c.args.node c.args.child) (group_named c.args.self.now.tree.now c.args.node c.args.row c.args.child)).head) c.as_slice.ensures.value);
     }
+
+pub cell-requires-clause-child : goal.cell-requires-clause-child
+cell-requires-clause-child g c =
+    let n = c.args.self.now.nodes.items in
+    let lists = lists_at n c.args.node c.index-lists.result.now c.index-lists.ensures (in_same _ _ _ c.requires.node c.requires.formed.all_nodes) in
+    in_products g.R.Rank.KEYS g.R.Rank.key c.args.self.now.tree.now c.args.self.now.entries.entries n c.requires.formed c.args.node c.args.row c.args.child c.index-lists.result.now lists c.requires.node c.requires.row c.requires.child
+    (is_some _ _ _ c.product_count.ensures (ap (λ m. length (get_or m.products c.args.row [])) lists) c.if-product_count-eq0.false)
+
+pub cell-requires-clause-place : goal.cell-requires-clause-place
+cell-requires-clause-place g c =
+    let n = c.args.self.now.nodes.items in
+    let lists = lists_at n c.args.node c.index-lists.result.now c.index-lists.ensures (in_same _ _ _ c.requires.node c.requires.formed.all_nodes) in
+    in_found g.R.Rank.KEYS g.R.Rank.key c.args.self.now.tree.now c.args.self.now.entries.entries n c.requires.formed c.args.node c.args.row c.args.child c.args.place c.index-lists.result.now lists
+    (is_some _ _ _ c.product_count.ensures (ap (λ m. length (get_or m.products c.args.row [])) lists) c.if-product_count-eq0.false) c.requires.place

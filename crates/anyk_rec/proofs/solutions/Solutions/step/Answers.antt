@@ -1,4 +1,4 @@
-use Rattle.std.proofs.Common.{◌≡◌, ℕ, ◌+◌, ◌<◌, ◌≤◌, suc, inl, inr, refl, IfSome, MatchOption, List, [], length, slice_set, get_or, sym, ap, ◌∙◌, subst, arith}
+use Rattle.std.proofs.Common.{◌≡◌, ℕ, ◌+◌, ◌*◌, ◌<◌, ◌≤◌, suc, inl, inr, refl, IfSome, MatchOption, List, [], length, slice_set, get_or, sym, ap, ◌∙◌, subst, arith}
 use Rattle.std.proofs.lemmas.Bool.{cases_lt}
 use Rattle.rank_key.specs.Bits.{bit_length}
 use Rattle.anyk_rec.specs.Cells.{cell_down}
@@ -26,6 +26,27 @@ in_same v n m l e = omega arith
 in_equal : (v n m : ℕ) → v < n → n ≡ m → v < m
 in_equal v n m l e = omega arith
 
+none_is : (c : ℕ) → c ≤ 0 → 0 ≡ c
+none_is c h = omega arith
+
+later_some : (k : ℕ) → 0 < k + 1
+later_some k = omega arith
+
+at_most_one : (n : ℕ) → n ≡ 1 → n ≤ 1
+at_most_one n e = omega arith
+
+one_longer : (n : ℕ) → n ≤ n + 1
+one_longer n = omega arith
+
+next_is : (c : ℕ) → suc c ≡ c + 1
+next_is c = omega arith
+
+step_cost : (s d a p b b1 n n1 : ℕ) → d ≤ s + 3 → a ≤ d + 3 → p ≤ a + 2 * b + b1 → b ≡ n → b1 ≡ n1 → n ≤ n1 → p ≤ s + 9 + 3 * n1
+step_cost s d a p b b1 n n1 h k l e f more = omega arith
+
+same_few : (n m k : ℕ) → n ≡ m → m ≤ k → n ≤ k
+same_few n m k e h = omega arith
+
 -- # What the proofs share
 
 -- the first entry of the stream of the group that a row names for a child
@@ -41,9 +62,9 @@ module _ (g : Over) where
   ready_of c e = elim (cases_lt 0 c.args.child) [
     | inl later ↦ c.requires.step.across later ((c.requires.step.beside later).1 e)
     | inr none ↦
-        let first : 0 ≡ c.args.child = omega (arith, none) in
+        let first : 0 ≡ c.args.child = none_is _ none in
         subst (λ k. IsReached g.R.Rank.KEYS g.R.Rank.key c.args.self.now.tree.now c.args.self.now.nodes.items c.args.node c.args.row k (c.args.top.now.tag.left + 1)) first
-        (reached_none g.R.Rank.KEYS g.R.Rank.key c.args.self.now.tree.now c.args.self.now.entries.entries c.args.self.now.nodes.items c.requires.formed c.args.node c.args.row (c.args.top.now.tag.left + 1) c.requires.node (omega arith))
+        (reached_none g.R.Rank.KEYS g.R.Rank.key c.args.self.now.tree.now c.args.self.now.entries.entries c.args.self.now.nodes.items c.requires.formed c.args.node c.args.row (c.args.top.now.tag.left + 1) c.requires.node (later_some _))
   ]
 
   -- the product with the solutions that it had, and the frontier that it has
@@ -118,9 +139,9 @@ step_product-requires-clause-frontier_room g c _ across =
     elim (cases_lt 0 c.args.child) [
       | inl l ↦ subst (λ n. 0 < (product_at n c.args.row c.args.child).frontier_room) lists (c.requires.step.top.frontier_room l)
       | inr l ↦
-          let first : c.args.child ≡ 0 = omega (arith, l) in
+          let first : c.args.child ≡ 0 = sym (none_is _ l) in
           let one : c.known-known.result ≡ 1 = c.known-known.ensures ∙ ap (λ k. known_of c.index.result.now c.args.row k) first in
-          absurd (none_beside g.R.Rank.KEYS g.R.Rank.key c.args.self.now.tree.now c.args.self.now.entries.entries c.args.node c.args.row c.args.child c.args.top.now.tag c.args.beside c.known-known.result (omega (arith, one)) c.cell_beside-across.result c.offered-across.result c.cell_beside-across.ensures c.offered-across.ensures.offer across)
+          absurd (none_beside g.R.Rank.KEYS g.R.Rank.key c.args.self.now.tree.now c.args.self.now.entries.entries c.args.node c.args.row c.args.child c.args.top.now.tag c.args.beside c.known-known.result (at_most_one _ one) c.cell_beside-across.result c.offered-across.result c.cell_beside-across.ensures c.offered-across.ensures.offer across)
     ]
 
 pub step_product-requires-clause-child : goal.step_product-requires-clause-child
@@ -144,10 +165,11 @@ returns g c =
     record {
       cost =
           let old = ap (λ n. product_at n c.args.row c.args.child) (sym (lists_at c.args.self.now.nodes.items c.args.node c.index_mut.result.now c.index_mut.ensures.value (in_same _ _ _ c.requires.node c.requires.formed.all_nodes))) in
-          let fewer : bit_length (length (product_of c.args.self.now.nodes.items c.args.node c.args.row c.args.child).frontier) ≤ bit_length (length (product_of c.args.self.now.nodes.items c.args.node c.args.row c.args.child).frontier + 1) = bit_length_rises (length (product_of c.args.self.now.nodes.items c.args.node c.args.row c.args.child).frontier) (length (product_of c.args.self.now.nodes.items c.args.node c.args.row c.args.child).frontier + 1) (omega arith) in
-          omega (arith, fewer, c.offer_below-down.ensures.cost, c.offered-across.ensures.cost, c.step_product.ensures.cost, ap (λ q. bit_length (length q.frontier)) old, ap (λ q. bit_length (length q.frontier + 1)) old);
+          let length_is : ℕ = length (product_of c.args.self.now.nodes.items c.args.node c.args.row c.args.child).frontier in
+          step_cost _ _ _ _ _ _ _ _ c.offer_below-down.ensures.cost c.offered-across.ensures.cost c.step_product.ensures.cost (ap (λ (q : ProductView g.row.R.Denot). bit_length (length q.frontier)) old) (ap (λ (q : ProductView g.row.R.Denot). bit_length (length q.frontier + 1)) old)
+          (bit_length_rises length_is (length_is + 1) (one_longer length_is));
       reached =
-          let next : suc c.args.child ≡ c.args.child + 1 = omega arith in
+          let next : suc c.args.child ≡ c.args.child + 1 = next_is c.args.child in
           let known = product_is g at.After-step_product in
           subst (λ k. IsReached g.R.Rank.KEYS g.R.Rank.key c.args.self.now.tree.now (slice_set c.args.self.now.nodes.items c.args.node c.step_product.new.self) c.args.node c.args.row k (part_known c.args.self.now.nodes.items c.args.node c.args.row k)) next
           (elim (stepped_reaches (passed g at.After-step_product) (product_at c.step_product.new.self c.args.row c.args.child) (passed_of g at.After-step_product) refl c.step_product.ensures.limit c.step_product.ensures.ended c.step_product.ensures.found c.step_product.ensures.ranks c.step_product.ensures.next) [
@@ -160,5 +182,5 @@ returns g c =
       changed = changed_of g at.After-step_product ∙ ap (λ z. slice_set c.args.self.now.nodes.items c.args.node (with_product (lists_of c.args.self.now.nodes.items c.args.node) c.args.row c.args.child z)) (sym (product_is g at.After-step_product));
       entries = refl;
       tree = refl;
-      queue = omega (arith, ap (λ q. length q.frontier) (product_is g at.After-step_product), (passed_of g at.After-step_product).longer);
+      queue = same_few _ _ _ (ap (λ (q : ProductView g.row.R.Denot). length q.frontier) (product_is g at.After-step_product)) (passed_of g at.After-step_product).longer;
     }

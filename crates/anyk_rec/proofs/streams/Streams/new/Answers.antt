@@ -57,3 +57,9 @@ returns-in_err-clone-3 g c =
       calls = none_given _ c.from_residual-in_err-clone-3.result c.from_residual-in_err-clone-3.ensures.0;
       cost = no_steps _ _;
     }
+
+pub begin_nodes-requires-clause-nodes : goal.begin_nodes-requires-clause-nodes
+begin_nodes-requires-clause-nodes g c = c.new-nodes.ensures.items
+
+pub begin_nodes-requires-clause-entries : goal.begin_nodes-requires-clause-entries
+begin_nodes-requires-clause-entries g c = c.new-entries.ensures.entries

@@ -1,4 +1,4 @@
-use Rattle.std.proofs.Common.{None, is_none, refl, sym, ap, ◌∙◌, arith}
+use Rattle.std.proofs.Common.{None, get_or, is_none, refl, sym, ap, ◌∙◌, arith}
 use Rattle.std.proofs.lemmas.List.{get_or-set_same}
 use Rattle.std.proofs.lemmas.List.Quantifiers.{position-Some}
 use Rattle.std.proofs.lemmas.Result.{IfOk-from_err}
@@ -21,7 +21,7 @@ returns-in_err-place g c =
 
 pub returns-in_err-number : goal.returns-in_err-number
 returns-in_err-number g c =
-    let at = some_from_ok _ _ _ _ c.ok_or.ensures.value c.in_ok-place.was in
+    let at = some_from_ok (get_or c.self.inside.places c.args.id.number None) c.ok_or.result (Unknown c.args.id) c.in_ok-place.place c.ok_or.ensures.value c.in_ok-place.was in
     let none = none_from_err _ _ _ _ c.ok_or-2.ensures.value c.in_err-number.was in
     record {
       forked = IfOk-from_err c.from_residual-in_err-number.result _ c.from_residual-in_err-number.ensures.0;
@@ -34,14 +34,14 @@ returns-in_err-number g c =
 pub invariant_of-self : goal.invariant_of-self
 invariant_of-self g c =
     let found = c.self.inside.found.len in
-    let at = some_from_ok _ _ _ _ c.ok_or.ensures.value c.in_ok-place.was in
+    let at = some_from_ok (get_or c.self.inside.places c.args.id.number None) c.ok_or.result (Unknown c.args.id) c.in_ok-place.place c.ok_or.ensures.value c.in_ok-place.was in
     let within = place_within c.self.inside.places c.args.id.number found c.in_ok-place.place c.self.invariant.1 at in
     (c.self.invariant.0, places_set c.self.inside.places c.in_ok-number.number found found c.in_ok-place.place (at_most_same found) within c.self.invariant.1)
 
 pub returns : goal.returns
 returns g c =
-    let at = some_from_ok _ _ _ _ c.ok_or.ensures.value c.in_ok-place.was in
-    let free = some_from_ok _ _ _ _ c.ok_or-2.ensures.value c.in_ok-number.was in
+    let at = some_from_ok (get_or c.self.inside.places c.args.id.number None) c.ok_or.result (Unknown c.args.id) c.in_ok-place.place c.ok_or.ensures.value c.in_ok-place.was in
+    let free = some_from_ok c.free_number.result c.ok_or-2.result TooMany c.in_ok-number.number c.ok_or-2.ensures.value c.in_ok-number.was in
     let first = position-Some is_none c.self.inside.places c.in_ok-number.number None (sym c.free_number.ensures ∙ free) in
     record {
       forked = (
@@ -55,18 +55,18 @@ returns g c =
 
 pub offset_bounds-self-inside-number : goal.offset_bounds-self-inside-number
 offset_bounds-self-inside-number g c =
-    let free = some_from_ok _ _ _ _ c.ok_or-2.ensures.value c.in_ok-number.was in
+    let free = some_from_ok c.free_number.result c.ok_or-2.result TooMany c.in_ok-number.number c.ok_or-2.ensures.value c.in_ok-number.was in
     let first = position-Some is_none c.self.inside.places c.in_ok-number.number None (sym c.free_number.ensures ∙ free) in
     omega (arith, first.0)
 
 pub bounds-self-inside-number : goal.bounds-self-inside-number
 bounds-self-inside-number g c =
-    let free = some_from_ok _ _ _ _ c.ok_or-2.ensures.value c.in_ok-number.was in
+    let free = some_from_ok c.free_number.result c.ok_or-2.result TooMany c.in_ok-number.number c.ok_or-2.ensures.value c.in_ok-number.was in
     let first = position-Some is_none c.self.inside.places c.in_ok-number.number None (sym c.free_number.ensures ∙ free) in
     omega (arith, first.0)
 
 pub invariant_of-result : goal.invariant_of-result
 invariant_of-result g c =
-    let free = some_from_ok _ _ _ _ c.ok_or-2.ensures.value c.in_ok-number.was in
+    let free = some_from_ok c.free_number.result c.ok_or-2.result TooMany c.in_ok-number.number c.ok_or-2.ensures.value c.in_ok-number.was in
     let first = position-Some is_none c.self.inside.places c.in_ok-number.number None (sym c.free_number.ensures ∙ free) in
     omega (arith, first.0)

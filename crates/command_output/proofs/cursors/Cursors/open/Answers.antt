@@ -26,7 +26,7 @@ invariant_of-self g c =
 
 pub returns : goal.returns
 returns g c =
-    let free = some_from_ok _ _ _ _ c.ok_or.ensures.value c.in_ok-number.was in
+    let free = some_from_ok c.free_number.result c.ok_or.result TooMany c.in_ok-number.number c.ok_or.ensures.value c.in_ok-number.was in
     let first = position-Some is_none c.self.inside.places c.in_ok-number.number None (sym c.free_number.ensures ∙ free) in
     record {
       opened = (ap first_free (sym c.self.view_is) ∙ sym c.free_number.ensures ∙ free, changed_here _ _ c.self.view_is c.in_ok-number.number (Some 0) (Some 0) refl);
@@ -36,18 +36,18 @@ returns g c =
 
 pub offset_bounds-self-inside-number : goal.offset_bounds-self-inside-number
 offset_bounds-self-inside-number g c =
-    let free = some_from_ok _ _ _ _ c.ok_or.ensures.value c.in_ok-number.was in
+    let free = some_from_ok c.free_number.result c.ok_or.result TooMany c.in_ok-number.number c.ok_or.ensures.value c.in_ok-number.was in
     let first = position-Some is_none c.self.inside.places c.in_ok-number.number None (sym c.free_number.ensures ∙ free) in
     omega (arith, first.0)
 
 pub bounds-self-inside-number : goal.bounds-self-inside-number
 bounds-self-inside-number g c =
-    let free = some_from_ok _ _ _ _ c.ok_or.ensures.value c.in_ok-number.was in
+    let free = some_from_ok c.free_number.result c.ok_or.result TooMany c.in_ok-number.number c.ok_or.ensures.value c.in_ok-number.was in
     let first = position-Some is_none c.self.inside.places c.in_ok-number.number None (sym c.free_number.ensures ∙ free) in
     omega (arith, first.0)
 
 pub invariant_of-result : goal.invariant_of-result
 invariant_of-result g c =
-    let free = some_from_ok _ _ _ _ c.ok_or.ensures.value c.in_ok-number.was in
+    let free = some_from_ok c.free_number.result c.ok_or.result TooMany c.in_ok-number.number c.ok_or.ensures.value c.in_ok-number.was in
     let first = position-Some is_none c.self.inside.places c.in_ok-number.number None (sym c.free_number.ensures ∙ free) in
     omega (arith, first.0)

@@ -4,11 +4,12 @@ use Rattle.std.proofs.lemmas.Result.{IfOk-from_err}
 use Rattle.anyk_model.specs.Query.{Query}
 use Rattle.anyk_model.specs.TaggedRows as union
 use Rattle.anyk_model.specs.Union.{left_of}
-use Rattle.command_output.specs.Firsts.{HasFirst, IsFirst, tagged_view}
+use Rattle.command_output.specs.Firsts.{IsFirst, tagged_view}
 use Rattle.command_output.specs.Merge.{AreBranches, BranchView, IsCalled, MergeView, lists_of, queries_of}
 use Rattle.command_output.proofs.Branches.{list_at, query_at}
+use Rattle.command_output.proofs.Follows.{at_none, at_some}
 use Rattle.command_output.proofs.Sooner.{not_empty}
-use Rattle.command_output.proofs.Stepping.{branches_kept, branches_taken, first_left, is_called, merged, none_left, on_error, rest_kept, rest_taken}
+use Rattle.command_output.proofs.Stepping.{branches_kept, branches_taken, first_left, first_told, is_called, merged, none_left, on_error, rest_kept, rest_taken}
 use Rattle.command_output.proofs.merge.Merge.next.Goals as goal
 
 pub first_branch-requires : goal.first_branch-requires
@@ -30,7 +31,7 @@ pub invariant_of-self : goal.invariant_of-self
 invariant_of-self g c =
     let branches = c.self.inside.branches.items in
     let tables = c.self.inside.tables.now in
-    let h = subst (λ (l : List BranchView). HasFirst (queries_of l) tables (lists_of l) (length l) c.in-Some.first) c.as_slice.ensures.value (rw c.in-Some.is at c.first_branch.ensures) in
+    let h = first_told tables c.as_slice.result.now c.self.inside.branches.items c.first_branch.result c.in-Some.first c.as_slice.ensures.value c.in-Some.is c.first_branch.ensures in
     branches_kept tables branches c.in-Some.first h.inside c.index_mut.result.now c.take.new.self c.index_mut.ensures.value c.take.ensures.bound c.self.invariant (c.in_err-rows.ensures.refused).0
 
 pub returns-in_err-rows : goal.returns-in_err-rows
@@ -38,7 +39,7 @@ returns-in_err-rows g c =
     let branches = c.self.inside.branches.items in
     let tables = c.self.inside.tables.now in
     let first = c.in-Some.first in
-    let h = subst (λ (l : List BranchView). HasFirst (queries_of l) tables (lists_of l) (length l) first) c.as_slice.ensures.value (rw c.in-Some.is at c.first_branch.ensures) in
+    let h = first_told tables c.as_slice.result.now branches c.first_branch.result first c.as_slice.ensures.value c.in-Some.is c.first_branch.ensures in
     let x = c.index_mut.result.now in
     let y = c.take.new.self in
     let after = slice_set branches first y in
@@ -62,8 +63,8 @@ invariant_of-self-in_default-2 g c =
     let branches = c.self.inside.branches.items in
     let tables = c.self.inside.tables.now in
     let first = c.in-Some.first in
-    let h = subst (λ (l : List BranchView). HasFirst (queries_of l) tables (lists_of l) (length l) first) c.as_slice.ensures.value (rw c.in-Some.is at c.first_branch.ensures) in
-    let none = (rw c.in_default-2.is at c.in_ok-rows.ensures.end).0 in
+    let h = first_told tables c.as_slice.result.now branches c.first_branch.result first c.as_slice.ensures.value c.in-Some.is c.first_branch.ensures in
+    let none = (at_none _ _ c.in_default-2.is c.in_ok-rows.ensures.end).0 in
     absurd (not_empty (get_or (lists_of branches) first []) h.rows h.later h.is_first (list_at branches first h.inside c.index_mut.result.now c.index_mut.ensures.value ∙ none))
 
 pub returns-in_default-2 : goal.returns-in_default-2
@@ -71,8 +72,8 @@ returns-in_default-2 g c =
     let branches = c.self.inside.branches.items in
     let tables = c.self.inside.tables.now in
     let first = c.in-Some.first in
-    let h = subst (λ (l : List BranchView). HasFirst (queries_of l) tables (lists_of l) (length l) first) c.as_slice.ensures.value (rw c.in-Some.is at c.first_branch.ensures) in
-    let none = (rw c.in_default-2.is at c.in_ok-rows.ensures.end).0 in
+    let h = first_told tables c.as_slice.result.now branches c.first_branch.result first c.as_slice.ensures.value c.in-Some.is c.first_branch.ensures in
+    let none = (at_none _ _ c.in_default-2.is c.in_ok-rows.ensures.end).0 in
     record {
       found = tt;
       end = absurd (not_empty (get_or (lists_of branches) first []) h.rows h.later h.is_first (list_at branches first h.inside c.index_mut.result.now c.index_mut.ensures.value ∙ none));
@@ -82,28 +83,28 @@ returns-in_default-2 g c =
 pub overflow_cast-result : goal.overflow_cast-result
 overflow_cast-result g c =
     let tables = c.self.inside.tables.now in
-    let h = subst (λ (l : List BranchView). HasFirst (queries_of l) tables (lists_of l) (length l) c.in-Some.first) c.as_slice.ensures.value (rw c.in-Some.is at c.first_branch.ensures) in
+    let h = first_told tables c.as_slice.result.now c.self.inside.branches.items c.first_branch.result c.in-Some.first c.as_slice.ensures.value c.in-Some.is c.first_branch.ensures in
     omega (arith, h.inside, c.self.invariant.few)
 
 pub invariant_of-self-2 : goal.invariant_of-self-2
 invariant_of-self-2 g c =
     let branches = c.self.inside.branches.items in
     let tables = c.self.inside.tables.now in
-    let h = subst (λ (l : List BranchView). HasFirst (queries_of l) tables (lists_of l) (length l) c.in-Some.first) c.as_slice.ensures.value (rw c.in-Some.is at c.first_branch.ensures) in
+    let h = first_told tables c.as_slice.result.now c.self.inside.branches.items c.first_branch.result c.in-Some.first c.as_slice.ensures.value c.in-Some.is c.first_branch.ensures in
     branches_taken tables branches c.in-Some.first h.inside c.index_mut.result.now c.take.new.self c.index_mut.ensures.value c.take.ensures.bound c.self.invariant
-    _ (rw c.in-Some-2.is at c.in_ok-rows.ensures.found).0
+    _ (at_some _ _ _ c.in-Some-2.is c.in_ok-rows.ensures.found).0
 
 pub returns : goal.returns
 returns g c =
     let branches = c.self.inside.branches.items in
     let tables = c.self.inside.tables.now in
     let first = c.in-Some.first in
-    let h = subst (λ (l : List BranchView). HasFirst (queries_of l) tables (lists_of l) (length l) first) c.as_slice.ensures.value (rw c.in-Some.is at c.first_branch.ensures) in
+    let h = first_told tables c.as_slice.result.now branches c.first_branch.result first c.as_slice.ensures.value c.in-Some.is c.first_branch.ensures in
     let x = c.index_mut.result.now in
     let y = c.take.new.self in
     let after = slice_set branches first y in
     let rows = c.in-Some-2.rows in
-    let found = rw c.in-Some-2.is at c.in_ok-rows.ensures.found in
+    let found = at_some _ _ _ c.in-Some-2.is c.in_ok-rows.ensures.found in
     record {
       found =
           let taken : x.left ≡ take (length (union.branch_at (queries_of branches) first).items) rows ∷ y.left =

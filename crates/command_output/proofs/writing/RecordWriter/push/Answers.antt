@@ -1,7 +1,8 @@
-use Rattle.std.proofs.Common.{◌≤◌, [], length, append-nil, ap, sym, subst, ◌∙◌}
+use Rattle.std.proofs.Common.{sym, subst, ◌∙◌}
+use Rattle.std.proofs.lemmas.Bool.{false≢true}
 use Rattle.command_output.specs.RecordWriters.{RecordView}
 use Rattle.command_output.specs.WrittenRecords.{HasFields}
-use Rattle.command_output.proofs.Written.{field_more, ok_has, on_ok_four, on_ok_of_err, start_grows}
+use Rattle.command_output.proofs.Written.{field_more, ok_has, on_ok_four, on_ok_of_err, start_grows_open}
 use Rattle.command_output.proofs.writing.RecordWriter.push.Goals as goal
 
 pub returns-else-is_err : goal.returns-else-is_err
@@ -20,9 +21,8 @@ invariant_of-self-else-is_err c =
     let r = c.write_field-written.result in
     let put = c.write_field-written.ensures in
     let done = sym c.is_err.ensures.value ∙ c.if-is_err.false in
-    let bytes = ok_has _ r done put.bytes in
     record {
       setup = ok_has _ r done put.setup;
-      start = subst (λ n. c.self.inside.start ≤ n) (ap length (append-nil _)) (start_grows c.self.inside.start _ _ _ [] c.self.invariant.start bytes);
-      between = λ closed. absurd cc;
+      start = start_grows_open c.self.inside.start _ _ _ c.self.invariant.start (ok_has _ r done put.bytes);
+      between = λ closed. absurd (false≢true (sym closed));
     }

@@ -19,8 +19,8 @@ invariant_of-self-2 c =
       whole = rw (grown, c.in_ok-extend_from_slice.ensures.items) (push_whole ends bytes field c.self.invariant.rising c.self.invariant.whole);
     }
 
-pub returns-clause-added : goal.returns-clause-added
-returns-clause-added c =
+pub returns : goal.returns
+returns c =
     let ends = c.self.inside.ends.items in
     let bytes = c.self.inside.bytes.items in
     let field = c.args.field.now in
@@ -28,8 +28,14 @@ returns-clause-added c =
     let grown : c.push_reserved.new.self.items ≡ ends ++ length (bytes ++ field) ∷ [] =
     c.push_reserved.ensures.items ∙ (λ i. c.in_ok-reserve.ensures.items i ++ end i ∷ []) in
     let put = c.in_ok-extend_from_slice.ensures.items in
-    (λ i. cut_from 0 (grown i) (put i)) ∙ push_cut ends bytes field c.self.invariant.rising c.self.invariant.whole
-    ∙ ap (λ (l : Fields). l ++ field ∷ []) c.self.view_is
+    record {
+      added = (λ i. cut_from 0 (grown i) (put i)) ∙ push_cut ends bytes field c.self.invariant.rising c.self.invariant.whole
+          ∙ ap (λ (l : Fields). l ++ field ∷ []) c.self.view_is;
+      err = tt;
+    }
+
+pub returns-then-end-gt-MAX_BYTES : goal.returns-then-end-gt-MAX_BYTES
+returns-then-end-gt-MAX_BYTES c = record { added = tt; err = λ _. c.args.self.now }
 
 pub invariant_of-self : goal.invariant_of-self
 invariant_of-self c =

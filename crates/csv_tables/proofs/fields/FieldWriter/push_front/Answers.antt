@@ -1,4 +1,4 @@
-use Rattle.std.proofs.Common.{◌≡◌, ◌+◌, ◌++◌, ◌∙◌, ℕ, List, take, length, ap, subst, sym, arith}
+use Rattle.std.proofs.Common.{◌≡◌, ◌≤◌, ◌+◌, ◌++◌, ◌∙◌, ℕ, List, take, length, ap, subst, sym, arith}
 use Rattle.std.proofs.Math.Seq.{take-append-add}
 use Rattle.std.proofs.lemmas.Result.{IfOk-from_err}
 use Rattle.std.specs.List.{concat}
@@ -34,8 +34,14 @@ shown c =
 pub invariant_of-self-2 : goal.invariant_of-self-2
 invariant_of-self-2 c = let s = shown c in record { rising = s.rising; whole = s.whole }
 
-pub returns-clause-added : goal.returns-clause-added
-returns-clause-added c = (shown c).cut
+pub returns : goal.returns
+returns c = record { added = (shown c).cut; within = c.push_ends-count.ensures.within; err = tt }
+
+pub returns-then-start-text-gt-MAX_BYTES : goal.returns-then-start-text-gt-MAX_BYTES
+returns-then-start-text-gt-MAX_BYTES c = record { added = tt; within = tt; err = λ _. c.args.self.now }
+
+pub push_ends-count-requires-clause-size : goal.push_ends-count-requires-clause-size
+push_ends-count-requires-clause-size c = subst (λ (l : List ℕ). c.len-start.result + length l ≤ 4294967295) c.as_slice-text.ensures c.if-start-text-gt-MAX_BYTES.false
 
 pub invariant_of-self : goal.invariant_of-self
 invariant_of-self c =

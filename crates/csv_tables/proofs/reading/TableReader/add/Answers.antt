@@ -1,4 +1,6 @@
-use Rattle.std.proofs.Common.{◌∙◌, [], ℕ, ap, sym, take, subst}
+use Rattle.std.proofs.Common.{◌∙◌, ◌<◌, ◌∷◌, ◌++◌, [], List, ℕ, ap, length, sym, take, subst}
+use Rattle.anyk_model.specs.Table.{Table}
+use Rattle.table_store.specs.Tables.{IsSound}
 use Rattle.table_store.specs.StoredTables.{IsStored, stored_view}
 use Rattle.table_store.specs.Values.{with_tables}
 use Rattle.table_store.proofs.Stands.{with_rows_extends}
@@ -34,3 +36,22 @@ pub invariant_of-self : goal.invariant_of-self
 invariant_of-self c =
     let cut = c.truncate.ensures ∙ ap (λ (k : ℕ). take k c.store.new.texts) c.len-known.ensures in
     record { known = texts_back c.self.inside.texts c.store.new.texts c.truncate.new.self c.in-Err.ensures.err cut ∙ c.self.invariant.known }
+
+pub add-requires-clause-few : goal.add-requires-clause-few
+add-requires-clause-few c = subst (λ (ts : List Table). length ts < 16) (sym c.self.view_is) c.requires.few
+
+pub add-requires-clause-sound : goal.add-requires-clause-sound
+add-requires-clause-sound c = subst IsSound (sym c.in-Ok.ensures.shown) c.requires.sound
+
+pub returns-in-Err : goal.returns-in-Err
+returns-in-Err c = record { number = tt; added = tt; err = c.self.view_is }
+
+pub returns-in_default : goal.returns-in_default
+returns-in_default c = record { number = tt; added = tt; err = c.in_default.ensures.err ∙ c.self.view_is }
+
+pub returns : goal.returns
+returns c = record {
+  number = c.in-Ok-add.ensures.number ∙ ap (λ (ts : List Table). length ts) c.self.view_is;
+  added = c.in-Ok-add.ensures.added ∙ (λ i. c.self.view_is i ++ c.in-Ok.ensures.shown i ∷ []);
+  err = tt;
+}

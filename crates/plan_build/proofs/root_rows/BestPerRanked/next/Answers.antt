@@ -1,4 +1,4 @@
-use Rattle.std.proofs.Common.{◌≡◌, ◌+◌, ◌<◌, ◌≤◌, ◌∙◌, ℕ, ℤ, true, false, List, [], ◌∷◌, length, inl, inr, refl, sym, ap, subst, arith}
+use Rattle.std.proofs.Common.{◌≡◌, suc, ◌+◌, ◌*◌, ◌<◌, ◌≤◌, ◌∙◌, ℕ, ℤ, true, false, List, [], ◌∷◌, length, inl, inr, refl, sym, ap, subst, arith}
 use Rattle.std.proofs.lemmas.Bool.{false≢true, cases_lt}
 use Rattle.std.proofs.lemmas.List.Sorted.{length_permutation}
 use Rattle.containers.specs.declared.entry.Entry.{Entry}
@@ -11,10 +11,32 @@ use Rattle.tdp_core.specs.AnswerView.{AnswerView, counted, answers_of, rows_of_k
 use Rattle.tdp_core.specs.Shares.{share_of, size_of}
 use Rattle.tdp_core.specs.TreeView.{rows, row_count, group_count, best}
 use Rattle.tdp_core.proofs.TreeFacts.{member_is_row}
-use Rattle.plan_build.specs.RootHeap.{BestView, IsQueue, rest_keys, place_key}
+use Rattle.plan_build.specs.RootHeap.{BestView, IsQueue, holds, rest_keys, root_len, place_key}
 use Rattle.plan_build.proofs.Counts.{call_within}
 use Rattle.plan_build.proofs.Queues.{top_place, others_placed, top_lives, heap_within, tag_small, rows_counted, some_left, queue_next, none_rest}
 use Rattle.plan_build.proofs.root_rows.BestPerRanked.next.Goals as goal
+
+-- the room and the entries of a queue that gave one entry and took up to two
+room_left : (old popped one two : ℕ) → popped ≡ old + 1 → popped ≤ one + 1 → one ≤ two + 1 → old ≤ two + 1
+room_left old popped one two e f h = omega (arith, e, f, h)
+
+two_more : (new one old : ℕ) → new ≤ one + 1 → one ≤ old + 1 → new ≤ old + 2
+two_more new one old h k = omega (arith, h, k)
+
+one_more : (a b : ℕ) → a ≡ suc b → a ≡ b + 1
+one_more a b e = omega (arith, e)
+
+some_more : (a b : ℕ) → a ≡ b + 1 → 1 ≤ a
+some_more a b e = omega (arith, e)
+
+next_within : (a b n : ℕ) → a ≤ b + 1 → n ≡ b + 1 → a + 1 ≤ n + 1
+next_within a b n l e = omega (arith, l, e)
+
+cost_grows : (a b k n : ℕ) → a ≤ b + k → k ≤ n → a ≤ b + n
+cost_grows a b k n h l = omega (arith, h, l)
+
+first_node : (n : ℕ) → 1 ≤ n → 0 < n
+first_node n some = omega (arith, some)
 
 -- a queue from which nothing came has no entries
 none_waits : (n : ℕ) → (0 < n → false ≡ true) → n ≤ 0
@@ -77,13 +99,14 @@ best_rows-rows-requires-clause-row g c =
     let t = c.self.inside.tree.now in
     let formed = c.self.invariant.formed in
     let place = top_place d key t c.self.inside.queue.entries c.self.inside.queue.spare c.self.invariant c.in-Some.top c.pop.new.self.entries c.in-Some.ensures.permutation in
-    subst (λ r. r < rows t 0) (sym c.member-row.ensures.member) (member_is_row d key t formed 0 0 c.in-Some.top.tag (omega (arith, formed.shaped.some_node)) place.within)
+    subst (λ r. r < rows t 0) (sym c.member-row.ensures.member) (member_is_row d key t formed 0 0 c.in-Some.top.tag (first_node _ formed.shaped.some_node) place.within)
 
 pub invariant_of-self-2 : goal.invariant_of-self-2
 invariant_of-self-2 g c =
     (queue_next g.R.Rank.KEYS g.R.Rank.key c.self.inside.tree.now c.self.inside.queue.entries c.self.inside.queue.spare c.self.invariant c.in-Some.top c.pop.new.self.entries c.in-Some.ensures.permutation
-    c.in-Some.ensures.least c.offer-2.new.queue.entries c.offer-2.new.queue.spare c.offer-2.ensures.entries (λ i. omega (arith, c.offer-2.ensures.held i, c.offer.ensures.held i))
-    (omega (arith, c.offer-2.ensures.room, c.offer.ensures.room, c.in-Some.ensures.spare)) (omega (arith, c.offer-2.ensures.length, c.offer.ensures.length))).1
+    c.in-Some.ensures.least c.offer-2.new.queue.entries c.offer-2.new.queue.spare c.offer-2.ensures.entries (λ i. c.offer-2.ensures.held i
+    ∙ ap (λ (z : ℕ). holds (root_len c.self.inside.tree.now) (2 * c.in-Some.top.tag + 2) i + z) (c.offer.ensures.held i))
+    (room_left _ _ _ _ c.in-Some.ensures.spare c.offer.ensures.room c.offer-2.ensures.room) (two_more _ _ _ c.offer-2.ensures.length c.offer.ensures.length)).1
 
 pub returns-in_default : goal.returns-in_default
 returns-in_default g c =
@@ -120,8 +143,9 @@ returns g c =
     let place = top_place d key t entries c.self.inside.queue.spare c.self.invariant e c.pop.new.self.entries c.in-Some.ensures.permutation in
     let next : rest_keys d key t entries ≡ k ∷ rest_keys d key t left =
     (queue_next d key t entries c.self.inside.queue.spare c.self.invariant e c.pop.new.self.entries c.in-Some.ensures.permutation
-    c.in-Some.ensures.least left c.offer-2.new.queue.spare c.offer-2.ensures.entries (λ i. omega (arith, c.offer-2.ensures.held i, c.offer.ensures.held i))
-    (omega (arith, c.offer-2.ensures.room, c.offer.ensures.room, c.in-Some.ensures.spare)) (omega (arith, c.offer-2.ensures.length, c.offer.ensures.length))).0
+    c.in-Some.ensures.least left c.offer-2.new.queue.spare c.offer-2.ensures.entries (λ i. c.offer-2.ensures.held i
+    ∙ ap (λ (z : ℕ). holds (root_len c.self.inside.tree.now) (2 * c.in-Some.top.tag + 2) i + z) (c.offer.ensures.held i))
+    (room_left _ _ _ _ c.in-Some.ensures.spare c.offer.ensures.room c.offer-2.ensures.room) (two_more _ _ _ c.offer-2.ensures.length c.offer.ensures.length)).0
     in
     let rows_are : c.best_rows-rows.result ≡ rows_of_key d 16 k = c.best_rows-rows.ensures.rows ∙ ap (λ r. rows_of_key d 16 (best t d key 0 r)) c.member-row.ensures.member in
     let seen : List ℕ → List ℤ → AnswerView = λ r ns. record { rows = r; key = ns } in
@@ -129,18 +153,18 @@ returns g c =
     let q = c.self.invariant in
     let others : List (Entry g.row.R.Denot ℕ) = c.pop.new.self.entries in
     let popped = c.in-Some.ensures.permutation in
-    let one : length entries ≡ length others + 1 = omega (arith, length_permutation entries (e ∷ others) popped) in
+    let one : length entries ≡ length others + 1 = one_more _ _ (sym (length_permutation entries (e ∷ others) popped)) in
     let first : bit_length (length others + 1) ≡ bit_length (length entries) = ap bit_length (sym one) in
     let second : bit_length (length c.offer.new.queue.entries + 1) ≤ bit_length (length entries + 1) =
-    bit_length_rises (length c.offer.new.queue.entries + 1) (length entries + 1) (omega (arith, c.offer.ensures.length, one))
+    bit_length_rises (length c.offer.new.queue.entries + 1) (length entries + 1) (next_within _ _ _ c.offer.ensures.length one)
     in
     let few : length entries ≤ row_count t =
     omega (arith, q.few, some_left d key t entries spare q e others popped, heap_within d key t entries spare q e others popped, rows_counted d key t entries spare q e others popped)
     in
     let all : c.best_rows-rows.new.steps ≤ c.args.steps.now + share_of (size_of t) 0 =
     call_within (length t) (row_count t) (group_count t 0) (length entries) c.args.steps.now c.pop.new.steps c.offer.new.steps c.offer-2.new.steps c.member-row.new.steps c.best_rows-rows.new.steps
-    q.formed.shaped.some_node (top_lives d key t entries spare q e others popped) (omega (arith, one)) few c.pop.ensures.cost (omega (arith, c.offer.ensures.cost, first))
-    (omega (arith, c.offer-2.ensures.cost, second)) c.member-row.ensures.counted c.best_rows-rows.ensures.cost
+    q.formed.shaped.some_node (top_lives d key t entries spare q e others popped) (some_more _ _ one) few c.pop.ensures.cost (subst (λ (k : ℕ). c.offer.new.steps ≤ c.pop.new.steps + 2 + k) first c.offer.ensures.cost)
+    (cost_grows c.offer-2.new.steps (c.offer.new.steps + 2) _ _ c.offer-2.ensures.cost second) c.member-row.ensures.counted c.best_rows-rows.ensures.cost
     in
     record {
       total = refl;
@@ -154,3 +178,12 @@ returns g c =
       size = ap (λ (s : BestView g.row.R.Denot). size_of s.tree) c.self.view_is;
       cost = subst (λ (s : BestView g.row.R.Denot). c.best_rows-rows.new.steps ≤ c.args.steps.now + share_of (size_of s.tree) 0) c.self.view_is all;
     }
+
+pub member-row-requires-clause-node : goal.member-row-requires-clause-node
+member-row-requires-clause-node g c = first_node _ c.self.invariant.formed.shaped.some_node
+
+pub offer-requires-2-clause-entries : goal.offer-requires-2-clause-entries
+offer-requires-2-clause-entries g c = c.offer.ensures.entries
+
+pub offer-requires-2-clause-formed : goal.offer-requires-2-clause-formed
+offer-requires-2-clause-formed g c = c.self.invariant.formed
