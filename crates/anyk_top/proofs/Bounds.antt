@@ -16,7 +16,7 @@ use Rattle.anyk_model.specs.TaggedRows.{Tagged, branch_at}
 use Rattle.anyk_model.specs.Union.{union_of}
 use Rattle.anyk_model.specs.UnionOutput.{union_output_of}
 use Rattle.bound_query.specs.WeighedQuery.{BoundQuery}
-use Rattle.task_plan.specs.Input.{InputView, loaded_of}
+use Rattle.task_input.specs.Input.{InputView, loaded_of}
 use Rattle.plan_build.specs.Plans.{ArePrepared, preparation_of}
 use Rattle.verdict.specs.Bound.{IsBounded, IsPaced, IsPrompt, IsWithin, cost_of}
 use Rattle.verdict.specs.AcceptedInput.{Found, found_of, is_union, queries_in, query_of, structure_of}
@@ -27,9 +27,9 @@ use Rattle.verdict.specs.UnionBound.{HaveShapes, union_cost, union_records}
 use Rattle.verdict.specs.Verdict.{IsStructured}
 use Rattle.verdict.specs.Words.{Asked, Command, Words, built, run, plan, session, load, prove, verify}
 use Rattle.verdict.proofs.Structure.{shapes_had}
-use Rattle.task_plan.specs.Plans.{IsEarlyFor, IsEarlyWithin}
+use Rattle.anyk_top.specs.Plans.{IsEarlyFor, IsEarlyWithin}
 use Rattle.anyk_top.proofs.Prepared.{prepared_over, union_prepared}
-use Rattle.task_plan.proofs.Judging.{verdict_structured}
+use Rattle.task_input.proofs.Judging.{verdict_structured}
 
 -- ---- the steps of a preparation
 

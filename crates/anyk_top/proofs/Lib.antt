@@ -8,3 +8,5 @@ pub mod RootSlots
 pub mod RunBounds
 pub mod UnionRun
 pub mod Verifying
+pub mod EarlyPlans
+pub mod PlanList

@@ -35,8 +35,8 @@ use Rattle.bound_query.proofs.OneShape.{one_tree}
 use Rattle.outer_io.specs.Reason as reason
 use Rattle.outer_io.specs.Reason.{Reason}
 use Rattle.languages.specs.declared.step.Step.{Step}
-use Rattle.task_plan.specs.Input.{InputView, loaded_of}
-use Rattle.task_plan.specs.Turns.{IsTurn}
+use Rattle.task_input.specs.Input.{InputView, loaded_of}
+use Rattle.task_input.specs.Turns.{IsTurn}
 use Rattle.verdict.specs.Faults.{of_proof}
 use Rattle.verdict.specs.Outcome.{GotNothing, IsCaused, IsComplete, IsCut, IsReason, Outside}
 use Rattle.verdict.specs.Output.{HasOutput, answers_text, style_of}
@@ -48,10 +48,10 @@ use Rattle.verdict.specs.Verdict.{IsLoadedOn, IsShaped, IsStructure, IsVerdict, 
 use Rattle.verdict.specs.Words.{Command, Words, built, verify, sought_by}
 use Rattle.verdict.proofs.Printed.{printed_caused, printed_complete, printed_cut, printed_fits}
 use Rattle.verdict.proofs.Staging.{found_within, pure_staged}
-use Rattle.task_plan.proofs.Ends.{judged_accepts, judged_caused, judged_cut, judged_reason}
+use Rattle.task_input.proofs.Ends.{judged_accepts, judged_caused, judged_cut, judged_reason}
 use Rattle.anyk_top.specs.Verifications.{HasAnswers, IsCheckedFor, IsShown, check_reason, rejected, shape_reason, shown}
 use Rattle.anyk_top.specs.declared.fault.CheckFault.{CheckFault}
-use Rattle.task_plan.specs.Judgement.{IsJudgedOn, IsLookedUp}
+use Rattle.task_input.specs.Judgement.{IsJudgedOn, IsLookedUp}
 
 -- ---- stages that read no file
 

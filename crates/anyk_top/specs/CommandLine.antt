@@ -5,7 +5,7 @@ use Rattle.outer_io.specs.Reason.{Reason}
 use Rattle.cmd_words.specs.declared.fault.WordsFault.{WordsFault}
 use Rattle.cmd_words.specs.declared.fault.WordsFault.TheVariants as fault
 use Rattle.cmd_words.specs.Commands.{CommandSaid, run_said, session_said, plan_said, prove_said, verify_said, load_said}
-use Rattle.task_plan.specs.Tasks.{words_of}
+use Rattle.task_input.specs.Tasks.{words_of}
 use Rattle.verdict.specs.Words.{Words, Asked, no_command, built, run, plan, session, load, prove, verify}
 
 -- `clap` accepts the arguments of a session only if a script is among them

@@ -7,3 +7,4 @@ pub mod Endings
 pub mod Engines
 pub mod Requests
 pub mod Verifications
+pub mod Plans

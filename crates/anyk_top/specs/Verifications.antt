@@ -19,7 +19,7 @@ use Rattle.outer_io.specs.Reason as reason
 use Rattle.outer_io.specs.Reason.{Reason}
 use Rattle.outer_io.specs.RefusalReasons.{reason_of}
 use Rattle.outer_io.specs.SinkState.{SinkState}
-use Rattle.task_plan.specs.Input.{InputView}
+use Rattle.task_input.specs.Input.{InputView}
 use Rattle.verdict.specs.AcceptedInput.{found_of}
 use Rattle.verdict.specs.Faults.{of_proof}
 use Rattle.verdict.specs.Loading.{Loaded}

@@ -1,6 +1,6 @@
 //! A command that plans its queries, from its input to its output.
 ghost use Rattle.std.specs.Prelude.{◌<◌, [], ◌∷◌, IfErr, OnOk, length};
-ghost use Rattle.task_plan.specs.Input.{loaded_of};
+ghost use Rattle.task_input.specs.Input.{loaded_of};
 ghost use Rattle.plan_build.specs.Plan.{IsPlanOf, shape_of};
 ghost use Rattle.plan_build.specs.Plans.{ArePrepared, HavePlans};
 ghost use Rattle.proof_model.specs.Certificate.{Certificate};
@@ -15,16 +15,17 @@ ghost use Rattle.verdict.specs.MadeFiles.{known_to};
 ghost use Rattle.verdict.specs.Outcome.{IsReason, IsCaused, IsComplete, IsCut};
 ghost use Rattle.verdict.specs.Words.{built};
 ghost use Rattle.anyk_top.specs.Answered.{IsAnswered};
-ghost use Rattle.task_plan.specs.Judgement.{HasOne, IsUnnamed};
-ghost use Rattle.task_plan.specs.Plans.{ArePlans, IsOnePlan, IsOnePlanOf, found_by};
-ghost use Rattle.task_plan.specs.Plans.{found_in, shape_in, shapes_of};
-ghost use Rattle.task_plan.specs.Tasks.{command_of};
+ghost use Rattle.task_input.specs.Judgement.{HasOne, IsUnnamed};
+ghost use Rattle.anyk_top.specs.Plans.{ArePlans, IsOnePlan, IsOnePlanOf, found_by};
+ghost use Rattle.anyk_top.specs.Plans.{found_in, shape_in, shapes_of};
+ghost use Rattle.task_input.specs.Tasks.{command_of};
 ghost use Rattle.verdict.specs.Sides.{seen_by};
 
 use crate::certificate::print_certificate;
 use crate::load::print_load;
 use crate::plan::print_report;
 use crate::planned_query::{PlannedQueries, PlannedQuery};
+use crate::planning::{Planned, Plans, plan_task};
 use crate::run::print_run;
 use crate::session::print_script;
 use crate::style::style_in;
@@ -36,7 +37,7 @@ use plan_build::{Plan, RankedPlan};
 use rank_key::Rank;
 use std::alloc::Global;
 use std::sync::ledger::Ledger;
-use task_plan::{Input, Planned, Plans, Task, plan_task};
+use task_input::{Input, Task};
 
 /// Reads or makes the input of the command, plans its query, and prints the command's output. The
 /// result is an error if the input is refused, if a read or a write failed, or if memory is

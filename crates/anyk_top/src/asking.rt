@@ -10,7 +10,7 @@ use crate::request::Request;
 use cmd_words::{Command, Words, WordsFault, read_words};
 use ground::NoMemory;
 use std::alloc::Global;
-use task_plan::{MadeTables, Task};
+use task_input::{MadeTables, Task};
 
 /// The command that the arguments ask for. `Usage` if they are not a command, and `NoMemory` if
 /// memory is refused.

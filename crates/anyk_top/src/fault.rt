@@ -6,7 +6,7 @@ ghost use Rattle.anyk_top.specs.Verifications.{check_reason};
 use bound_query::ShapeFault;
 use outer_io::Refusal;
 use proof_model::ProofFault;
-use task_plan::proof_refusal;
+use task_input::proof_refusal;
 
 /// Why the answers of a certificate are not those of a query.
 #[derive(Clone, Copy)]

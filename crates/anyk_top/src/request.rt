@@ -1,6 +1,6 @@
 //! The commands.
 use cmd_words::Words;
-use task_plan::Task;
+use task_input::Task;
 
 /// A command with its arguments.
 #[derive(Drop)]

@@ -3,7 +3,7 @@ ghost use Rattle.std.specs.Prelude.{◌≡◌};
 ghost use Rattle.command_output.specs.StyleView.{style_view};
 ghost use Rattle.cmd_words.specs.ArgumentMeaning.{words_view};
 ghost use Rattle.verdict.specs.Output.{style_of};
-ghost use Rattle.task_plan.specs.Tasks.{words_of};
+ghost use Rattle.task_input.specs.Tasks.{words_of};
 
 use cmd_words::Words;
 use command_output::Style;

@@ -1,7 +1,7 @@
 //! The command `verify`.
 ghost use Rattle.std.specs.Prelude.{◌≡◌, ◌∷◌, [], IfErr, None, OnOk, length};
 ghost use Rattle.cmd_words.specs.ArgumentMeaning.{words_view};
-ghost use Rattle.task_plan.specs.Input.{loaded_of};
+ghost use Rattle.task_input.specs.Input.{loaded_of};
 ghost use Rattle.bound_query.specs.Shape.{Shape};
 ghost use Rattle.outer_io.specs.Printing.{Printed};
 ghost use Rattle.outer_io.specs.RefusalReasons.{reason_of};
@@ -10,7 +10,7 @@ ghost use Rattle.verdict.specs.AcceptedInput.{found_of};
 ghost use Rattle.verdict.specs.Output.{answers_text};
 ghost use Rattle.verdict.specs.Outcome.{IsCaused, IsComplete, IsCut, IsReason};
 ghost use Rattle.verdict.specs.Words.{built, verify};
-ghost use Rattle.task_plan.specs.Tasks.{words_of};
+ghost use Rattle.task_input.specs.Tasks.{words_of};
 ghost use Rattle.anyk_top.specs.Verifications.{HasAnswers, IsShown};
 ghost use Rattle.verdict.specs.Sides.{seen_by};
 
@@ -23,7 +23,7 @@ use ground::{Keys, Steps};
 use outer_io::{PrintFault, Refusal, Shelf, Sink, refused};
 use std::alloc::Global;
 use std::sync::ledger::Ledger;
-use task_plan::{Aside, Input, look_up};
+use task_input::{Aside, Input, look_up};
 
 /// Reads the input of `verify`, checks its certificate, and prints the answers that it lists. The
 /// result is an error if the input is refused, if the certificate is not valid, if a read or a

@@ -6,12 +6,12 @@ use Rattle.verdict.specs.Outcome.{Outside}
 use Rattle.verdict.specs.Words.{built}
 use Rattle.verdict.specs.StageResults.{Shelved, shelved}
 use Rattle.outer_io.proofs.Prints.{appends_nothing}
-use Rattle.task_plan.specs.Plans.{found_in}
-use Rattle.task_plan.specs.Tasks.{command_of}
+use Rattle.anyk_top.specs.Plans.{found_in}
+use Rattle.task_input.specs.Tasks.{command_of}
 use Rattle.verdict.specs.Sides.{seen_by}
 use Rattle.verdict.proofs.Steps.{bounded_found, prompt_found}
 use Rattle.anyk_top.proofs.Bounds.{bounded_early, prompt_early}
-use Rattle.task_plan.proofs.Ends.{judged_accepts, judged_reason, judged_caused, judged_cut}
+use Rattle.task_input.proofs.Ends.{judged_accepts, judged_reason, judged_caused, judged_cut}
 use Rattle.verdict.proofs.Printed.{printed_caused, printed_complete, printed_cut, printed_fits}
 use Rattle.anyk_top.proofs.answering.answer_task.Goals as goal
 

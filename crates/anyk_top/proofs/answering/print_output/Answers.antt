@@ -7,9 +7,9 @@ use Rattle.outer_io.proofs.Prints.{printed_some}
 use Rattle.bound_query.specs.RunBounds.{IsPrepared, KeepsPace}
 use Rattle.verdict.specs.Session.{session_text}
 use Rattle.verdict.specs.Summary.{summary_text}
-use Rattle.task_plan.specs.Judgement.{IsUnnamed}
-use Rattle.task_plan.specs.Tasks.{command_of}
-use Rattle.task_plan.specs.declared.task.Task.{Task}
+use Rattle.task_input.specs.Judgement.{IsUnnamed}
+use Rattle.task_input.specs.Tasks.{command_of}
+use Rattle.task_input.specs.declared.task.Task.{Task}
 use Rattle.plan_build.proofs.ShapeIs.{plan_shape}
 use Rattle.anyk_top.proofs.Prepared.{prepared_over}
 use Rattle.plan_build.proofs.Rooted.{whole_of}

@@ -1,12 +1,12 @@
 use Rattle.cmd_words.specs.ArgumentMeaning.{words_view}
-use Rattle.task_plan.specs.Input.{loaded_of}
+use Rattle.task_input.specs.Input.{loaded_of}
 use Rattle.outer_io.specs.RefusalReasons.{reason_of}
 use Rattle.outer_io.proofs.Prints.{appends_nothing}
 use Rattle.verdict.specs.Words.{verify}
 use Rattle.verdict.specs.StageResults.{shelved}
-use Rattle.task_plan.specs.Tasks.{words_of}
+use Rattle.task_input.specs.Tasks.{words_of}
 use Rattle.verdict.specs.Sides.{seen_by}
-use Rattle.task_plan.proofs.Judging.{looked_refused}
+use Rattle.task_input.proofs.Judging.{looked_refused}
 use Rattle.anyk_top.proofs.Verifying.{refused_ends, verified_ends}
 use Rattle.anyk_top.proofs.verify.answer_verified.Goals as goal
 

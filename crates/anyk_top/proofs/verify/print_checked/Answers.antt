@@ -5,14 +5,14 @@ use Rattle.anyk_model.specs.Query.{IsCombination, row_counts}
 use Rattle.cmd_words.specs.ArgumentMeaning.{words_view}
 use Rattle.proof_check.specs.RowLists.{item_rows}
 use Rattle.bound_query.specs.WeighedQuery.{BoundQuery}
-use Rattle.task_plan.specs.Input.{InputView, loaded_of}
+use Rattle.task_input.specs.Input.{InputView, loaded_of}
 use Rattle.outer_io.specs.Printing.{Printed}
 use Rattle.outer_io.specs.SinkState.{state_of}
 use Rattle.verdict.specs.AcceptedInput.{found_of}
 use Rattle.verdict.specs.Output.{answers_text, style_of}
-use Rattle.task_plan.specs.Tasks.{words_of}
+use Rattle.task_input.specs.Tasks.{words_of}
 use Rattle.anyk_top.specs.Verifications.{HasAnswers}
-use Rattle.task_plan.proofs.Inputs.{input_view}
+use Rattle.task_input.proofs.Inputs.{input_view}
 use Rattle.anyk_top.proofs.Verifying.{answers_combine, answers_shown}
 use Rattle.anyk_top.proofs.verify.print_checked.Goals as goal
 

@@ -2,10 +2,10 @@ use Rattle.std.proofs.Common.{◌≡◌, ◌∙◌, ◌∷◌, [], Err, ap, leng
 use Rattle.cmd_words.specs.ArgumentMeaning.{words_view}
 use Rattle.outer_io.specs.Printing.{refused}
 use Rattle.outer_io.specs.SinkState.{state_of}
-use Rattle.task_plan.proofs.Inputs.{input_view}
-use Rattle.task_plan.proofs.PlanList.{only_one}
-use Rattle.task_plan.specs.Input.{InputView, loaded_of}
-use Rattle.task_plan.specs.Tasks.{words_of}
+use Rattle.task_input.proofs.Inputs.{input_view}
+use Rattle.anyk_top.proofs.PlanList.{only_one}
+use Rattle.task_input.specs.Input.{InputView, loaded_of}
+use Rattle.task_input.specs.Tasks.{words_of}
 use Rattle.anyk_top.specs.Verifications.{HasAnswers, IsShown}
 use Rattle.anyk_top.proofs.Verifying.{rejected_in, shown_in}
 use Rattle.anyk_top.proofs.verify.print_verified.Given.{Over}

@@ -1,0 +1,134 @@
+-- The plans of an accepted input, as the verdict sees them.
+use Rattle.std.specs.Prelude.{◌≡◌, ◌<◌, ℕ, List, [], ◌∷◌, length, map}
+use Rattle.std.specs.Prelude.{Option, IfSome, Result, Ok, Err, Vec}
+use Rattle.std.specs.Global.{Global}
+use Rattle.anyk_model.specs.Table.{Table}
+use Rattle.join_tree.specs.Items.{items_of}
+use Rattle.outer_io.specs.Files.{Files}
+use Rattle.plan_build.specs.Plan.{IsPlanOf, PlanView, shape_of}
+use Rattle.plan_build.specs.Plans.{ArePrepared, HavePlans}
+use Rattle.plan_build.specs.RankedPlan.{fixed_key, key_of_packed}
+use Rattle.plan_build.specs.declared.fault.PlanFault.{PlanFault}
+use Rattle.plan_build.specs.declared.fault.PlanFault.TheVariants as fault
+use Rattle.plan_build.specs.declared.ranked_plan.RankedPlan.{RankedPlan}
+use Rattle.plan_build.specs.declared.ranked_plan.RankedPlan.TheVariants.{Lex, MiddleSum, Packed, SmallLex, Sum}
+use Rattle.bound_query.specs.WeighedQuery.{BoundQuery}
+use Rattle.bound_query.specs.Shape.{Shape}
+use Rattle.proof_model.specs.Certificate.{Certificate}
+use Rattle.languages.specs.declared.step.Step.{Step}
+use Rattle.rankings.specs.KeyTuple.{KeyOf}
+use Rattle.outer_io.specs.declared.refusal.Refusal.{Refusal}
+use Rattle.outer_io.specs.Reason as reason
+use Rattle.outer_io.specs.Reason.{Reason}
+use Rattle.outer_io.specs.RefusalReasons.{reason_of}
+use Rattle.bound_query.specs.RunBounds.{IsPrepared}
+use Rattle.task_input.specs.Input.{InputView, loaded_of}
+use Rattle.verdict.specs.AcceptedInput.{Found, found_of, query_of}
+use Rattle.verdict.specs.Loading.{Loaded}
+use Rattle.verdict.specs.Verdict.{IsVerdict}
+use Rattle.verdict.specs.Words.{Command, built, run, plan, session, load, prove, verify}
+use Rattle.anyk_top.specs.declared.planning.Planned.{Planned}
+use Rattle.anyk_top.specs.declared.planning.Unplanned.{Unplanned}
+use Rattle.anyk_top.specs.declared.planning.Plans.{Plans}
+use Rattle.anyk_top.specs.declared.planning.Plans.TheVariants.{One, Sums, Lexes}
+
+-- ---- the structures that plans show
+
+-- the join tree of a plan, with the numbers of its node rows
+abbrev pub shape_in : RankedPlan → Shape
+shape_in (Packed made) = shape_of made
+shape_in (MiddleSum made) = shape_of made
+shape_in (Sum made) = shape_of made
+shape_in (SmallLex made) = shape_of made
+shape_in (Lex made) = shape_of made
+
+-- that of each plan
+abbrev pub shapes_of : {R : Type 0} → List (PlanView R) → List Shape
+shapes_of plans = map shape_of plans
+
+abbrev pub shapes_in : Plans → List Shape
+shapes_in (One made) = shape_in made ∷ []
+shapes_in (Sums plans) = shapes_of plans.items
+shapes_in (Lexes plans) = shapes_of plans.items
+
+-- what is known of a query, its tables, the item whose rows are asked for, a script and a
+-- certificate, with the structure of the query
+abbrev pub found_by : BoundQuery → List Table → Option ℕ → List Step → Certificate → Shape → Found
+found_by query tables best steps proof shape = record {
+  queries = query.query ∷ [];
+  tables = tables;
+  shapes = shape ∷ [];
+  best = best;
+  steps = steps;
+  proof = proof;
+}
+
+abbrev pub found_in : Planned → Found
+found_in planned = found_of (loaded_of planned.input) (shapes_in planned.plans)
+
+abbrev pub planned_result_view : Result Planned Refusal → Result Found Reason
+planned_result_view (Ok planned) = Ok (found_in planned)
+planned_result_view (Err refusal) = Err (reason_of refusal)
+
+-- the branch is told if there are several
+abbrev pub plan_reason : Option ℕ → PlanFault → Reason
+plan_reason branch (fault.Cyclic core) = reason.Cyclic branch (items_of core)
+plan_reason branch (fault.TooManyRows most) = reason.TooManyNodeRows
+plan_reason branch fault.NoMemory = reason.NoMemory
+
+abbrev pub shapes_result_view : {R : Type 0} → Result (Vec (PlanView R) Global) Unplanned
+    → Result (List Shape) Reason
+shapes_result_view (Ok plans) = Ok (shapes_of plans.items)
+shapes_result_view (Err unplanned) = Err (plan_reason unplanned.branch unplanned.fault)
+
+abbrev pub plans_result_view : Loaded → Result Plans Unplanned → Result Found Reason
+plans_result_view loaded (Ok plans) = Ok (found_of loaded (shapes_in plans))
+plans_result_view loaded (Err unplanned) = Err (plan_reason unplanned.branch unplanned.fault)
+
+-- ---- the plans of the queries
+
+-- the plan of the one query
+pub record IsOnePlanOf {R : Type 0} (d : ℕ) (key : R → KeyOf d 16) (queries : List BoundQuery)
+    (tables : List Table) (best : Option ℕ) (made : PlanView R)
+    : Type 0 where
+  pub query : BoundQuery
+  pub only : queries ≡ query ∷ []
+  pub is_plan : IsPlanOf d key query tables best made
+
+-- the same with the ranks that its order needs
+abbrev pub IsOnePlan : List BoundQuery → List Table → Option ℕ → RankedPlan → Type 0
+IsOnePlan queries tables best (Packed made) = IsOnePlanOf 1 key_of_packed queries tables best made
+IsOnePlan queries tables best (MiddleSum made) =
+    IsOnePlanOf 1 (fixed_key 1 8) queries tables best made
+IsOnePlan queries tables best (Sum made) = IsOnePlanOf 1 (fixed_key 1 16) queries tables best made
+IsOnePlan queries tables best (SmallLex made) =
+    IsOnePlanOf 2 (fixed_key 2 4) queries tables best made
+IsOnePlan queries tables best (Lex made) = IsOnePlanOf 8 (fixed_key 8 16) queries tables best made
+
+-- the plans of the queries of an input: of one query with the item that is named, and of several by
+-- one rank type
+abbrev pub ArePlans : InputView → Plans → Type 0
+ArePlans input (One made) = IsOnePlan input.queries input.tables input.best made
+ArePlans input (Sums plans) =
+    (1 < length input.queries) × HavePlans 1 (fixed_key 1 16) input.tables input.queries plans.items
+ArePlans input (Lexes plans) =
+    (1 < length input.queries) × HavePlans 8 (fixed_key 8 16) input.tables input.queries plans.items
+
+-- ---- the steps of the preparation
+
+-- No more steps than the preparation of the plans of what is found may take: `run` may have several
+-- queries, and each other command has one. Nothing is said of the steps of `prove` and `verify`.
+abbrev pub IsEarlyFor : Command → Found → ℕ → ℕ → Type 0
+IsEarlyFor (run words) found before now = ArePrepared found.queries found.tables before now
+IsEarlyFor (plan words) found before now = IsPrepared (query_of found) found.tables before now
+IsEarlyFor (session script words) found before now = IsPrepared
+    (query_of found) found.tables before now
+IsEarlyFor (prove words) found before now = Unit {0}
+IsEarlyFor (verify proof words) found before now = Unit {0}
+IsEarlyFor (load number rows) found before now = IsPrepared (query_of found) found.tables before now
+
+-- if the files are known and the input is accepted, preparation took no more steps than it may take
+abbrev pub IsEarlyWithin : Command → Option Files → ℕ → ℕ → Type 0
+IsEarlyWithin command told before now =
+    IfSome told (λ files. (found : Found) → IsVerdict (built command) files (Ok found)
+    → IsEarlyFor command found before now)

@@ -1,0 +1,189 @@
+//! The input of a command, with the plans of its queries.
+ghost use Rattle.std.specs.Prelude.{◌≡◌, ◌<◌, ◌≤◌, None, true, IfErr, IfOk, IfSome, length};
+ghost use Rattle.std.specs.List.{All};
+ghost use Rattle.task_input.specs.Input.{loaded_of};
+ghost use Rattle.node_build.specs.Nodes.{CapsBelow};
+ghost use Rattle.plan_build.specs.Plans.{ArePrepared, HavePlans};
+ghost use Rattle.bound_query.specs.WeighedQuery.{Fits};
+ghost use Rattle.outer_io.specs.RefusalReasons.{reason_of};
+ghost use Rattle.bound_query.specs.RunBounds.{IsPrepared};
+ghost use Rattle.verdict.specs.AcceptedInput.{queries_in};
+ghost use Rattle.verdict.specs.MadeFiles.{known_to};
+ghost use Rattle.verdict.specs.StageResults.{Pure, shelved};
+ghost use Rattle.verdict.specs.Verdict.{AreStructures, IsShaped, IsStructure};
+ghost use Rattle.verdict.specs.Words.{built};
+ghost use Rattle.task_input.specs.Judgement.{HasOne, IsJudged};
+ghost use Rattle.anyk_top.specs.Plans.{ArePlans, IsEarlyWithin, plan_reason};
+ghost use Rattle.anyk_top.specs.Plans.{plans_result_view, planned_result_view, shapes_result_view};
+ghost use Rattle.task_input.specs.Tasks.{command_of};
+
+use bound_query::Query;
+use ground::{Keys, Steps};
+use outer_io::{Refusal, Shelf};
+use plan_build::{Plan, PlanFault, RankedPlan, prepare, prepare_ranked};
+use rank_key::{LexRank, Rank, SumRank};
+use std::alloc::{AllocError, AllocFailed, Global};
+use std::sync::ledger::Ledger;
+use table_store::Tables;
+use task_input::{Input, Task, look_at};
+
+/// An accepted input, with the plans of its queries.
+#[derive(Drop)]
+pub struct Planned {
+    pub input: Input,
+    pub plans: Plans,
+}
+
+/// The plans of an input's queries, with the ranks that their order needs.
+#[derive(Drop)]
+pub enum Plans {
+    /// The plan of the one query.
+    One(RankedPlan),
+    /// The plans of several queries in order, with ranks of one sum.
+    Sums(Vec<Plan<SumRank>>),
+    /// The plans of several queries in order, with ranks of eight sums.
+    Lexes(Vec<Plan<LexRank>>),
+}
+
+/// The input of the command with the plans of its queries, or the first refusal. `Cyclic` if a
+/// query has no join tree, and `TooManyNodeRows` if more of its rows pass than the limit, in all
+/// nodes together.
+pub fn plan_task<'a, F: Shelf, L: Ledger>(
+    alloc: Global,
+    task: &'a Task,
+    shelf: &mut F,
+    keys: Keys,
+    steps: &mut Steps<L>,
+) -> Result<Planned, Refusal<'a>>
+    ensures judged { IsJudged (command_of task.now)
+        (shelved F.Shelf shelf.old) (shelved F.Shelf shelf.new)
+        (planned_result_view result) }
+    ensures plans { IfOk result (λ p. ArePlans p.input p.plans) }
+    ensures alone { IfOk result (λ p. HasOne (command_of task.now) p.input) }
+    ensures cost { IfOk result (λ p.
+        ArePrepared (queries_in p.input.queries) p.input.tables steps.old steps.new) }
+    ensures early { IfErr result (λ refusal. IsEarlyWithin (command_of task.now)
+        (known_to (built (command_of task.now)) (F.files shelf.old)) steps.old steps.new) }
+{
+    let input = look_at(alloc, task, shelf, keys)?;
+    match plans_of(alloc, &input, steps) {
+        Ok(plans) => Ok(Planned { input, plans }),
+        Err(unplanned) => Err(plan_refusal(unplanned.branch, unplanned.fault)),
+    }
+}
+
+/// Why queries have no plans.
+#[derive(Clone, Copy)]
+struct Unplanned {
+    /// The branch of the query that has none, from 1; none if no branch is told.
+    branch: Option<u32>,
+    /// What is wrong with it, or that memory was refused.
+    fault: PlanFault,
+}
+
+impl From<AllocError> for Unplanned {
+    ghost use Rattle.std.specs.Prelude.{◌≡◌};
+    ghost use Rattle.plan_build.specs.declared.fault.PlanFault.TheVariants.{NoMemory};
+
+    ghost from_gives = { λ _ u. u.fault ≡ NoMemory };
+
+    fn from(_error: AllocError) -> Self {
+        Unplanned {
+            branch: None,
+            fault: PlanFault::NoMemory,
+        }
+    }
+}
+
+impl<T: Drop> From<AllocFailed<T>> for Unplanned {
+    ghost use Rattle.std.specs.Prelude.{◌≡◌};
+    ghost use Rattle.plan_build.specs.declared.fault.PlanFault.TheVariants.{NoMemory};
+
+    ghost from_gives = { λ _ u. u.fault ≡ NoMemory };
+
+    fn from(_error: AllocFailed<T>) -> Self {
+        Unplanned {
+            branch: None,
+            fault: PlanFault::NoMemory,
+        }
+    }
+}
+
+/// The plans of the input's queries, or the first fault in their order.
+fn plans_of<L: Ledger>(
+    alloc: Global,
+    input: &Input,
+    steps: &mut Steps<L>,
+) -> Result<Plans, Unplanned>
+    ensures shaped { Pure (IsShaped (loaded_of input.now))
+        (plans_result_view (loaded_of input.now) result) }
+    ensures plans { IfOk result (ArePlans input.now) }
+    ensures cost { ArePrepared (queries_in input.now.queries) input.now.tables steps.old steps.new }
+{
+    let queries = input.queries.as_slice();
+    let tables = &input.tables;
+    let first = &queries[0];
+    if queries.len() == 1 {
+        return match prepare_ranked(alloc, first, tables, input.best, steps) {
+            Ok(plan) => Ok(Plans::One(plan)),
+            Err(fault) => Err(Unplanned {
+                branch: None,
+                fault,
+            }),
+        };
+    }
+    if first.keys() <= 1 {
+        let plans = plans_for::<SumRank, L>(alloc, queries, tables, steps)?;
+        Ok(Plans::Sums(plans))
+    } else {
+        let plans = plans_for::<LexRank, L>(alloc, queries, tables, steps)?;
+        Ok(Plans::Lexes(plans))
+    }
+}
+
+/// The plan of each of several queries, by one rank type. The fault is that of the first query that
+/// has none, with its number.
+fn plans_for<R: Rank, L: Ledger>(
+    alloc: Global,
+    queries: &[Query],
+    tables: &Tables,
+    steps: &mut Steps<L>,
+) -> Result<Vec<Plan<R>>, Unplanned>
+    requires few { length queries.now ≤ 8 }
+    requires fits { All (λ q. Fits q tables.now) queries.now }
+    requires keys { All (λ q. length q.query.order ≤ R.KEYS) queries.now }
+    requires slots { 16 ≤ R.ITEMS }
+    requires limit { All (λ q. CapsBelow R.LIMIT q tables.now) queries.now }
+    ensures shaped { let all = queries_in queries.now in
+        Pure (AreStructures true 1 tables.now all) (shapes_result_view result) }
+    ensures plans { IfOk result (λ v. HavePlans R.KEYS R.key tables.now queries.now v.items) }
+    ensures cost { ArePrepared (queries_in queries.now) tables.now steps.old steps.new }
+{
+    let mut plans = Vec::with_capacity(alloc, queries.len())?;
+    for query in queries {
+        // there are at most 16 items
+        let _items = query.items();
+        match prepare(alloc, query, tables, steps) {
+            Ok(plan) => plans.push(plan)?,
+            Err(fault) => {
+                let branch = plans.len() as u32 + 1;
+                return Err(Unplanned {
+                    branch: Some(branch),
+                    fault,
+                });
+            }
+        }
+    }
+    Ok(plans)
+}
+
+/// The refusal of the query of this branch, from 1, or of the one query if no branch is told.
+fn plan_refusal<'a>(branch: Option<u32>, fault: PlanFault) -> Refusal<'a>
+    ensures { reason_of result ≡ plan_reason branch fault }
+{
+    match fault {
+        PlanFault::Cyclic(core) => Refusal::Cyclic { branch, core },
+        PlanFault::TooManyRows(_most) => Refusal::TooManyNodeRows,
+        PlanFault::NoMemory => Refusal::NoMemory,
+    }
+}

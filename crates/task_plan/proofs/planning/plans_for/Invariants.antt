@@ -1,6 +1,0 @@
-use Rattle.task_plan.proofs.PlanList.{HasPlanned}
-use Rattle.task_plan.proofs.planning.plans_for.Given as goal
-
-abbrev pub invariant-loop-query : goal.invariant-loop-query
-invariant-loop-query g l = HasPlanned g.R.Rank.KEYS g.R.Rank.key l.tables l.queries l.query-index l.plans.items
-    l.fn.steps l.steps
