@@ -12,7 +12,7 @@ use crate::node::NodeStreams;
 use crate::opened::RowProducts;
 use crate::queue::Queue;
 use crate::source::Source;
-use crate::stream::{Found, Stream, kept_solution};
+use crate::stream::{Found, kept_solution};
 use containers::{Entry, EntryId, Store};
 use ground::{NoMemory, Steps};
 use rank_key::Rank;
@@ -102,9 +102,7 @@ impl<R: Rank, A: Allocator> NodeStreams<R, A> {
             self.first_head = head;
         }
         self.streams.reserve(1)?;
-        self.streams.push_reserved(Stream {
-            queue: Queue::of(first),
-        });
+        self.streams.push_reserved(Queue::of(first));
         Ok(())
     }
 }

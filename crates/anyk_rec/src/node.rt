@@ -14,8 +14,9 @@ ghost use Rattle.anyk_rec.specs.NodeStreamsView.{HasHead, known_of, product_at, 
 use crate::cell::Cell;
 use crate::opened::RowProducts;
 use crate::product::Product;
+use crate::queue::Queue;
 use crate::source::Source;
-use crate::stream::Stream;
+use crate::stream::queue_room;
 use containers::{Entry, EntryId};
 use ground::{NoMemory, Steps};
 use rank_key::Rank;
@@ -31,7 +32,11 @@ pub(crate) struct NodeStreams<R: Rank, A: Allocator> {
     /// The first entry of the first group. Those of the other groups come after it in their order,
     /// so that none is kept for each group.
     pub(crate) first_head: EntryId,
-    pub(crate) streams: Vec<Stream<R, A>, A>,
+    /// For each group a queue of what follows its stream. Its top is the last entry of the stream,
+    /// until the entry after it is asked for. It begins with the first solution of the group's first
+    /// member. The first solution of each other member enters when the one of the member above it in
+    /// the group's heap is passed, and a later solution when the one before it is passed.
+    pub(crate) streams: Vec<Queue<R, Source, A>, A>,
     pub(crate) products: RowProducts<R, A>,
 }
 
@@ -91,14 +96,6 @@ impl<R: Rank, A: Allocator> NodeStreams<R, A> {
         self.products.count_of(row)
     }
 
-    /// A product of a row. Products count from 0.
-    fn product(&self, row: u32, child: usize) -> &Product<R, A>
-        requires child { child < length (slice_index_or self.now.products row []) }
-        ensures { result.now ≡ product_at self.now row child }
-    {
-        self.products.product(row, child)
-    }
-
     /// The number of known solutions of a row with its first `count` children.
     pub(crate) fn known(&self, row: u32, count: usize) -> u32
         requires count { count ≤ length (slice_index_or self.now.products row []) }
@@ -107,7 +104,7 @@ impl<R: Rank, A: Allocator> NodeStreams<R, A> {
         if count == 0 {
             1
         } else {
-            self.product(row, count - 1).len()
+            self.products.product(row, count - 1).len()
         }
     }
 
@@ -119,7 +116,7 @@ impl<R: Rank, A: Allocator> NodeStreams<R, A> {
         ensures { (d : Cell)
             → result ≡ slice_index_or (product_at self.now row child).found place d }
     {
-        self.product(row, child).cell(place)
+        self.products.product(row, child).cell(place)
     }
 
     /// The rank of this solution. The product must keep ranks.
@@ -128,7 +125,7 @@ impl<R: Rank, A: Allocator> NodeStreams<R, A> {
         requires place { place < length (product_at self.now row child).ranks }
         ensures { (d : R) → result ≡ slice_index_or (product_at self.now row child).ranks place d }
     {
-        self.product(row, child).rank(place)
+        self.products.product(row, child).rank(place)
     }
 
     /// The last sum that a product found, or `None` if no further one follows.
@@ -142,7 +139,7 @@ impl<R: Rank, A: Allocator> NodeStreams<R, A> {
             (λ e. IsLeast R.KEYS R.key e (product_at self.now row child).frontier) }
         ensures limit { length (product_at self.now row child).frontier < 2 ^ 64 }
     {
-        self.product(row, child).top()
+        self.products.product(row, child).top()
     }
 
     /// The last solution that the stream of a group found, or `None` if no further one follows.
@@ -234,7 +231,9 @@ impl<R: Rank, A: Allocator> NodeStreams<R, A> {
             + bit_length (length (stream_at self.old group).queue + 1)
             + bit_length (length (stream_at self.new group).queue) }
     {
-        self.streams[group as usize].pass(next, left, right, steps);
+        let queue = &mut self.streams[group as usize];
+        queue.pass(next, left, steps);
+        queue.offer(right, steps);
     }
 }
 
@@ -295,6 +294,8 @@ impl<R: Rank, A: Allocator + Clone> NodeStreams<R, A> {
             (stream_at self.new group).room }
         ensures room { OnOk result (can_enter members ≤ (stream_at self.new group).room) }
     {
-        self.streams[group as usize].reserve(alloc, members)
+        let queue = &mut self.streams[group as usize];
+        let count = queue_room(members, queue.len());
+        queue.reserve(alloc, count)
     }
 }

@@ -3,6 +3,7 @@ ghost use Rattle.std.specs.Prelude.{◌≡◌, ℕ, ◌<◌, ◌≤◌, [], map,
 ghost use Rattle.std.specs.Borrow.{Lends, sem};
 ghost use Rattle.anyk_rec.specs.ProductView.{ProductView};
 
+use crate::lists::list_with_room;
 use crate::product::Product;
 use ground::NoMemory;
 use rank_key::Rank;
@@ -56,11 +57,12 @@ impl<R: Rank, A: Allocator + Clone> RowProducts<R, A> {
         ensures count { IfOk result (λ p. length p.rows ≡ rows) }
         ensures none { IfOk result (λ p. (r : ℕ) → slice_index_or p.rows r [] ≡ []) }
     {
-        let opened = vec![in alloc.clone()?; 0; rows as usize]?;
-        let chunks = Vec::new(alloc.clone()?);
+        let of_rows = alloc.clone()?;
+        let of_chunks = alloc.clone()?;
+        let opened = vec![in of_rows; 0; rows as usize]?;
         Ok(RowProducts {
             opened,
-            chunks,
+            chunks: Vec::new(of_chunks),
             count: 0,
             width,
         })
@@ -155,9 +157,8 @@ fn make_chunk<T: Drop, A: Allocator + Clone>(
     if number < chunks.len() {
         return Ok(());
     }
-    let alloc = chunks.allocator().clone()?;
     chunks.reserve(1)?;
-    let chunk = Vec::with_capacity(alloc, room)?;
+    let chunk = list_with_room(chunks.allocator(), room)?;
     chunks.push_reserved(chunk);
     Ok(())
 }

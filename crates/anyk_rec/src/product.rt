@@ -107,10 +107,7 @@ impl<R: Rank, A: Allocator + Clone> Product<R, A> {
             return Err(NoMemory);
         }
         self.found.reserve()?;
-        if beside {
-            self.frontier.reserve(alloc, 1)?;
-        }
-        Ok(())
+        self.frontier.reserve(alloc, beside as usize)
     }
 }
 
@@ -180,44 +177,10 @@ impl<R: Rank, A: Allocator> Product<R, A> {
             ≤ steps.old + 2 * bit_length (length self.old.frontier)
             + bit_length (length self.old.frontier + 1) }
     {
-        self.pass(down, across, steps);
-        if let Some(top) = self.top() {
-            self.keep(top);
-        }
-    }
-
-    /// Passes the last solution found: what follows it replaces it in the frontier.
-    fn pass<L: Ledger>(
-        &mut self,
-        down: Option<Entry<R, Cell>>,
-        across: Option<Entry<R, Cell>>,
-        steps: &mut Steps<L>,
-    )
-        requires top { 0 < length self.old.frontier }
-        requires room { IsSome down → IsSome across → 0 < self.old.frontier_room }
-        ensures found { self.new.found ≡ self.old.found }
-        ensures ranks { self.new.ranks ≡ self.old.ranks }
-        ensures moved { (d : Entry R Cell)
-            → IsPermutation (offers down across self.old.frontier)
-            (slice_index_or self.old.frontier 0 d ∷ self.new.frontier) }
-        ensures least { (d : Entry R Cell)
-            → IsLeast R.KEYS R.key (slice_index_or self.old.frontier 0 d) self.old.frontier }
-        ensures found_room { self.new.room ≡ self.old.room }
-        ensures cost { steps.new
-            ≤ steps.old + 2 * bit_length (length self.old.frontier)
-            + bit_length (length self.old.frontier + 1) }
-    {
         self.frontier.pass(down, across, steps);
-    }
-
-    /// Keeps one more solution, in room that was made for it.
-    fn keep(&mut self, sum: Entry<R, Cell>)
-        requires { 0 < self.old.room }
-        ensures found { self.new.found ≡ self.old.found ++ sum.tag ∷ [] }
-        ensures ranks { self.new.ranks ≡ with_rank self.old.ranks sum.rank }
-        ensures frontier { self.new.frontier ≡ self.old.frontier }
-    {
-        self.found.push_reserved(sum);
+        if let Some(top) = self.frontier.top() {
+            self.found.push_reserved(top);
+        }
     }
 }
 
@@ -280,11 +243,11 @@ impl<R: Rank, A: Allocator> Sums<R, A> {
         ensures ranks { ranks_of self.new ≡ ranks_of self.old }
         ensures spare { OnOk result (0 < spare_of self.new) }
     {
-        match self {
-            Sums::Cells(cells) => cells.reserve(1)?,
-            Sums::Ranked(sums) => sums.reserve(1)?,
-        }
-        Ok(())
+        let reserved = match self {
+            Sums::Cells(cells) => cells.reserve(1),
+            Sums::Ranked(sums) => sums.reserve(1),
+        };
+        Ok(reserved?)
     }
 
     /// Adds one more solution to those that there are, in room that was made for it.

@@ -124,7 +124,9 @@ impl<R: Rank, T: Copy, A: Allocator> Queue<R, T, A> {
     {
         // Else there is no room for an entry.
         if let Held::Many(heap) = &mut self.held {
-            push_offered(heap, entry, steps);
+            if let Some(entry) = entry {
+                heap.push_reserved(entry.rank, entry.tag, steps);
+            }
         }
     }
 }
@@ -175,7 +177,9 @@ fn heap_with_room<R: Rank, T: Copy, A: Allocator + Clone>(
     ensures entries { IfOk result (λ h. h.entries ≡ offers entry None []) }
     ensures spare { IfOk result (λ h. count ≤ h.spare) }
 {
-    let size = count.checked_add(1 + MORE_ROOM).ok_or(NoMemory)?;
+    let Some(size) = count.checked_add(1 + MORE_ROOM) else {
+        return Err(NoMemory);
+    };
     let mut entries = list_with_room(alloc, size)?;
     if let Some(entry) = entry {
         entries.push_reserved(entry);
@@ -208,20 +212,5 @@ fn pass_top<R: Rank, T: Copy, A: Allocator, L: Ledger>(
         (None, None) => {
             heap.pop(steps);
         }
-    }
-}
-
-/// Adds an entry to a heap, if there is one, as `Queue::offer` does.
-fn push_offered<R: Rank, T: Copy, A: Allocator, L: Ledger>(
-    heap: &mut HeapOf<R, T, A>,
-    entry: Option<Entry<R, T>>,
-    steps: &mut Steps<L>,
-)
-    requires room { IsSome entry → 0 < heap.old.spare }
-    ensures moved { IsPermutation (offers entry None heap.old.entries) heap.new.entries }
-    ensures cost { steps.new ≤ steps.old + bit_length (length heap.new.entries) }
-{
-    if let Some(entry) = entry {
-        heap.push_reserved(entry.rank, entry.tag, steps);
     }
 }

@@ -77,20 +77,19 @@ impl<'t, R: Rank, A: Allocator + Clone> Solutions<'t, R, A> {
         if let Some(next) = self.entries.next_of(entry, steps) {
             return Ok(Some(next));
         }
-        let found = *self.entries.get(entry, steps);
-        let Some(top) = self.top(found.node, found.group) else {
+        let Found { node, group, .. } = *self.entries.get(entry, steps);
+        let Some(top) = self.top(node, group) else {
             return Ok(None);
         };
         let source = top.tag;
-        let row = source.row;
-        self.open_row(found.node, found.group, row, source.place, steps)?;
-        let (count, place) = self.place_after(found.node, row, source.place);
-        self.extend(found.node, row, count, place, steps)?;
+        self.open_row(node, group, source.row, source.place, steps)?;
+        let (count, place) = self.place_after(node, source.row, source.place);
+        self.extend(node, source.row, count, place, steps)?;
         Ok(self.advance(
             entry,
-            found.node,
-            found.group,
-            row,
+            node,
+            group,
+            source.row,
             source.number,
             source.member,
             place,
@@ -292,20 +291,20 @@ impl<'t, R: Rank, A: Allocator + Clone> Solutions<'t, R, A> {
         let members = self.tree.group_len(node, group);
         make_queue_room(&self.alloc, &mut self.nodes, node, group, members)?;
         let lists = &self.nodes[node as usize];
-        if lists.product_count(row) < lists.child_count() {
-            make_products(
-                &self.alloc,
-                self.tree,
-                self.nodes.as_slice(),
-                &self.entries,
-                node,
-                row,
-                &mut self.made,
-                steps,
-            )?;
-            self.nodes[node as usize].set_products(row, &mut self.made)?;
+        if lists.product_count(row) >= lists.child_count() {
+            return Ok(());
         }
-        Ok(())
+        make_products(
+            &self.alloc,
+            self.tree,
+            self.nodes.as_slice(),
+            &self.entries,
+            node,
+            row,
+            &mut self.made,
+            steps,
+        )?;
+        self.nodes[node as usize].set_products(row, &mut self.made)
     }
 
     /// Finds one more solution of a product, if there is one. `top` is the last one found, and

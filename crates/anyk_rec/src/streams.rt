@@ -60,16 +60,18 @@ impl<'t, R: Rank, A: Allocator + Clone> Streams<'t, R, A> {
         ensures prefixes { IfOk result (λ s. ArePrefixes R.KEYS R.key s) }
         ensures cost { steps.new ≤ steps.old + 16 * length tree.now * (1 + row_count tree.now) }
     {
-        let mut entries = Store::new(alloc.clone()?);
-        let made = Vec::new(alloc.clone()?);
-        let mut nodes = Vec::new(alloc.clone()?);
+        let of_entries = alloc.clone()?;
+        let of_made = alloc.clone()?;
+        let of_nodes = alloc.clone()?;
+        let mut entries = Store::new(of_entries);
+        let mut nodes = Vec::new(of_nodes);
         begin_nodes(&alloc, tree, &mut nodes, &mut entries, steps)?;
         let solutions = Solutions {
             tree,
             alloc,
             entries,
             nodes,
-            made,
+            made: Vec::new(of_made),
         };
         Ok(Streams {
             solutions,

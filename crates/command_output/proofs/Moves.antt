@@ -1,16 +1,14 @@
 -- Cursors that are opened, moved and closed.
-use Rattle.std.proofs.Common.{◌≡◌, ◌≢◌, ◌<◌, ℕ, List, Bool, true, false, cond, Option, Some, None, IsSome, map, option_map, is_none, length, set, get_or, not, zero, suc, [], ◌∷◌, ◌+◌, nat_lt, refl, sym, ap, subst, ◌∙◌, inl, inr, ◌⊎◌, arith}
+use Rattle.std.proofs.Common.{◌≡◌, ◌≢◌, ◌<◌, ℕ, List, Bool, true, false, cond, Option, Some, None, IsSome, map, option_map, is_none, length, set, get_or, zero, suc, [], ◌∷◌, refl, sym, ap, subst, ◌∙◌, inl, inr, ◌⊎◌, arith}
 use Rattle.std.specs.Prelude.{position}
-use Rattle.std.specs.List.{position_or_len}
 use Rattle.std.specs.Str.{bytes_eq}
-use Rattle.std.proofs.lemmas.Bool.{cases_order}
-use Rattle.std.proofs.lemmas.Bool.Decides.{nat_tests}
+use Rattle.std.proofs.lemmas.Bool.{cases_order, false≢true}
 use Rattle.std.proofs.lemmas.List.{get_or-map, get_or-set_other, get_or-set_same, length-map, map-set}
 use Rattle.std.proofs.lemmas.List.Quantifiers.{position-Some}
 use Rattle.command_output.specs.CursorSet.{CursorSet}
 use Rattle.verdict.specs.Session.{Places, with_cursor}
 use Rattle.command_output.specs.declared.open_cursors.OpenCursor.{OpenCursor}
-use Rattle.command_output.specs.OpenCursors.{Found, IsAt, IsHeld, is_named}
+use Rattle.command_output.specs.OpenCursors.{AreOthers, Found, IsAt, IsHeld, is_named}
 use Rattle.command_output.proofs.Names.{name_differs, name_same, same_name}
 
 abbrev pub Cursor : Type 0
@@ -151,32 +149,6 @@ module _ (old new : CursorSet) (cursors : List Cursor) (places : Places) (number
 
 -- ---- a cursor that is open
 
--- a place that passes the test is found
-position_at : (p : Cursor → Bool) (x : Cursor) (xs : List Cursor) (b : Bool) → p x ≡ b → position_or_len p (x ∷ xs) ≡ cond (not b) (1 + position_or_len p xs) 0
-position_at p x xs b e = ap (λ t. cond (not t) (1 + position_or_len p xs) 0) e
-
-first_passes : (p : Cursor → Bool) (x : Cursor) (xs : List Cursor) → p x ≡ true → position_or_len p (x ∷ xs) < length (x ∷ xs)
-first_passes p x xs e = let first = position_at p x xs true e in omega (arith, first)
-
-later_passes : (p : Cursor → Bool) (x : Cursor) (xs : List Cursor) → position_or_len p xs < length xs → position_or_len p (x ∷ xs) < length (x ∷ xs)
-later_passes p x xs rest = by (p x) refl
-  where
-    by : (b : Bool) → p x ≡ b → position_or_len p (x ∷ xs) < length (x ∷ xs)
-    by true e = first_passes p x xs e
-    by false e = let next = position_at p x xs false e in omega (arith, next, rest)
-
-passes_before : (p : Cursor → Bool) (cursors : List Cursor) (k : ℕ) → k < length cursors → p (get_or cursors k None) ≡ true → position_or_len p cursors < length cursors
-passes_before p [] k within passes = absurd (omega arith)
-passes_before p (x ∷ xs) zero within passes = first_passes p x xs passes
-passes_before p (x ∷ xs) (suc k) within passes = later_passes p x xs (passes_before p xs k (omega arith) passes)
-
-not_none : (p : Cursor → Bool) (cursors : List Cursor) → position_or_len p cursors < length cursors → position p cursors ≡ None → ⊥
-not_none p cursors before none = by (nat_lt (position_or_len p cursors) (length cursors)) refl none
-  where
-    by : (t : Bool) → nat_lt (position_or_len p cursors) (length cursors) ≡ t → cond t (Some (position_or_len p cursors)) None ≡ None → ⊥
-    by true e is = cc
-    by false e is = absurd (grind (arith, nat_tests))
-
 pub inside_at : (cursors : List Cursor) (number : ℕ) (c : OpenCursor) → IsAt cursors number c → number < length cursors
 inside_at [] number c at = none_some at
 inside_at (x ∷ xs) zero c at = omega arith
@@ -186,39 +158,16 @@ named_is : (name : List ℕ) (c : OpenCursor) → c.name.now ≡ name → is_nam
 named_is name c is = name_same c.name.now name is
 
 -- if no cursor has the name, it is not open
-pub unknown_closed : {A : Type 0} (set : CursorSet) (cursors : List Cursor) (places : Places) (name : List ℕ) → position (is_named name) cursors ≡ None
+pub unknown_closed : {A : Type 0} (set : CursorSet) (cursors : List Cursor) (places : Places) (name : List ℕ) → length cursors ≡ 64 → AreOthers cursors name 64
     → IsHeld set cursors places → IsSome (places name) → A
-unknown_closed {A} s cursors places name none held opened = by (places name) refl opened
+unknown_closed {A} s cursors places name long others held opened = by (places name) refl opened
   where
     by : (o : Option ℕ) → places name ≡ o → IsSome o → A
     by None e h = let t : false ≡ true = h in cc
     by (Some place) e h =
         let (number, c, at, is) = held.known name place e in
-        absurd (not_none (is_named name) cursors
-        (passes_before (is_named name) cursors number (inside_at cursors number c at) (ap (is_named name) at ∙ named_is name c is)) none)
-
--- a cursor that was found by its name
-found_named : (cursors : List Cursor) (number : ℕ) (name : List ℕ) → Some number ≡ position (is_named name) cursors
-    → (c : OpenCursor) × Found cursors number name c.place
-found_named cursors number name e =
-    let h = position-Some (is_named name) cursors number None (sym e) in by (get_or cursors number None) refl h.1 h.0
-  where
-    by : (o : Cursor) → get_or cursors number None ≡ o → is_named name o ≡ true → number < length cursors → (c : OpenCursor) × Found cursors number name c.place
-    by None at passes within = let t : false ≡ true = passes in cc
-    by (Some c) at passes within = (c, record { cursor = c; at = at; is = same_name c.name.now name passes; there = refl; within = within })
-
-pub found_at : (cursors : List Cursor) (number : ℕ) (name : List ℕ) (c : OpenCursor) → Some number ≡ position (is_named name) cursors → IsAt cursors number c
-    → Found cursors number name c.place
-found_at cursors number name c e at =
-    let (d, found) = found_named cursors number name e in
-    record { cursor = c; at = at; is = ap (λ (o : OpenCursor). o.name.now) (some_same (sym at ∙ found.at)) ∙ found.is; there = refl; within = found.within }
-
--- the number of a cursor that was found is one of the 64
-pub number_below : (cursors : List Cursor) (number : ℕ) (name : List ℕ) → length cursors ≡ 64 → Some number ≡ position (is_named name) cursors → number < 64
-number_below cursors number name long e = let within = (found_named cursors number name e).1.within in omega (arith, long, within)
-
-pub no_cursor : {A : Type 0} (cursors : List Cursor) (number : ℕ) (name : List ℕ) → Some number ≡ position (is_named name) cursors → get_or cursors number None ≡ None → A
-no_cursor cursors number name e none = none_some (sym none ∙ (found_named cursors number name e).1.at)
+        let within = inside_at cursors number c at in
+        absurd (false≢true (sym (others number (omega (arith, within, long))) ∙ ap (is_named name) at ∙ named_is name c is))
 
 -- its place in the set is its own place
 pub same_place : (in_set : List (Option ℕ)) (cursors : List Cursor) (number : ℕ) (name : List ℕ) (place : ℕ) → in_set ≡ map place_of_cursor cursors

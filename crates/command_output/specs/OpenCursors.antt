@@ -10,6 +10,11 @@ abbrev pub is_named : List ℕ → Option OpenCursor → Bool
 is_named name None = false
 is_named name (Some cursor) = bytes_eq cursor.name.now name
 
+-- none of the first n cursors has this name
+abbrev pub AreOthers : List (Option OpenCursor) → List ℕ → ℕ → Type 0
+AreOthers cursors name n = (k : ℕ) → k < n
+    → is_named name (slice_index_or cursors k None) ≡ false
+
 abbrev pub IsAt : List (Option OpenCursor) → ℕ → OpenCursor → Type 0
 IsAt cursors number cursor = slice_index_or cursors number None ≡ Some cursor
 

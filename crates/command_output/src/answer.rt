@@ -133,9 +133,10 @@ fn push_shown(
         push_each_sum(records, query, tables, rows, first)?;
     }
     if style.rows {
-        push_rows(records, query, rows)?;
+        push_rows(records, query, rows)
+    } else {
+        Ok(())
     }
-    Ok(())
 }
 
 /// Writes the sums of the order keys over these rows, one for each item, counted from 1. `NoMemory`

@@ -97,7 +97,9 @@ impl<E: Ranked> Cursors<E> {
             (λ e. (e ≡ CursorFault.TooMany) × (first_free self.old ≡ None)
             × (self.new ≡ self.old)) }
     {
-        let number = free_number(&self.places).ok_or(CursorFault::TooMany)?;
+        let Some(number) = free_number(&self.places) else {
+            return Err(CursorFault::TooMany);
+        };
         self.places[number] = Some(0);
         Ok(CursorId { number })
     }
@@ -169,8 +171,12 @@ impl<E: Ranked> Cursors<E> {
         ensures refused { IfErr result
             (λ e. RefusesFork self.old id.number e × (self.new ≡ self.old)) }
     {
-        let place = self.places[id.number].ok_or(CursorFault::Unknown(id))?;
-        let number = free_number(&self.places).ok_or(CursorFault::TooMany)?;
+        let Some(place) = self.places[id.number] else {
+            return Err(CursorFault::Unknown(id));
+        };
+        let Some(number) = free_number(&self.places) else {
+            return Err(CursorFault::TooMany);
+        };
         self.places[number] = Some(place);
         Ok(CursorId { number })
     }
@@ -185,7 +191,9 @@ impl<E: Ranked> Cursors<E> {
             (λ e. (e ≡ CursorFault.Unknown id) × (place_of self.old id.number ≡ None)
             × (self.new ≡ self.old)) }
     {
-        self.places[id.number].ok_or(CursorFault::Unknown(id))?;
+        let Some(_) = self.places[id.number] else {
+            return Err(CursorFault::Unknown(id));
+        };
         self.places[id.number] = Some(0);
         Ok(())
     }
@@ -199,7 +207,9 @@ impl<E: Ranked> Cursors<E> {
             (λ e. (e ≡ CursorFault.Unknown id) × (place_of self.old id.number ≡ None)
             × (self.new ≡ self.old)) }
     {
-        self.places[id.number].ok_or(CursorFault::Unknown(id))?;
+        let Some(_) = self.places[id.number] else {
+            return Err(CursorFault::Unknown(id));
+        };
         self.places[id.number] = None;
         Ok(())
     }
@@ -209,5 +219,5 @@ impl<E: Ranked> Cursors<E> {
 fn free_number(places: &[Option<usize>]) -> Option<usize>
     ensures { result ≡ position is_none places.now }
 {
-    places.iter().position(|place| place.is_none())
+    places.iter().position(Option::is_none)
 }

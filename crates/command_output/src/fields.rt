@@ -13,10 +13,10 @@ pub fn push_optional(records: &mut RecordWriter, field: Option<&[u8]>) -> Result
         (HasFields (fields ++ optional_field (option_map (λ f. f.now) field.entry))
         records.new.begun) }
 {
-    if let Some(field) = field {
-        records.push(field)?;
+    match field {
+        Some(field) => records.push(field),
+        None => Ok(()),
     }
-    Ok(())
 }
 
 /// Writes a number that is not negative, in decimal. `NoMemory` if memory is refused.

@@ -71,7 +71,8 @@ fn push_number_titles(
     }
     if style.rows {
         records.push(b"branch")?;
-        push_numbered(alloc, records, "row", most)?;
+        push_numbered(alloc, records, "row", most)
+    } else {
+        Ok(())
     }
-    Ok(())
 }

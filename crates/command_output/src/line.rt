@@ -85,9 +85,10 @@ fn push_shown(
         push_sums(records, query, tables, &tagged.rows)?;
     }
     if style.rows {
-        push_places(records, tagged, query)?;
+        push_places(records, tagged, query)
+    } else {
+        Ok(())
     }
-    Ok(())
 }
 
 /// Writes the branch, from 1, and the row numbers of its items.

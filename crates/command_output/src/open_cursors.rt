@@ -1,7 +1,7 @@
 //! The open cursors by name, and the steps that open, move and close them.
-ghost use Rattle.std.specs.Prelude.{◌≡◌, ℕ, IfNone, IfSome, IsSome, List, None, OnOk, Some, position};
+ghost use Rattle.std.specs.Prelude.{◌≡◌, ℕ, IfNone, IfSome, IsSome, List, None, OnOk, Some};
 ghost use Rattle.verdict.specs.Session.{Places, places_after, with_cursor};
-ghost use Rattle.command_output.specs.OpenCursors.{Found, IsHeld, is_named};
+ghost use Rattle.command_output.specs.OpenCursors.{AreOthers, Found, IsHeld};
 ghost use Rattle.command_output.specs.SessionRules.{CanStep, PrintsNothing};
 
 use crate::{CursorId, Cursors, MAX_OPEN};
@@ -22,32 +22,16 @@ pub(crate) type OpenCursors<'s> = [Option<OpenCursor<'s>>; MAX_OPEN];
 /// The cursor with this name and its place, or `None` if none is open under it.
 pub(crate) fn cursor_of(cursors: &OpenCursors<'_>, name: &[u8]) -> Option<(CursorId, u64)>
     ensures found { IfSome result (λ found. Found cursors.now found.0.number name.now found.1) }
-    ensures unknown { IfNone result (position (is_named name.now) cursors.now ≡ None) }
+    ensures unknown { IfNone result (AreOthers cursors.now name.now 64) }
 {
-    let Some(number) = number_of(cursors, name) else {
-        return None;
-    };
-    let Some(cursor) = cursors[number] else {
-        return None;
-    };
-    Some((CursorId { number }, cursor.place))
-}
-
-/// The number of the cursor with this name, from 0, or `None` if none is open under it.
-fn number_of(cursors: &OpenCursors<'_>, name: &[u8]) -> Option<usize>
-    ensures { result ≡ position (is_named name.now) cursors.now }
-{
-    cursors.iter().position(|cursor| is_named(cursor, name))
-}
-
-/// Whether a place has an open cursor of this name.
-fn is_named(cursor: &Option<OpenCursor<'_>>, name: &[u8]) -> bool
-    ensures { result ≡ is_named name.now cursor.now }
-{
-    match cursor {
-        Some(cursor) => cursor.name == name,
-        None => false,
+    for number in 0..MAX_OPEN {
+        if let Some(cursor) = cursors[number] {
+            if cursor.name == name {
+                return Some((CursorId { number }, cursor.place));
+            }
+        }
     }
+    None
 }
 
 /// Takes a step that prints nothing: it opens, moves or closes a cursor. `NoMemory` if no more can

@@ -1,46 +1,49 @@
--- Lists that grow by what a reader finds, until it finds nothing.
-use Rattle.std.proofs.Common.{◌≡◌, ◌≢◌, ℕ, ◌<◌, List, length, Option, Some, None, Result, Ok, Err, subst}
-use Rattle.std.specs.Option.{option_map}
+-- Lists that grow by what a reader reads, as long as something comes before a further one.
+use Rattle.std.proofs.Common.{◌≡◌, ◌∙◌, ◌∷◌, [], ℕ, ◌<◌, List, length, Some, Result, Ok, Err, refl, sym, ap, subst}
 use Rattle.languages.specs.declared.fault.ParseFault.{ParseFault}
-use Rattle.languages.specs.declared.fault.ParseFault.TheVariants as fault
 use Rattle.query_select.specs.declared.token.Token.{Token}
 use Rattle.query_select.specs.Lexeme.{Lexeme, lexemes}
-use Rattle.languages.specs.Reading.{Steps, Read, Next, all_at, Fails, Gives, Added}
-use Rattle.languages.proofs.Loops.{with_front, goes_on, ends, is_done}
+use Rattle.languages.specs.Reading.{Steps, Read, Next, ◌>>=◌, all_at, several_at, Fails, Gives, Added, found}
+use Rattle.languages.proofs.Columns.{fails_on}
+use Rattle.languages.proofs.Handed.{found_gives, given, faulty}
+use Rattle.languages.proofs.Loops.{with_front, goes_on, ends}
 use Rattle.languages.proofs.Stepping.{fewer}
 
--- what a reader found at these tokens
-abbrev Finds : {A R : Type 0} → Result (Option (A × R)) ParseFault → (R → List Token) → ℕ → Next A → Type 0
-Finds {A} {R} next tokens_of end read = Gives end (option_map (λ (x : A × R). (x.0, lexemes (tokens_of x.1)))) next read
+module _ {A R : Type 0} (tokens_of : R → List Token) where
+  -- a thing, and the tokens after it
+  abbrev seen : A × R → A × List Lexeme
+  seen x = (x.0, lexemes (tokens_of x.1))
 
-at_found : {A R : Type 0} (next was : Result (Option (A × R)) ParseFault) (tokens_of : R → List Token) (end : ℕ) (read : Next A) → next ≡ was → Finds next tokens_of end read → Finds was tokens_of end read
-at_found next was tokens_of end read e h = subst (λ (n : Result (Option (_ × _)) ParseFault). Finds n tokens_of end read) e h
+  module _ (end : ℕ) (one : List Lexeme → Read A) (read : Result (A × R) ParseFault) (old new : List A) where
+    pub added_is : (ts : List Lexeme) (rest : R) → Gives end seen read (one ts) → (h : Added (λ x. x ∷ []) old new read (Ok rest)) → one ts ≡ Ok (h.0, lexemes (tokens_of rest))
+    added_is ts rest g h = given end seen read (h.0, rest) (one ts) h.1 g
 
-at_fault : {A R : Type 0} (next : Result (Option (A × R)) ParseFault) (tokens_of : R → List Token) (end : ℕ) (read : Next A) (e : ParseFault) → (fault.NoMemory ≢ e → next ≡ Err e) → Finds next tokens_of end read → Fails end e read
-at_fault next tokens_of end read fault.NoMemory is h = tt
-at_fault next tokens_of end read (fault.Syntax at) is h = at_found next (Err (fault.Syntax at)) tokens_of end read (is (λ q. absurd cc)) h
-at_fault next tokens_of end read fault.TooLong is h = at_found next (Err fault.TooLong) tokens_of end read (is (λ q. absurd cc)) h
-at_fault next tokens_of end read fault.TooManyBranches is h = at_found next (Err fault.TooManyBranches) tokens_of end read (is (λ q. absurd cc)) h
-at_fault next tokens_of end read fault.TooManyItems is h = at_found next (Err fault.TooManyItems) tokens_of end read (is (λ q. absurd cc)) h
-at_fault next tokens_of end read fault.TooManyKeys is h = at_found next (Err fault.TooManyKeys) tokens_of end read (is (λ q. absurd cc)) h
-at_fault next tokens_of end read (fault.LimitRange at) is h = at_found next (Err (fault.LimitRange at)) tokens_of end read (is (λ q. absurd cc)) h
+    module _ (next : List Lexeme → Next A) where
+      pub first_added : (ts : List Lexeme) (rest : R) → old ≡ [] → Gives end seen read (one ts) → Added (λ x. x ∷ []) old new read (Ok rest)
+          → with_front new (all_at next (lexemes (tokens_of rest))) ≡ several_at one next ts
+      first_added ts rest empty g h = rw (h.2, empty, added_is ts rest g h) (regrouped (all_at next (lexemes (tokens_of rest))))
+        where
+          regrouped : (r : Read (List A)) → with_front (h.0 ∷ []) r ≡ (r >>= λ more. Ok (h.0 ∷ more.0, more.1))
+          regrouped (Ok x) = refl
+          regrouped (Err left) = refl
 
-pub adding_goes_on : {A R : Type 0} {next_at : List Lexeme → Next A} → Steps next_at → (next : Result (Option (A × R)) ParseFault) (rest : R) (tokens_of : R → List Token) (end : ℕ) (old new : List A) (ts : List Lexeme) (total : Read (List A))
-    → Finds next tokens_of end (next_at ts) → Added old new next (Ok (Some rest)) → with_front old (all_at next_at ts) ≡ total → with_front new (all_at next_at (lexemes (tokens_of rest))) ≡ total
-adding_goes_on {next_at = next_at} s next rest tokens_of end old new ts total h added so_far =
-    rw added.2 (goes_on s old added.0 ts (lexemes (tokens_of rest)) total (at_found next (Ok (Some (added.0, rest))) tokens_of end (next_at ts) added.1 h) so_far)
+      pub first_faulty : (ts : List Lexeme) (e : ParseFault) → Gives end seen read (one ts) → Added {B = R} (λ x. x ∷ []) old new read (Err e) → Fails end e (several_at one next ts)
+      first_faulty ts e g h = fails_on end e (one ts) _ (faulty end seen read e (one ts) h g)
 
-pub adding_shortens : {A R : Type 0} {next_at : List Lexeme → Next A} → Steps next_at → (next : Result (Option (A × R)) ParseFault) (rest : R) (tokens_of : R → List Token) (end : ℕ) (old new : List A) (ts : List Token)
-    → Finds next tokens_of end (next_at (lexemes ts)) → Added old new next (Ok (Some rest)) → length (tokens_of rest) < length ts
-adding_shortens {next_at = next_at} s next rest tokens_of end old new ts h added =
-    fewer s ts (tokens_of rest) added.0 (at_found next (Ok (Some (added.0, rest))) tokens_of end (next_at (lexemes ts)) added.1 h)
+      module _ (s : Steps next) (after : R) (ts : List Token) (leads : next (lexemes ts) ≡ found (one (lexemes (tokens_of after)))) (g : Gives end seen read (one (lexemes (tokens_of after)))) where
+        further : (rest : R) → (h : Added (λ x. x ∷ []) old new read (Ok rest)) → next (lexemes ts) ≡ Ok (Some (h.0, lexemes (tokens_of rest)))
+        further rest h = leads ∙ ap found (added_is (lexemes (tokens_of after)) rest g h)
 
-pub adding_ends : {A R : Type 0} {next_at : List Lexeme → Next A} → Steps next_at → (next : Result (Option (A × R)) ParseFault) (tokens_of : R → List Token) (end : ℕ) (e : ParseFault) (old new : List A) (ts : List Lexeme) (total : Read (List A))
-    → Finds next tokens_of end (next_at ts) → Added old new next (Err e) → with_front old (all_at next_at ts) ≡ total → Fails end e total
-adding_ends {next_at = next_at} s next tokens_of end e old new ts total h added so_far =
-    ends s end e old ts total (at_fault next tokens_of end (next_at ts) e added h) so_far
+        pub goes_on_with : (rest : R) (total : Read (List A)) → Added (λ x. x ∷ []) old new read (Ok rest) → with_front old (all_at next (lexemes ts)) ≡ total
+            → with_front new (all_at next (lexemes (tokens_of rest))) ≡ total
+        goes_on_with rest total h so_far =
+            subst (λ (l : List A). with_front l (all_at next (lexemes (tokens_of rest))) ≡ total) (sym h.2) (goes_on s old h.0 (lexemes ts) (lexemes (tokens_of rest)) total (further rest h) so_far)
 
-pub adding_done : {A R : Type 0} {next_at : List Lexeme → Next A} → Steps next_at → (next : Result (Option (A × R)) ParseFault) (tokens_of : R → List Token) (end : ℕ) (old new : List A) (ts : List Lexeme) (total : Read (List A))
-    → Finds next tokens_of end (next_at ts) → Added old new next (Ok None) → with_front old (all_at next_at ts) ≡ total → total ≡ Ok (new, ts)
-adding_done {next_at = next_at} s next tokens_of end old new ts total h added so_far =
-    rw added.1 (is_done s old ts total (at_found next (Ok None) tokens_of end (next_at ts) added.0 h) so_far)
+        pub shortens_with : (rest : R) → Added (λ x. x ∷ []) old new read (Ok rest) → length (tokens_of rest) < length ts
+        shortens_with rest h = fewer s ts (tokens_of rest) h.0 (further rest h)
+
+        pub ends_with : (e : ParseFault) (total : Read (List A)) → Added {B = R} (λ x. x ∷ []) old new read (Err e) → with_front old (all_at next (lexemes ts)) ≡ total → Fails end e total
+        ends_with e total h so_far =
+            let stopped : Fails end e (one (lexemes (tokens_of after))) = faulty end seen read e (one (lexemes (tokens_of after))) h g in
+            let found_stopped = found_gives end (λ (x : A × List Lexeme). x) (Err e) (one (lexemes (tokens_of after))) stopped in
+            ends s end e old (lexemes ts) total (subst (Fails end e) (sym leads) found_stopped) so_far

@@ -7,6 +7,7 @@ pub mod Decimal
 pub mod Exactly
 pub mod Examples
 pub mod Fronts
+pub mod Further
 pub mod Handed
 pub mod InOrder
 pub mod Kept
@@ -21,8 +22,10 @@ pub mod Putting
 pub mod Rules
 pub mod Said
 pub mod SameKinds
+pub mod Searching
 pub mod Sections
 pub mod Shorter
+pub mod Sides
 pub mod Stepping
 pub mod Stuck
 pub mod Turns

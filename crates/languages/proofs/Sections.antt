@@ -1,7 +1,6 @@
 -- Readers whose parts come one after another.
-use Rattle.std.proofs.Common.{◌≡◌, ◌==◌, ◌++◌, ◌∷◌, ℕ, List, [], length, Option, Some, None, Result, Ok, Err, true, false, refl, sym, ap, arith}
+use Rattle.std.proofs.Common.{◌≡◌, ◌==◌, ◌++◌, ◌∷◌, ℕ, List, [], length, Option, None, Result, Ok, Err, true, false, refl, sym, ap, arith, subst}
 use Rattle.std.proofs.lemmas.Bool.{eqb-true}
-use Rattle.std.specs.Option.{is_some, option_map}
 use Rattle.query_select.specs.declared.token.Kind.TheVariants as kind
 use Rattle.query_select.specs.declared.token.Token.{Token}
 use Rattle.query_select.specs.declared.select.Equality.{Equality}
@@ -11,10 +10,9 @@ use Rattle.query_select.specs.declared.select.Select.{Select}
 use Rattle.query_select.specs.declared.select.SelectList.{SelectList}
 use Rattle.query_select.specs.Lexeme.{Lexeme, lexemes}
 use Rattle.languages.specs.declared.fault.ParseFault.{ParseFault}
-use Rattle.languages.specs.declared.fault.ParseFault.TheVariants as fault
-use Rattle.languages.specs.Reading.{◌>>=◌, Fails, Gives, all_branch_at, branch_at, condition_at, conditions_at, ended_at, expect_at, finish_at, found, item_at, items_at, joined_item_at, limit_at, next_branch_at, next_condition_at, optional_at, order_at, put_after, selection_at, several_at, some_lexeme, sources_at, where_at}
+use Rattle.languages.specs.Reading.{◌>>=◌, Added, Ended, Fails, Gives, Read, branch_at, condition_at, conditions_at, ended_at, expect_at, finish_at, item_at, joined_item_at, limit_at, next_branch_at, next_condition_at, queries_at, query_at, branches_at, optional_at, order_at, put_after, selection_at, several_at, sources_at}
 use Rattle.languages.proofs.Columns.{fails_on}
-use Rattle.languages.proofs.Handed.{found_gives}
+use Rattle.languages.proofs.Handed.{faulty, given}
 
 abbrev Lists : Type 0
 Lists = List ItemRef × List Equality
@@ -25,20 +23,6 @@ module _ (ts : List Lexeme) where
   pub from_fails : (end : ℕ) (e : ParseFault) → Fails end e (expect_at kind.From ts) → Fails end e (sources_at ts)
   unfolding sources_at
   from_fails end e h = fails_on end e (expect_at kind.From ts) _ h
-
-  module _ (word : Lexeme) (after : List Lexeme) (from : expect_at kind.From ts ≡ Ok (word, after)) where
-    pub items_fail : (end : ℕ) (e : ParseFault) → Fails end e (items_at after) → Fails end e (sources_at ts)
-    unfolding sources_at
-    items_fail end e h = rw from (fails_on end e (items_at after) _ h)
-
-    module _ (items : Lists) (rest : List Lexeme) (are : items_at after ≡ Ok (items, rest)) where
-      pub where_fails : (end : ℕ) (e : ParseFault) → Fails end e (where_at rest) → Fails end e (sources_at ts)
-      unfolding sources_at
-      where_fails end e h = rw (from, are) (fails_on end e (where_at rest) _ h)
-
-      pub sources_read : (conditions all : List Equality) (left : List Lexeme) → where_at rest ≡ Ok (conditions, left) → all ≡ items.1 ++ conditions → sources_at ts ≡ Ok ((items.0, all), left)
-      unfolding sources_at
-      sources_read conditions all left h is = rw (from, are, h) (ap (λ (on : List Equality). Ok ((items.0, on), left)) (sym is))
 
 -- ---- a query up to its order keys
 
@@ -62,28 +46,6 @@ module _ (ts : List Lexeme) where
       unfolding branch_at
       branch_read keys left select order is = rw (selects, from, order) (ap (λ (s : Select). Ok (s, left)) (sym is))
 
--- ---- a further branch
-
-module _ (ts left : List Lexeme) where
-  pub no_branch : (word : Option Token) → optional_at kind.Union ts ≡ (some_lexeme word, left) → is_some word ≡ false → next_branch_at true ts ≡ Ok None
-  unfolding next_branch_at
-  no_branch None is e = rw is refl
-  no_branch (Some t) is e = cc
-
-  pub all_fails : (word : Option Token) (end : ℕ) (e : ParseFault) → optional_at kind.Union ts ≡ (some_lexeme word, left) → is_some word ≡ true
-      → Fails end e (expect_at kind.All left) → Fails end e (next_branch_at true ts)
-  unfolding next_branch_at
-  all_fails None end e is some h = absurd (cc)
-  all_fails (Some t) end e is some h =
-      rw is (found_gives end (λ (x : Select × List Lexeme). x) (Err e) (all_branch_at left) (fails_on end e (expect_at kind.All left) _ h))
-
-  pub branch_found : {X : Type 0} (word : Option Token) (end : ℕ) (view : X → Select × List Lexeme) (r : Result X ParseFault) (all : Lexeme) (rest : List Lexeme)
-      → optional_at kind.Union ts ≡ (some_lexeme word, left) → is_some word ≡ true → expect_at kind.All left ≡ Ok (all, rest)
-      → Gives end view r (branch_at rest) → Gives end (option_map view) (found r) (next_branch_at true ts)
-  unfolding next_branch_at
-  branch_found None end view r all rest is some a h = absurd (cc)
-  branch_found (Some t) end view r all rest is some a h = rw (is, a) (found_gives end view r (branch_at rest) h)
-
 -- ---- an item with the conditions of its join, put after others
 
 module _ (had : Lists) (ts : List Lexeme) where
@@ -106,6 +68,12 @@ module _ (had : Lists) (ts : List Lexeme) where
       unfolding joined_item_at conditions_at
       joined_put items conditions all left c a b = rw (read, on, c) (λ i. Ok ((sym a i, sym b i), left))
 
+      pub joined_gives : {V R : Type 0} (listed : V → List Equality) (tokens_of : R → List Lexeme) (end : ℕ) (items : List ItemRef) (all : List Equality) (conditions : Result (V × R) ParseFault) (r : Result R ParseFault) → items ≡ had.0 ++ item ∷ []
+          → Gives end (λ x. (listed x.0, tokens_of x.1)) conditions (several_at condition_at next_condition_at after) → Added listed had.1 all conditions r → Gives end (λ x. ((items, all), tokens_of x)) r (put_after had (joined_item_at ts))
+      joined_gives listed tokens_of end items all conditions (Ok rest) a g h =
+          joined_put items (listed h.0) all (tokens_of rest) (given end (λ x. (listed x.0, tokens_of x.1)) conditions (h.0, rest) (several_at condition_at next_condition_at after) h.1 g) a h.2
+      joined_gives listed tokens_of end items all conditions (Err e) a g h = conditions_fail end e (faulty end (λ x. (listed x.0, tokens_of x.1)) conditions e (several_at condition_at next_condition_at after) h g)
+
 -- ---- the end of a query
 
 module _ {A : Type 0} (read : A) (ts after : List Lexeme) (digits : Option Lexeme) (limit : limit_at ts ≡ Ok (digits, after)) (sign : Option Lexeme) where
@@ -118,3 +86,37 @@ module _ {A : Type 0} (read : A) (ts after : List Lexeme) (digits : Option Lexem
   unfolding finish_at
   something_more [] is e = cc
   something_more (t ∷ rest) is e = rw (limit, is) refl
+
+-- what was read, and what is behind it
+pub ended_as : {A B D : Type 0} (end : ℕ) (after : B → List Lexeme) (digits : D → Option Lexeme) (read : Result (A × B) ParseFault) (x : A × B) (r : Result (A × D) ParseFault) → read ≡ Ok x
+    → Gives end (λ y. (y.0, digits y.1)) r (ended_at x.0 (after x.1)) → Ended end after digits read r
+ended_as end after digits read x r is h = subst (λ (q : Result _ ParseFault). Ended end after digits q r) (sym is) h
+
+pub query_gives : {B D : Type 0} (end : ℕ) (after : B → List Lexeme) (digits : D → Option Lexeme) (ts : List Lexeme) (read : Result (Select × B) ParseFault) (r : Result (Select × D) ParseFault)
+    → Gives end (λ x. (x.0, after x.1)) read (branch_at ts) → Ended end after digits read r → Gives end (λ x. (x.0, digits x.1)) r (query_at ts)
+unfolding query_at
+query_gives end after digits ts (Ok x) r g h = rw g h
+query_gives {D = D} end after digits ts (Err e) r g h = subst (λ (q : Result (Select × D) ParseFault). Gives end (λ x. (x.0, digits x.1)) q (query_at ts)) (sym h) (fails_on end e (branch_at ts) _ g)
+
+-- a thing that was read, seen as another
+ended_map : {A C : Type 0} (see : A → C) (thing : A) (ts : List Lexeme) → ended_at (see thing) ts ≡ (ended_at thing ts >>= λ x. Ok (see x.0, x.1))
+ended_map {A} {C} see thing ts = by_limit (limit_at ts)
+  where
+    by_end : (digits : Option Lexeme) (done : Result (Unit {0}) (List Lexeme)) → (done >>= λ d. let o : Result (C × Option Lexeme) (List Lexeme) = Ok (see thing, digits) in o) ≡ ((done >>= λ d. let o : Result (A × Option Lexeme) (List Lexeme) = Ok (thing, digits) in o) >>= λ x. Ok (see x.0, x.1))
+    by_end digits (Ok d) = refl
+    by_end digits (Err left) = refl
+
+    by_limit : (limit : Read (Option Lexeme)) → (limit >>= λ d. finish_at d.1 >>= λ u. let o : Result (C × Option Lexeme) (List Lexeme) = Ok (see thing, d.0) in o) ≡ ((limit >>= λ d. finish_at d.1 >>= λ u. let o : Result (A × Option Lexeme) (List Lexeme) = Ok (thing, d.0) in o) >>= λ x. Ok (see x.0, x.1))
+    by_limit (Ok d) = by_end d.0 (finish_at d.1)
+    by_limit (Err left) = refl
+
+pub queries_give : {V B D : Type 0} (listed : V → List Select) (end : ℕ) (after : B → List Lexeme) (digits : D → Option Lexeme) (ts : List Lexeme) (read : Result (V × B) ParseFault) (r : Result (V × D) ParseFault)
+    → Gives end (λ x. (listed x.0, after x.1)) read (several_at branch_at (next_branch_at true) ts) → Ended end after digits read r → Gives end (λ x. (listed x.0, digits x.1)) r (queries_at true ts)
+unfolding queries_at branches_at
+queries_give {V} listed end after digits ts (Ok x) r g h = rw (g, ended_map listed x.0 (after x.1)) (seen r h)
+  where
+    seen : (r : Result (V × _) ParseFault) → Gives end (λ y. (y.0, digits y.1)) r (ended_at x.0 (after x.1)) → Gives end (λ y. (listed y.0, digits y.1)) r (ended_at x.0 (after x.1) >>= λ y. let o : Result (List Select × Option Lexeme) (List Lexeme) = Ok (listed y.0, y.1) in o)
+    seen (Ok y) g = ap (λ (q : Result (V × Option Lexeme) (List Lexeme)). q >>= λ y. let o : Result (List Select × Option Lexeme) (List Lexeme) = Ok (listed y.0, y.1) in o) g
+    seen (Err e) g = fails_on end e (ended_at x.0 (after x.1)) _ g
+queries_give {V} {D = D} listed end after digits ts (Err e) r g h =
+    subst (λ (q : Result (V × D) ParseFault). Gives end (λ x. (listed x.0, digits x.1)) q (queries_at true ts)) (sym h) (fails_on end e (several_at branch_at (next_branch_at true) ts) _ g)

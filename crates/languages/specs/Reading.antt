@@ -83,18 +83,46 @@ abbrev pub found : {A E : Type 0} → Result A E → Result (Option A) E
 found (Ok x) = Ok (Some x)
 found (Err left) = Err left
 
--- what was found is the last of a list now, and `result` says what is left
-abbrev pub Added : {A B : Type 0} → List A → List A → Result (Option (A × B)) ParseFault
-    → Result (Option B) ParseFault → Type 0
-Added {A} old new next (Ok (Some rest)) = (x : A) × (next ≡ Ok (Some (x, rest)))
-    × (new ≡ old ++ x ∷ [])
-Added old new next (Ok None) = (next ≡ Ok None) × (new ≡ old)
-Added old new next (Err e) = fault.NoMemory ≢ e → next ≡ Err e
+-- what was read is at the end of a list now, and `result` says what is left
+abbrev pub Added : {X A B : Type 0} → (X → List A) → List A → List A → Result (X × B) ParseFault
+    → Result B ParseFault → Type 0
+Added {X} items old new read (Ok rest) = (x : X) × (read ≡ Ok (x, rest)) × (new ≡ old ++ items x)
+Added items old new read (Err e) = fault.NoMemory ≢ e → read ≡ Err e
+
+-- what was made of tokens, and those after it, unless memory ran out
+abbrev pub Made : {T A E B : Type 0} → (T → A) → (B → List Lexeme) → Result T E → List Lexeme
+    → Result (A × B) ParseFault → Type 0
+Made {T} {A} view after thing rest (Ok x) = (t : T) × (thing ≡ Ok t)
+    × ◌≡◌ {A = A × List Lexeme} (x.0, after x.1) (view t, rest)
+Made view after thing rest (Err e) = e ≡ fault.NoMemory
+
+-- the column of a name, with the alias before it if there is one
+abbrev pub column_of : Option Lexeme → Lexeme → ColumnRef
+column_of None name = record { alias = None; column = name.body; at = name.at }
+column_of (Some alias) name = record { alias = Some alias.body; column = name.body; at = alias.at }
+
+-- the tokens after one of this kind, if the first is one
+abbrev pub Follows : {B : Type 0} → (B → List Lexeme) → Kind → List Lexeme → Option B → Type 0
+Follows after k tokens None = optional_at k tokens ≡ (None, tokens)
+Follows after k tokens (Some rest) = (t : Lexeme) × (optional_at k tokens ≡ (Some t, after rest))
+
+-- the same if the first has to be one
+abbrev pub Passes : {B : Type 0} → ℕ → (B → List Lexeme) → Kind → List Lexeme
+    → Result B ParseFault → Type 0
+Passes end after k tokens (Ok rest) = (t : Lexeme) × (expect_at k tokens ≡ Ok (t, after rest))
+Passes end after k tokens (Err e) = Fails end e (expect_at k tokens)
 
 -- one more after a separator
 abbrev pub behind : {A : Type 0} → (List Lexeme → Read A) → Option Lexeme × List Lexeme → Next A
 behind read (None, rest) = Ok None
 behind read (Some t, rest) = found (read rest)
+
+-- where a further thing begins, if there is one
+abbrev pub Leads : {A B : Type 0} → ℕ → (B → List Lexeme) → (List Lexeme → Read A) → Next A
+    → Result (Option B) ParseFault → Type 0
+Leads end after one next (Ok None) = next ≡ Ok None
+Leads end after one next (Ok (Some rest)) = next ≡ found (one (after rest))
+Leads end after one next (Err e) = Fails end e next
 
 -- a thing, and all further ones
 abbrev pub several_at : {A : Type 0} → (List Lexeme → Read A) → (List Lexeme → Next A)
@@ -392,6 +420,13 @@ ended_at read tokens = do
   digits ← limit_at tokens
   done ← finish_at digits.1
   Ok (read, digits.0)
+
+-- what was read, with the end of the query behind it
+abbrev pub Ended : {A B D : Type 0} → ℕ → (B → List Lexeme) → (D → Option Lexeme)
+    → Result (A × B) ParseFault → Result (A × D) ParseFault → Type 0
+Ended end after digits (Ok x) result = Gives end (λ r. (r.0, digits r.1)) result
+    (ended_at x.0 (after x.1))
+Ended end after digits (Err e) result = result ≡ Err e
 
 unfoldable pub query_at : List Lexeme → Result Clauses (List Lexeme)
 query_at tokens = do

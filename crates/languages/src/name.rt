@@ -60,16 +60,14 @@ impl Name {
     }
 }
 
-/// Whether a byte can stand in the name of a cursor.
-fn is_name_byte(byte: u8) -> bool
-    ensures { result ≡ is_name_byte byte }
-{
-    byte.is_ascii_alphanumeric() || byte == b'_'
-}
-
 /// Whether all bytes can stand in the name of a cursor.
 fn are_name_bytes(text: &[u8]) -> bool
     ensures { result ≡ list_all is_name_byte text.now }
 {
-    text.iter().all(|byte| is_name_byte(*byte))
+    for byte in text {
+        if !byte.is_ascii_alphanumeric() && *byte != b'_' {
+            return false;
+        }
+    }
+    true
 }

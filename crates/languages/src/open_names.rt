@@ -15,7 +15,12 @@ pub const MAX_OPEN: usize = 64;
 fn is_open(names: &[Name], name: &Name) -> bool
     ensures { result ≡ is_open names.now name.now }
 {
-    names.iter().any(|other| other.bytes() == name.bytes())
+    for other in names {
+        if other.bytes() == name.bytes() {
+            return true;
+        }
+    }
+    false
 }
 
 /// The fault of a line that uses a cursor, if it is not open.
@@ -74,9 +79,8 @@ pub(crate) fn follow(names: &mut Vec<Name>, step: &Step) -> Result<(), AllocErro
     ensures { IfOk result (λ _. names.new.items ≡ names_after step.now names.old.items) }
 {
     match step {
-        Step::Open(name) => names.push(name.copied())?,
+        Step::Open(name) | Step::Fork(_, name) => names.push(name.copied())?,
         Step::Next(_, _) | Step::Rewind(_) => {}
-        Step::Fork(_, new) => names.push(new.copied())?,
         Step::Close(name) => close(names, name),
     }
     Ok(())

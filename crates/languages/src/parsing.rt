@@ -11,8 +11,9 @@ ghost use Rattle.query_select.specs.declared.select.Select.{Select};
 ghost use Rattle.query_select.specs.declared.select.SelectAll.{SelectAll};
 
 use crate::fault::ParseFault;
-use crate::reader::{queries, query};
+use crate::reader::{Part, ended, several};
 use query_select::select::{Select, SelectAll};
+use query_select::sequence::Sequence;
 use query_select::{Token, tokens};
 use std::alloc::Global;
 
@@ -131,7 +132,8 @@ pub fn parse(alloc: Global, bytes: &[u8]) -> Result<Select, ParseFault>
         return Err(ParseFault::TooLong);
     }
     let tokens = tokens(alloc, bytes)?;
-    let (mut select, digits) = query(alloc, tokens.as_slice(), bytes.len() as u32)?;
+    let end = bytes.len() as u32;
+    let (mut select, digits) = ended(Select::read(alloc, tokens.as_slice(), end), end)?;
     select.limit = limit(&select, digits)?;
     Ok(select)
 }
@@ -163,7 +165,9 @@ pub fn parse_all(alloc: Global, bytes: &[u8]) -> Result<SelectAll, ParseFault>
         return Err(ParseFault::TooLong);
     }
     let tokens = tokens(alloc, bytes)?;
-    let (branches, digits) = queries(alloc, tokens.as_slice(), bytes.len() as u32)?;
+    let end = bytes.len() as u32;
+    let (branches, digits) = ended(several(alloc, tokens.as_slice(), end), end)?;
     let limit = limit_all(branches.as_slice(), digits)?;
+    let branches = Sequence::from_vec(branches);
     Ok(SelectAll { branches, limit })
 }

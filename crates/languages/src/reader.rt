@@ -1,10 +1,10 @@
 //! Reading the grammar, token by token.
 
-ghost use Rattle.std.specs.Prelude.{◌≡◌, length, ◌≤◌, ◌++◌, ◌∷◌, [], MatchOption, Some, None, true, IfOk, option_copied, Option, Bool, List, ℕ};
+ghost use Rattle.std.specs.Prelude.{◌≡◌, ◌++◌, ◌∷◌, [], Some, None, true, IfOk, Option, List, ℕ};
 ghost use Rattle.std.specs.Option.{option_map};
 ghost use Rattle.query_select.specs.Lexeme.{Lexeme, lexeme, lexemes};
-ghost use Rattle.languages.specs.Reading.{Gives, Added, found, expect_at, optional_at, place_of, column_at, next_column_at, undoubled, undoubled_from, side_at, condition_at, next_condition_at, alias_at, item_at, plain_item_at, joined_item_at, next_item_at, items_at, put_after, put_next, where_at, sign_at, next_term_at, direction_at, key_at, next_key_at, order_at, limit_at, selection_at, sources_at, branch_at, ended_at, query_at, next_branch_at, queries_at, some_lexeme, with_left, Read, Next, Steps, behind, several_at, first_term_at};
-ghost use Rattle.query_select.specs.Kinds.{same};
+ghost use Rattle.languages.specs.Reading.{Gives, column_of, Added, Made, Follows, Passes, Leads, found, expect_at, optional_at, place_of, column_at, next_column_at, undoubled, undoubled_from, side_at, condition_at, next_condition_at, alias_at, item_at, joined_item_at, next_item_at, put_after, put_next, sign_at, next_term_at, key_at, next_key_at, order_at, limit_at, selection_at, sources_at, branch_at, Ended, next_branch_at, some_lexeme, Read, Next, Steps, several_at, first_term_at};
+ghost use Rattle.query_select.specs.declared.select.Side.TheVariants.{Constant};
 
 use crate::fault::ParseFault;
 use query_select::name::{Bytes, Name};
@@ -12,13 +12,6 @@ use query_select::select::{ColumnRef, Equality, ItemRef, KeyRef, Select, SelectL
 use query_select::sequence::Sequence;
 use query_select::{Kind, Token};
 use std::alloc::{AllocError, Global};
-
-/// Whether a token is of this kind.
-fn is_kind(token: &Token<'_>, kind: Kind) -> bool
-    ensures { result ≡ same token.now.kind kind }
-{
-    token.kind == kind
-}
 
 /// The offset of the next token, or of the query's end.
 fn place(tokens: &[Token<'_>], end: u32) -> u32
@@ -41,7 +34,7 @@ fn expect<'a, 't>(
         (expect_at kind (lexemes tokens.now)) }
 {
     match tokens {
-        [token, rest @ ..] if is_kind(token, kind) => Ok((*token, rest)),
+        [token, rest @ ..] if token.kind == kind => Ok((*token, rest)),
         _ => Err(ParseFault::Syntax(place(tokens, end))),
     }
 }
@@ -52,58 +45,104 @@ fn optional<'a, 't>(tokens: &'t [Token<'a>], kind: Kind) -> (Option<Token<'a>>, 
     ensures { optional_at kind (lexemes tokens.now) ≡ (some_lexeme result.0, lexemes result.1.now) }
 {
     match tokens {
-        [token, rest @ ..] if is_kind(token, kind) => (Some(*token), rest),
+        [token, rest @ ..] if token.kind == kind => (Some(*token), rest),
         _ => (None, tokens),
     }
 }
 
-/// Puts what was found after the others of a list, and returns the tokens after it.
+/// The tokens after one of this kind, if the first token is one.
+fn after<'a, 't>(tokens: &'t [Token<'a>], kind: Kind) -> Option<&'t [Token<'a>]>
+    ensures { Follows (λ r. lexemes r.now) kind (lexemes tokens.now) result }
+{
+    match tokens {
+        [token, rest @ ..] if token.kind == kind => Some(rest),
+        _ => None,
+    }
+}
+
+/// The tokens after one of this kind. `Syntax` at the first token if it is of another kind.
+fn skip<'a, 't>(
+    tokens: &'t [Token<'a>],
+    end: u32,
+    kind: Kind,
+) -> Result<&'t [Token<'a>], ParseFault>
+    ensures { Passes end (λ r. lexemes r.now) kind (lexemes tokens.now) result }
+{
+    match after(tokens, kind) {
+        Some(rest) => Ok(rest),
+        None => Err(ParseFault::Syntax(place(tokens, end))),
+    }
+}
+
+/// Puts what was read after the others of a list, and returns the tokens after it.
 fn add<'a, 't, T: Drop>(
     list: &mut Vec<T>,
-    next: Result<Option<(T, &'t [Token<'a>])>, ParseFault>,
-) -> Result<Option<&'t [Token<'a>]>, ParseFault>
-    ensures { Added list.old.items list.new.items next.entry result }
+    read: Result<(T, &'t [Token<'a>]), ParseFault>,
+) -> Result<&'t [Token<'a>], ParseFault>
+    ensures { Added (λ x. x ∷ []) list.old.items list.new.items read.entry result }
 {
-    match next {
-        Ok(None) => Ok(None),
-        Ok(Some((thing, rest))) => {
+    match read {
+        Ok((thing, rest)) => {
             list.push(thing)?;
-            Ok(Some(rest))
+            Ok(rest)
         }
         Err(fault) => Err(fault),
     }
 }
 
-/// A column that is named without an alias.
-fn bare_column(alloc: Global, name: Token<'_>) -> Result<ColumnRef, AllocError>
-    ensures { IfOk result
-        (λ c. c ≡ record { alias = None; column = name.entry.body.now; at = name.entry.at }) }
+/// Puts all that was read after the others of a list, and returns the tokens after it.
+fn add_all<'a, 't, T: Drop>(
+    list: &mut Vec<T>,
+    read: Result<(Vec<T>, &'t [Token<'a>]), ParseFault>,
+) -> Result<&'t [Token<'a>], ParseFault>
+    ensures { Added (λ v. v.items) list.old.items list.new.items read.entry result }
 {
-    let column = Name::from_slice(alloc, name.body)?;
-    Ok(ColumnRef {
-        alias: None,
-        column,
-        at: name.at,
-    })
+    match read {
+        Ok((mut things, rest)) => {
+            list.append(&mut things)?;
+            Ok(rest)
+        }
+        Err(fault) => Err(fault),
+    }
 }
 
-/// A column that is named with an alias before it.
-fn qualified_column(
+/// What was made of the tokens before these.
+fn made<'a, 't, T>(
+    thing: Result<T, AllocError>,
+    rest: &'t [Token<'a>],
+) -> Result<(T, &'t [Token<'a>]), ParseFault>
+    ensures { Made (λ x. x) (λ r. lexemes r.now) thing (lexemes rest.now) result }
+{
+    match thing {
+        Ok(thing) => Ok((thing, rest)),
+        Err(error) => Err(ParseFault::from(error)),
+    }
+}
+
+/// The column of a name, with the alias before it if there is one.
+fn column_ref(
     alloc: Global,
-    alias: Token<'_>,
+    alias: Option<Token<'_>>,
     name: Token<'_>,
 ) -> Result<ColumnRef, AllocError>
-    ensures { IfOk result
-        (λ c. c ≡ record {
-          alias = Some alias.entry.body.now;
-          column = name.entry.body.now;
-          at = alias.entry.at;
-        }) }
+    ensures { IfOk result (λ c. c ≡ column_of (some_lexeme alias.entry) (lexeme name.entry)) }
 {
-    let at = alias.at;
-    let alias = Some(Name::from_slice(alloc, alias.body)?);
-    let column = Name::from_slice(alloc, name.body)?;
-    Ok(ColumnRef { alias, column, at })
+    match alias {
+        None => {
+            let column = Name::from_slice(alloc, name.body)?;
+            Ok(ColumnRef {
+                alias: None,
+                column,
+                at: name.at,
+            })
+        }
+        Some(alias) => {
+            let at = alias.at;
+            let alias = Some(Name::from_slice(alloc, alias.body)?);
+            let column = Name::from_slice(alloc, name.body)?;
+            Ok(ColumnRef { alias, column, at })
+        }
+    }
 }
 
 /// What was read, as something that was found.
@@ -117,7 +156,7 @@ fn found<T>(read: Result<T, ParseFault>) -> Result<Option<T>, ParseFault>
 }
 
 /// A part of a query that is read by itself.
-trait Part: Drop {
+pub(crate) trait Part: Drop {
     /// What reading one gives.
     ghost one_at: { List Lexeme → Read Self };
 
@@ -131,40 +170,21 @@ trait Part: Drop {
 }
 
 /// What a query has lists of, with a sign or a word before each except the first.
-trait Listed: Part {
+pub(crate) trait Listed: Part {
     /// What looking for a further one gives.
     ghost next_at: { List Lexeme → Next Self };
 
-    /// Reads a further one, if there is the sign or the word before it.
-    fn next<'a, 't>(
-        alloc: Global,
+    /// Reads what comes before a further one. `None` if there is no further one.
+    fn separator<'a, 't>(
         tokens: &'t [Token<'a>],
         end: u32,
-    ) -> Result<Option<(Self, &'t [Token<'a>])>, ParseFault>
-        ensures { Gives end (option_map (λ x. (x.0, lexemes x.1.now))) result
-            (next_at (lexemes tokens.now)) };
-}
-
-/// Reads a thing after a token of this kind, if the first token is one.
-#[tactic(auto, using(crate::proofs::Handed::found_gives))]
-fn behind<'a, 't, T: Part>(
-    alloc: Global,
-    tokens: &'t [Token<'a>],
-    end: u32,
-    sign: Kind,
-) -> Result<Option<(T, &'t [Token<'a>])>, ParseFault>
-    ensures { Gives end (option_map (λ x. (x.0, lexemes x.1.now))) result
-        (behind T.one_at (optional_at sign (lexemes tokens.now))) }
-{
-    let (sign, rest) = optional(tokens, sign);
-    if sign.is_none() {
-        return Ok(None);
-    }
-    found(T::read(alloc, rest, end))
+    ) -> Result<Option<&'t [Token<'a>]>, ParseFault>
+        ensures { Leads end (λ r. lexemes r.now) Self.one_at (next_at (lexemes tokens.now))
+            result };
 }
 
 /// Reads a thing and all further ones.
-fn several<'a, 't, T: Listed>(
+pub(crate) fn several<'a, 't, T: Listed>(
     alloc: Global,
     tokens: &'t [Token<'a>],
     end: u32,
@@ -174,10 +194,9 @@ fn several<'a, 't, T: Listed>(
         (several_at T.one_at T.next_at (lexemes tokens.now)) }
 {
     let mut list = Vec::new(alloc);
-    let (first, mut rest) = T::read(alloc, tokens, end)?;
-    list.push(first)?;
-    while let Some(after) = add(&mut list, T::next(alloc, rest, end))? {
-        rest = after;
+    let mut rest = add(&mut list, T::read(alloc, tokens, end))?;
+    while let Some(after) = T::separator(rest, end)? {
+        rest = add(&mut list, T::read(alloc, after, end))?;
     }
     Ok((list, rest))
 }
@@ -192,14 +211,11 @@ impl Part for ColumnRef {
         end: u32,
     ) -> Result<(ColumnRef, &'t [Token<'a>]), ParseFault> {
         let (first, rest) = expect(tokens, end, Kind::Name)?;
-        let (dot, rest) = optional(rest, Kind::Dot);
-        if dot.is_none() {
-            let column = bare_column(alloc, first)?;
-            return Ok((column, rest));
-        }
+        let Some(rest) = after(rest, Kind::Dot) else {
+            return made(column_ref(alloc, None, first), rest);
+        };
         let (second, rest) = expect(rest, end, Kind::Name)?;
-        let column = qualified_column(alloc, first, second)?;
-        Ok((column, rest))
+        made(column_ref(alloc, Some(first), second), rest)
     }
 }
 
@@ -208,12 +224,11 @@ impl Listed for ColumnRef {
     ghost next_at = { next_column_at };
 
     #[tactic(auto, unfolding(crate::specs::Reading::next_column_at))]
-    fn next<'a, 't>(
-        alloc: Global,
+    fn separator<'a, 't>(
         tokens: &'t [Token<'a>],
-        end: u32,
-    ) -> Result<Option<(ColumnRef, &'t [Token<'a>])>, ParseFault> {
-        behind(alloc, tokens, end, Kind::Comma)
+        _end: u32,
+    ) -> Result<Option<&'t [Token<'a>]>, ParseFault> {
+        Ok(after(tokens, Kind::Comma))
     }
 }
 
@@ -227,8 +242,20 @@ impl Part for Equality {
         end: u32,
     ) -> Result<(Equality, &'t [Token<'a>]), ParseFault> {
         let (left, rest) = side(alloc, tokens, end)?;
-        let (_, rest) = expect(rest, end, Kind::Equals)?;
-        with_left(alloc, left, rest, end)
+        let rest = skip(rest, end, Kind::Equals)?;
+        match left {
+            Side::Column(left) => match side(alloc, rest, end) {
+                Ok((right, rest)) => Ok((Equality { left, right }, rest)),
+                Err(fault) => Err(fault),
+            },
+            Side::Constant(bytes) => match ColumnRef::read(alloc, rest, end) {
+                Ok((left, rest)) => {
+                    let right = Side::Constant(bytes);
+                    Ok((Equality { left, right }, rest))
+                }
+                Err(fault) => Err(fault),
+            },
+        }
     }
 }
 
@@ -237,12 +264,11 @@ impl Listed for Equality {
     ghost next_at = { next_condition_at };
 
     #[tactic(auto, unfolding(crate::specs::Reading::next_condition_at))]
-    fn next<'a, 't>(
-        alloc: Global,
+    fn separator<'a, 't>(
         tokens: &'t [Token<'a>],
-        end: u32,
-    ) -> Result<Option<(Equality, &'t [Token<'a>])>, ParseFault> {
-        behind(alloc, tokens, end, Kind::And)
+        _end: u32,
+    ) -> Result<Option<&'t [Token<'a>]>, ParseFault> {
+        Ok(after(tokens, Kind::And))
     }
 }
 
@@ -266,31 +292,35 @@ impl Part for Term {
 impl Listed for Term {
     ghost next_at = { next_term_at };
 
-    #[tactic(auto, using(crate::proofs::Handed::found_gives), unfolding(crate::specs::Reading::next_term_at))]
-    fn next<'a, 't>(
-        alloc: Global,
+    #[tactic(auto, unfolding(crate::specs::Reading::next_term_at))]
+    fn separator<'a, 't>(
         tokens: &'t [Token<'a>],
-        end: u32,
-    ) -> Result<Option<(Term, &'t [Token<'a>])>, ParseFault> {
-        if let (Some(_), _) = sign(tokens) {
-            return found(Term::read(alloc, tokens, end));
+        _end: u32,
+    ) -> Result<Option<&'t [Token<'a>]>, ParseFault> {
+        match sign(tokens) {
+            (Some(_), _) => Ok(Some(tokens)),
+            (None, _) => Ok(None),
         }
-        Ok(None)
     }
 }
 
 impl Part for KeyRef {
     ghost one_at = { key_at };
 
-    #[tactic(auto, unfolding(crate::specs::Reading::key_at, crate::specs::Reading::terms_at))]
+    #[tactic(auto, unfolding(crate::specs::Reading::key_at, crate::specs::Reading::terms_at, crate::specs::Reading::direction_at))]
     fn read<'a, 't>(
         alloc: Global,
         tokens: &'t [Token<'a>],
         end: u32,
     ) -> Result<(KeyRef, &'t [Token<'a>]), ParseFault> {
         let (terms, rest) = several(alloc, tokens, end)?;
-        let (descending, rest) = direction(rest);
         let terms = Sequence::from_vec(terms);
+        if let Some(rest) = after(rest, Kind::Desc) {
+            let descending = true;
+            return Ok((KeyRef { terms, descending }, rest));
+        }
+        let (_, rest) = optional(rest, Kind::Asc);
+        let descending = false;
         Ok((KeyRef { terms, descending }, rest))
     }
 }
@@ -300,12 +330,11 @@ impl Listed for KeyRef {
     ghost next_at = { next_key_at };
 
     #[tactic(auto, unfolding(crate::specs::Reading::next_key_at))]
-    fn next<'a, 't>(
-        alloc: Global,
+    fn separator<'a, 't>(
         tokens: &'t [Token<'a>],
-        end: u32,
-    ) -> Result<Option<(KeyRef, &'t [Token<'a>])>, ParseFault> {
-        behind(alloc, tokens, end, Kind::Comma)
+        _end: u32,
+    ) -> Result<Option<&'t [Token<'a>]>, ParseFault> {
+        Ok(after(tokens, Kind::Comma))
     }
 }
 
@@ -319,9 +348,24 @@ impl Part for Select {
         end: u32,
     ) -> Result<(Select, &'t [Token<'a>]), ParseFault> {
         let (list, rest) = selection(alloc, tokens, end)?;
-        let (found, rest) = sources(alloc, rest, end)?;
-        let (keys, rest) = order_clause(alloc, rest, end)?;
-        Ok((selected(list, found, keys), rest))
+        let items = Vec::new(alloc);
+        let on = Vec::new(alloc);
+        let mut found = FromItems { items, on };
+        let rest = found.read_all(alloc, rest, end)?;
+        match order_clause(alloc, rest, end) {
+            Ok((keys, rest)) => {
+                let FromItems { items, on } = found;
+                let select = Select {
+                    list,
+                    items: Sequence::from_vec(items),
+                    equalities: Sequence::from_vec(on),
+                    keys: Sequence::from_vec(keys),
+                    limit: None,
+                };
+                Ok((select, rest))
+            }
+            Err(fault) => Err(fault),
+        }
     }
 }
 
@@ -329,18 +373,15 @@ impl Part for Select {
 impl Listed for Select {
     ghost next_at = { next_branch_at true };
 
-    #[tactic(auto, using(crate::proofs::Handed::found_gives), unfolding(crate::specs::Reading::next_branch_at))]
-    fn next<'a, 't>(
-        alloc: Global,
+    #[tactic(auto, unfolding(crate::specs::Reading::next_branch_at))]
+    fn separator<'a, 't>(
         tokens: &'t [Token<'a>],
         end: u32,
-    ) -> Result<Option<(Select, &'t [Token<'a>])>, ParseFault> {
-        let (union, rest) = optional(tokens, Kind::Union);
-        if union.is_none() {
+    ) -> Result<Option<&'t [Token<'a>]>, ParseFault> {
+        let Some(rest) = after(tokens, Kind::Union) else {
             return Ok(None);
-        }
-        let (_, rest) = expect(rest, end, Kind::All)?;
-        found(Select::read(alloc, rest, end))
+        };
+        found(skip(rest, end, Kind::All))
     }
 }
 
@@ -384,6 +425,19 @@ fn negative(alloc: Global, digits: &[u8]) -> Result<Vec<u8>, AllocError>
     Ok(bytes)
 }
 
+/// A constant of these bytes.
+fn constant<'a, 't>(
+    bytes: Result<Vec<u8>, AllocError>,
+    rest: &'t [Token<'a>],
+) -> Result<(Side, &'t [Token<'a>]), ParseFault>
+    ensures { Made (λ v. Constant v.items) (λ r. lexemes r.now) bytes (lexemes rest.now) result }
+{
+    match bytes {
+        Ok(bytes) => Ok((Side::Constant(Bytes::from_vec(bytes)), rest)),
+        Err(error) => Err(ParseFault::from(error)),
+    }
+}
+
 /// Reads one side of a condition: a column or a constant.
 #[tactic(auto, unfolding(crate::specs::Reading::side_at))]
 fn side<'a, 't>(
@@ -394,44 +448,18 @@ fn side<'a, 't>(
     ensures { Gives end (λ x. (x.0, lexemes x.1.now)) result (side_at (lexemes tokens.now)) }
 {
     if let (Some(text), rest) = optional(tokens, Kind::Text) {
-        let bytes = undoubled_text(alloc, text.body)?;
-        return Ok((Side::Constant(Bytes::from_vec(bytes)), rest));
+        return constant(undoubled_text(alloc, text.body), rest);
     }
-    if let (Some(_), rest) = optional(tokens, Kind::Minus) {
+    if let Some(rest) = after(tokens, Kind::Minus) {
         let (digits, rest) = expect(rest, end, Kind::Digits)?;
-        let bytes = negative(alloc, digits.body)?;
-        return Ok((Side::Constant(Bytes::from_vec(bytes)), rest));
+        return constant(negative(alloc, digits.body), rest);
     }
     if let (Some(digits), rest) = optional(tokens, Kind::Digits) {
-        let bytes = Vec::from_slice(alloc, digits.body)?;
-        return Ok((Side::Constant(Bytes::from_vec(bytes)), rest));
+        return constant(Vec::from_slice(alloc, digits.body), rest);
     }
-    let (column, rest) = ColumnRef::read(alloc, tokens, end)?;
-    Ok((Side::Column(column), rest))
-}
-
-/// The equality of a left side and the right side after it. One of the two is a column.
-fn with_left<'a, 't>(
-    alloc: Global,
-    left: Side,
-    tokens: &'t [Token<'a>],
-    end: u32,
-) -> Result<(Equality, &'t [Token<'a>]), ParseFault>
-    ensures { Gives end (λ x. (x.0, lexemes x.1.now)) result
-        (with_left left (lexemes tokens.now)) }
-{
-    match left {
-        Side::Column(left) => match side(alloc, tokens, end) {
-            Ok((right, rest)) => Ok((Equality { left, right }, rest)),
-            Err(fault) => Err(fault),
-        },
-        Side::Constant(bytes) => match ColumnRef::read(alloc, tokens, end) {
-            Ok((left, rest)) => {
-                let right = Side::Constant(bytes);
-                Ok((Equality { left, right }, rest))
-            }
-            Err(fault) => Err(fault),
-        },
+    match ColumnRef::read(alloc, tokens, end) {
+        Ok((column, rest)) => Ok((Side::Column(column), rest)),
+        Err(fault) => Err(fault),
     }
 }
 
@@ -461,7 +489,7 @@ fn alias<'a, 't>(
     ensures { Gives end (λ x. (lexeme x.0, lexemes x.1.now)) result
         (alias_at (lexeme table.entry) (lexemes tokens.now)) }
 {
-    if let (Some(_), rest) = optional(tokens, Kind::As) {
+    if let Some(rest) = after(tokens, Kind::As) {
         return expect(rest, end, Kind::Name);
     }
     if let (Some(alias), rest) = optional(tokens, Kind::Name) {
@@ -478,23 +506,6 @@ struct FromItems {
 }
 
 impl FromItems {
-    /// Reads an item that has no conditions of its own, and puts it after the others.
-    #[tactic(auto, using(crate::proofs::Putting::plain_put), unfolding(crate::specs::Reading::plain_item_at))]
-    fn read_plain<'a, 't>(
-        &mut self,
-        alloc: Global,
-        tokens: &'t [Token<'a>],
-        end: u32,
-    ) -> Result<&'t [Token<'a>], ParseFault>
-        ensures { Gives end (λ x. ((self.new.items.items, self.new.on.items), lexemes x.now)) result
-            (put_after (self.old.items.items, self.old.on.items)
-            (plain_item_at (lexemes tokens.now))) }
-    {
-        let (item, rest) = item(alloc, tokens, end)?;
-        self.items.push(item)?;
-        Ok(rest)
-    }
-
     /// Reads an item, `on` and its conditions, and puts them after the others.
     #[tactic(auto, unfolding(crate::specs::Reading::joined_item_at, crate::specs::Reading::conditions_at))]
     fn read_joined<'a, 't>(
@@ -507,12 +518,9 @@ impl FromItems {
             (put_after (self.old.items.items, self.old.on.items)
             (joined_item_at (lexemes tokens.now))) }
     {
-        let (item, rest) = item(alloc, tokens, end)?;
-        self.items.push(item)?;
-        let (_, rest) = expect(rest, end, Kind::On)?;
-        let (mut on, rest) = several(alloc, rest, end)?;
-        self.on.append(&mut on)?;
-        Ok(rest)
+        let rest = add(&mut self.items, item(alloc, tokens, end))?;
+        let rest = skip(rest, end, Kind::On)?;
+        add_all(&mut self.on, several(alloc, rest, end))
     }
 
     /// Reads a further item, if a comma or a `join` comes before it, and puts it after the others.
@@ -529,54 +537,43 @@ impl FromItems {
             (put_next (self.old.items.items, self.old.on.items)
             (next_item_at (lexemes tokens.now))) }
     {
-        if let (Some(_), rest) = optional(tokens, Kind::Comma) {
-            return found(self.read_plain(alloc, rest, end));
+        if let Some(rest) = after(tokens, Kind::Comma) {
+            return found(add(&mut self.items, item(alloc, rest, end)));
         }
-        if let (Some(_), rest) = optional(tokens, Kind::Inner) {
-            let (_, rest) = expect(rest, end, Kind::Join)?;
+        if let Some(rest) = after(tokens, Kind::Inner) {
+            let rest = skip(rest, end, Kind::Join)?;
             return found(self.read_joined(alloc, rest, end));
         }
-        if let (Some(_), rest) = optional(tokens, Kind::Join) {
+        if let Some(rest) = after(tokens, Kind::Join) {
             return found(self.read_joined(alloc, rest, end));
         }
         Ok(None)
     }
-}
 
-/// Reads the items of a query, with the conditions of their joins.
-#[tactic(auto, unfolding(crate::specs::Reading::items_at))]
-fn items<'a, 't>(
-    alloc: Global,
-    tokens: &'t [Token<'a>],
-    end: u32,
-) -> Result<(FromItems, &'t [Token<'a>]), ParseFault>
-    ensures { Gives end (λ x. ((x.0.items.items, x.0.on.items), lexemes x.1.now)) result
-        (items_at (lexemes tokens.now)) }
-{
-    let items = Vec::new(alloc);
-    let on = Vec::new(alloc);
-    let mut found = FromItems { items, on };
-    let mut rest = found.read_plain(alloc, tokens, end)?;
-    while let Some(after) = found.read_next(alloc, rest, end)? {
-        rest = after;
+    /// Reads `from`, the items and the `where`. The conditions of the `where` come after those of
+    /// the joins.
+    #[tactic(auto, unfolding(crate::specs::Reading::sources_at))]
+    fn read_all<'a, 't>(
+        &mut self,
+        alloc: Global,
+        tokens: &'t [Token<'a>],
+        end: u32,
+    ) -> Result<&'t [Token<'a>], ParseFault>
+        requires no_items { self.old.items.items ≡ [] }
+        requires no_conditions { self.old.on.items ≡ [] }
+        ensures { Gives end (λ x. ((self.new.items.items, self.new.on.items), lexemes x.now)) result
+            (sources_at (lexemes tokens.now)) }
+    {
+        let rest = skip(tokens, end, Kind::From)?;
+        let mut rest = add(&mut self.items, item(alloc, rest, end))?;
+        while let Some(after) = self.read_next(alloc, rest, end)? {
+            rest = after;
+        }
+        match after(rest, Kind::Where) {
+            Some(rest) => add_all(&mut self.on, several(alloc, rest, end)),
+            None => Ok(rest),
+        }
     }
-    Ok((found, rest))
-}
-
-/// Reads `where` and its conditions, if there is a `where`.
-#[tactic(auto, unfolding(crate::specs::Reading::where_at, crate::specs::Reading::conditions_at))]
-fn where_clause<'a, 't>(
-    alloc: Global,
-    tokens: &'t [Token<'a>],
-    end: u32,
-) -> Result<(Vec<Equality>, &'t [Token<'a>]), ParseFault>
-    ensures { Gives end (λ x. (x.0.items, lexemes x.1.now)) result (where_at (lexemes tokens.now)) }
-{
-    let (word, rest) = optional(tokens, Kind::Where);
-    if word.is_none() {
-        return Ok((Vec::new(alloc), rest));
-    }
-    several(alloc, rest, end)
 }
 
 /// Whether there is a sign, and whether it is a minus.
@@ -584,25 +581,13 @@ fn where_clause<'a, 't>(
 fn sign<'a, 't>(tokens: &'t [Token<'a>]) -> (Option<bool>, &'t [Token<'a>])
     ensures { sign_at (lexemes tokens.now) ≡ (result.0, lexemes result.1.now) }
 {
-    if let (Some(_), rest) = optional(tokens, Kind::Minus) {
+    if let Some(rest) = after(tokens, Kind::Minus) {
         return (Some(true), rest);
     }
-    if let (Some(_), rest) = optional(tokens, Kind::Plus) {
+    if let Some(rest) = after(tokens, Kind::Plus) {
         return (Some(false), rest);
     }
     (None, tokens)
-}
-
-/// Whether there is a DESC. An ASC is read too.
-#[tactic(auto, unfolding(crate::specs::Reading::direction_at))]
-fn direction<'a, 't>(tokens: &'t [Token<'a>]) -> (bool, &'t [Token<'a>])
-    ensures { direction_at (lexemes tokens.now) ≡ (result.0, lexemes result.1.now) }
-{
-    if let (Some(_), rest) = optional(tokens, Kind::Desc) {
-        return (true, rest);
-    }
-    let (_, rest) = optional(tokens, Kind::Asc);
-    (false, rest)
 }
 
 /// Reads `order by` and its keys, if there is an `order`.
@@ -614,11 +599,10 @@ fn order_clause<'a, 't>(
 ) -> Result<(Vec<KeyRef>, &'t [Token<'a>]), ParseFault>
     ensures { Gives end (λ x. (x.0.items, lexemes x.1.now)) result (order_at (lexemes tokens.now)) }
 {
-    let (word, rest) = optional(tokens, Kind::Order);
-    if word.is_none() {
-        return Ok((Vec::new(alloc), rest));
-    }
-    let (_, rest) = expect(rest, end, Kind::By)?;
+    let Some(rest) = after(tokens, Kind::Order) else {
+        return Ok((Vec::new(alloc), tokens));
+    };
+    let rest = skip(rest, end, Kind::By)?;
     several(alloc, rest, end)
 }
 
@@ -631,12 +615,13 @@ fn limit_clause<'a, 't>(
     ensures { Gives end (λ x. (some_lexeme x.0, lexemes x.1.now)) result
         (limit_at (lexemes tokens.now)) }
 {
-    let (word, rest) = optional(tokens, Kind::Limit);
-    if word.is_none() {
-        return Ok((None, rest));
+    let Some(rest) = after(tokens, Kind::Limit) else {
+        return Ok((None, tokens));
+    };
+    match expect(rest, end, Kind::Digits) {
+        Ok((digits, rest)) => Ok((Some(digits), rest)),
+        Err(fault) => Err(fault),
     }
-    let (digits, rest) = expect(rest, end, Kind::Digits)?;
-    Ok((Some(digits), rest))
 }
 
 /// Reads `select`, and what is selected: `*`, or column references.
@@ -648,94 +633,30 @@ fn selection<'a, 't>(
 ) -> Result<(SelectList, &'t [Token<'a>]), ParseFault>
     ensures { Gives end (λ x. (x.0, lexemes x.1.now)) result (selection_at (lexemes tokens.now)) }
 {
-    let (_, tokens) = expect(tokens, end, Kind::Select)?;
-    let (star, rest) = optional(tokens, Kind::Star);
-    if star.is_some() {
+    let tokens = skip(tokens, end, Kind::Select)?;
+    if let Some(rest) = after(tokens, Kind::Star) {
         return Ok((SelectList::Star, rest));
     }
-    let (columns, rest) = several(alloc, tokens, end)?;
-    Ok((SelectList::Columns(Sequence::from_vec(columns)), rest))
-}
-
-/// Reads `from` and items, and puts the conditions of the `where` after those of their joins.
-#[tactic(auto, unfolding(crate::specs::Reading::sources_at))]
-fn sources<'a, 't>(
-    alloc: Global,
-    tokens: &'t [Token<'a>],
-    end: u32,
-) -> Result<(FromItems, &'t [Token<'a>]), ParseFault>
-    ensures { Gives end (λ x. ((x.0.items.items, x.0.on.items), lexemes x.1.now)) result
-        (sources_at (lexemes tokens.now)) }
-{
-    let (_, rest) = expect(tokens, end, Kind::From)?;
-    let (mut found, rest) = items(alloc, rest, end)?;
-    let (mut conditions, rest) = where_clause(alloc, rest, end)?;
-    found.on.append(&mut conditions)?;
-    Ok((found, rest))
+    match several(alloc, tokens, end) {
+        Ok((columns, rest)) => Ok((SelectList::Columns(Sequence::from_vec(columns)), rest)),
+        Err(fault) => Err(fault),
+    }
 }
 
 /// What was read, with the limit's digits after it. Nothing but a `;` may be left after them.
 #[tactic(auto, unfolding(crate::specs::Reading::finish_at))]
-fn ended<'a, T: Drop>(
-    read: T,
-    tokens: &[Token<'a>],
+pub(crate) fn ended<'a, 't, T: Drop>(
+    read: Result<(T, &'t [Token<'a>]), ParseFault>,
     end: u32,
 ) -> Result<(T, Option<Token<'a>>), ParseFault>
-    ensures { Gives end (λ x. (x.0, some_lexeme x.1)) result
-        (ended_at read (lexemes tokens.now)) }
+    ensures { Ended end (λ r. lexemes r.now) some_lexeme read.entry result }
 {
-    let (digits, rest) = limit_clause(tokens, end)?;
+    let (thing, rest) = read?;
+    let (digits, rest) = limit_clause(rest, end)?;
     let (_, rest) = optional(rest, Kind::Semicolon);
     if rest.is_empty() {
-        Ok((read, digits))
+        Ok((thing, digits))
     } else {
         Err(ParseFault::Syntax(place(rest, end)))
-    }
-}
-
-/// A query without its limit, and the limit's digits.
-#[tactic(auto, unfolding(crate::specs::Reading::query_at))]
-pub(crate) fn query<'a>(
-    alloc: Global,
-    tokens: &[Token<'a>],
-    end: u32,
-) -> Result<(Select, Option<Token<'a>>), ParseFault>
-    ensures { Gives end (λ x. (x.0, some_lexeme x.1)) result (query_at (lexemes tokens.now)) }
-{
-    let (select, rest) = Select::read(alloc, tokens, end)?;
-    ended(select, rest, end)
-}
-
-/// The branches without their limit, and the limit's digits.
-#[tactic(auto, unfolding(crate::specs::Reading::queries_at, crate::specs::Reading::branches_at))]
-pub(crate) fn queries<'a>(
-    alloc: Global,
-    tokens: &[Token<'a>],
-    end: u32,
-) -> Result<(Sequence<Select>, Option<Token<'a>>), ParseFault>
-    ensures { Gives end (λ x. (x.0, some_lexeme x.1)) result
-        (queries_at true (lexemes tokens.now)) }
-{
-    let (branches, rest) = several(alloc, tokens, end)?;
-    ended(Sequence::from_vec(branches), rest, end)
-}
-
-/// The select of the clauses that were read, without a limit.
-fn selected(list: SelectList, found: FromItems, keys: Vec<KeyRef>) -> Select
-    ensures { result ≡ record {
-      list = list;
-      items = found.items.items;
-      equalities = found.on.items;
-      keys = keys.items;
-      limit = None;
-    } }
-{
-    let FromItems { items, on } = found;
-    Select {
-        list,
-        items: Sequence::from_vec(items),
-        equalities: Sequence::from_vec(on),
-        keys: Sequence::from_vec(keys),
-        limit: None,
     }
 }

@@ -1,11 +1,9 @@
 //! The step that a line says.
 
-ghost use Rattle.std.specs.Prelude.{◌≡◌, codes};
-ghost use Rattle.std.specs.List.{list_all};
+ghost use Rattle.std.specs.Prelude.{◌≡◌};
 ghost use Rattle.std.specs.Str.{bytes_eq};
-ghost use Rattle.std.specs.Char.{is_ascii_digit};
 ghost use Rattle.languages.specs.Forms.{IsSaid};
-ghost use Rattle.languages.specs.Words.{count_of, step_of, one_name_step, two_part_step, next_step, fork_step};
+ghost use Rattle.languages.specs.Words.{count_of, step_of, one_name_step, two_part_step};
 
 use crate::name::Name;
 use crate::step::Step;
@@ -13,23 +11,19 @@ use ground::first_part;
 
 const MAX_DIGITS: usize = 9;
 
-/// Whether each byte is a decimal digit.
-fn are_digits(text: &[u8]) -> bool
-    ensures { result ≡ list_all is_ascii_digit text.now }
-{
-    text.iter().all(|byte| byte.is_ascii_digit())
-}
-
 /// The number that 1 to 9 digits without a needless leading 0 write. `None` if the text is no such
 /// number.
 fn read_count(text: &[u8]) -> Option<u64>
     ensures { result ≡ count_of text.now }
 {
-    if text.is_empty() || text.len() > MAX_DIGITS || !are_digits(text) {
+    if text.is_empty() || text.len() > MAX_DIGITS {
         return None;
     }
     let mut count: u64 = 0;
     for digit in text {
+        if !digit.is_ascii_digit() {
+            return None;
+        }
         count = count * 10 + u64::from(digit.saturating_sub(b'0'));
     }
     Some(count)
@@ -59,35 +53,18 @@ fn one_name(word: &[u8], text: &[u8]) -> Option<Step>
     }
 }
 
-/// The step `next`. `None` if its parts are no name and no count.
-#[tactic(auto, unfolding(crate::specs::Words::next_step))]
-fn next(text: &[u8], digits: &[u8]) -> Option<Step>
-    ensures { result ≡ next_step text.now digits.now }
-{
-    let name = Name::read(text)?;
-    let count = read_count(digits)?;
-    Some(Step::Next(name, count))
-}
-
-/// The step `fork`. `None` if one of its parts is no name.
-#[tactic(auto, unfolding(crate::specs::Words::fork_step))]
-fn fork(text: &[u8], new: &[u8]) -> Option<Step>
-    ensures { result ≡ fork_step text.now new.now }
-{
-    let name = Name::read(text)?;
-    let new = Name::read(new)?;
-    Some(Step::Fork(name, new))
-}
-
 /// The step of a word and two parts. `None` if there is no such step.
-#[tactic(auto, unfolding(crate::specs::Words::two_part_step))]
+#[tactic(auto, unfolding(crate::specs::Words::two_part_step, crate::specs::Words::next_step, crate::specs::Words::fork_step))]
 fn two_parts(word: &[u8], first: &[u8], second: &[u8]) -> Option<Step>
     ensures { result ≡ two_part_step word.now first.now second.now }
 {
+    let name = Name::read(first)?;
     if is_word(word, b"next") {
-        next(first, second)
+        let count = read_count(second)?;
+        Some(Step::Next(name, count))
     } else if is_word(word, b"fork") {
-        fork(first, second)
+        let new = Name::read(second)?;
+        Some(Step::Fork(name, new))
     } else {
         None
     }

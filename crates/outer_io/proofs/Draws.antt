@@ -1,6 +1,7 @@
 -- Draws after draws, and rows after rows.
-use Rattle.std.proofs.Common.{◌≡◌, ℕ, zero, suc, ◌+◌, ◌*◌, ◌/◌, List, [], ◌∷◌, ◌++◌, refl, ap, sym, ◌∙◌, arith, append_assoc, add-one}
+use Rattle.std.proofs.Common.{◌≡◌, ℕ, zero, suc, ◌+◌, ◌*◌, ◌/◌, List, [], ◌∷◌, ◌++◌, refl, ap, sym, ◌∙◌, arith, append_assoc, add-one, map, Global, Vec}
 use Rattle.std.specs.Prelude.{codes}
+use Rattle.std.proofs.lemmas.List.{map-append}
 use Rattle.outer_io.specs.Input.{next_draw, draw, row_text, rows_text, table_text, files}
 
 pub draw_draw : (x a b : ℕ) → draw (draw x a) b ≡ draw x (b + a)
@@ -45,3 +46,28 @@ four_files number rows s t u a b c d e f g h i j k =
     let three = after_three number rows t u two g in
     same_four a b c d _ _ _ _ h (from_draws (codes "b,c,w\n") b (rows / 100 + 1) rows number s (2 * rows) i e)
     (from_draws (codes "c,d,w\n") c (rows / 100 + 1) rows number t (4 * rows) j two) (from_draws (codes "d,e,w\n") d (rows / 100 + 1) rows number u (6 * rows) k three)
+
+-- the same, as four tables that were pushed one after another
+pub four_tables : (number rows s t u : ℕ) (none one two three four : List (List ℕ))
+    → s ≡ draw number (2 * rows) → t ≡ draw s (2 * rows) → u ≡ draw t (2 * rows)
+    → none ≡ [] → one ≡ none ++ table_text (codes "a,b,w\n") (rows / 100 + 1) rows number ∷ []
+    → two ≡ one ++ table_text (codes "b,c,w\n") (rows / 100 + 1) rows s ∷ []
+    → three ≡ two ++ table_text (codes "c,d,w\n") (rows / 100 + 1) rows t ∷ []
+    → four ≡ three ++ table_text (codes "d,e,w\n") (rows / 100 + 1) rows u ∷ []
+    → four ≡ files number rows
+four_tables number rows s t u none one two three four e f g z h i j k =
+    let a = table_text (codes "a,b,w\n") (rows / 100 + 1) rows number in
+    let b = table_text (codes "b,c,w\n") (rows / 100 + 1) rows s in
+    let c = table_text (codes "c,d,w\n") (rows / 100 + 1) rows t in
+    let d = table_text (codes "d,e,w\n") (rows / 100 + 1) rows u in
+    let first : one ≡ a ∷ [] = h ∙ ap (λ (l : List (List ℕ)). l ++ a ∷ []) z in
+    let second : two ≡ a ∷ b ∷ [] = i ∙ ap (λ (l : List (List ℕ)). l ++ b ∷ []) first in
+    let third : three ≡ a ∷ b ∷ c ∷ [] = j ∙ ap (λ (l : List (List ℕ)). l ++ c ∷ []) second in
+    k ∙ ap (λ (l : List (List ℕ)). l ++ d ∷ []) third ∙ four_files number rows s t u a b c d e f g refl refl refl refl
+
+-- a table that has its text was pushed
+pub pushed : (tables now : List (Vec ℕ Global)) (file : Vec ℕ Global) (was text : List ℕ) → now ≡ tables ++ file ∷ [] → file.items ≡ was → was ≡ text
+    → map (λ (f : Vec ℕ Global). f.items) now ≡ map (λ (f : Vec ℕ Global). f.items) tables ++ text ∷ []
+pushed tables now file was text e f g =
+    ap (map (λ (f : Vec ℕ Global). f.items)) e ∙ map-append (λ (f : Vec ℕ Global). f.items) tables (file ∷ [])
+    ∙ ap (λ (l : List ℕ). map (λ (f : Vec ℕ Global). f.items) tables ++ l ∷ []) (f ∙ g)

@@ -1,9 +1,10 @@
 -- The first file of a name, by its place.
-use Rattle.std.proofs.Common.{◌≡◌, ℕ, ◌+◌, ◌<◌, ◌≤◌, List, [], ◌∷◌, Bool, Option, Some, None, cond, true, false, refl, ap, ◌∙◌, sym, length, map, drop, arith, nat_lt, not, one-add, inl, inr, MatchOption, subst}
-use Rattle.std.specs.List.{position, position_or_len, slice_get}
+use Rattle.std.proofs.Common.{◌≡◌, ℕ, ◌+◌, ◌<◌, ◌≤◌, List, [], ◌∷◌, Bool, Option, Some, None, cond, true, false, refl, ap, ◌∙◌, sym, length, map, drop, arith, nat_lt, not, one-add, inl, inr, MatchOption, subst, is_some, ◌||◌, suc}
+use Rattle.std.specs.List.{list_any, position, position_or_len, slice_get}
 use Rattle.std.specs.Option.{option_map, option_map_or}
 use Rattle.std.specs.String.{string_bytes}
 use Rattle.std.specs.Str.{bytes_eq}
+use Rattle.std.proofs.lemmas.Bool.Decides.{nat_tests}
 use Rattle.std.proofs.lemmas.List.{drop-drop, drop_all}
 use Rattle.std.proofs.lemmas.Option.{slice_get_past, slice_get_cases}
 use borrow.Author.Tests.{ltb-false, ltb-true}
@@ -59,3 +60,25 @@ placed files name place e =
       | false ↦ λ past. first ∙ past_end files n (ltb-false n (length files) past)
     ] in
     subst P (sym e) (at refl)
+
+-- one of the files has the name if there is a first one that has it
+below_more : (a b : ℕ) → nat_lt (1 + a) (suc b) ≡ nat_lt a b
+below_more a b = grind (arith, nat_tests)
+
+none_below : (b : ℕ) → nat_lt 0 (suc b) ≡ true
+none_below b = grind (arith, nat_tests)
+
+below_any : (p : MemFile → Bool) (files : List MemFile) → nat_lt (position_or_len p files) (length files) ≡ list_any p files
+below_any p [] = refl
+below_any p (file ∷ files) =
+    elim (p file) as (λ b. nat_lt (cond (not b) (1 + position_or_len p files) 0) (length (file ∷ files)) ≡ (b || list_any p files)) [
+      | true ↦ none_below (length files)
+      | false ↦ below_more (position_or_len p files) (length files) ∙ below_any p files
+    ]
+
+some_if : (b : Bool) (k : ℕ) → is_some (cond b (Some k) None) ≡ b
+some_if true k = refl
+some_if false k = refl
+
+pub any_found : (p : MemFile → Bool) (files : List MemFile) → is_some (position p files) ≡ list_any p files
+any_found p files = some_if (nat_lt (position_or_len p files) (length files)) (position_or_len p files) ∙ below_any p files

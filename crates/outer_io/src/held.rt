@@ -33,7 +33,7 @@ pub fn have_distinct_names(files: &[MemFile]) -> bool
 fn has_name(files: &[MemFile], name: &str) -> bool
     ensures { result ≡ list_any (λ file. bytes_eq (string_bytes file.name) name.now) files.now }
 {
-    files.iter().any(|file| file.name.as_str() == name)
+    first_named(files, name).is_some()
 }
 
 /// Files, of which at most one is open, with the number of misses and of bytes read.

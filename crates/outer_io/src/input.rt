@@ -1,6 +1,6 @@
 //! The tables of `load`, made from a number, and their query.
 
-ghost use Rattle.std.specs.Prelude.{◌≡◌, ◌+◌, ◌*◌, ◌^◌, ◌<◌, ◌≤◌, ◌++◌, map, IfOk, codes};
+ghost use Rattle.std.specs.Prelude.{◌≡◌, ◌+◌, ◌*◌, ◌^◌, ◌<◌, ◌≤◌, ◌++◌, ◌∷◌, [], map, IfOk, OnOk, codes};
 ghost use Rattle.std.specs.String.{string_bytes};
 ghost use Rattle.outer_io.specs.Input.{next_draw, draw, row_text, rows_text, table_text, files, load_query};
 
@@ -54,24 +54,28 @@ fn push_row(text: &mut String, modulus: u32, draws: &mut Draws) -> Result<(), Al
     writeln!(text, "{first},{second},{weight}")
 }
 
-/// A header, and `rows` rows.
+/// One more table after the others: a header, and `rows` rows.
 #[tactic(auto, unfolding(crate::specs::Input::draw, crate::specs::Input::rows_text))]
-fn table(
+fn push_table(
     alloc: Global,
+    tables: &mut Vec<Vec<u8>>,
     header: &str,
     modulus: u32,
     rows: u32,
     draws: &mut Draws,
-) -> Result<Vec<u8>, NoMemory>
+) -> Result<(), NoMemory>
     requires { 1 ≤ modulus }
-    ensures text { IfOk result (λ v. v.items ≡ table_text header.now modulus rows draws.old.last) }
-    ensures after { IfOk result (λ _. draws.new.last ≡ draw draws.old.last (2 * rows)) }
+    ensures pushed { OnOk result (map (λ f. f.items) tables.new.items
+        ≡ map (λ f. f.items) tables.old.items
+        ++ table_text header.now modulus rows draws.old.last ∷ []) }
+    ensures after { OnOk result (draws.new.last ≡ draw draws.old.last (2 * rows)) }
 {
     let mut text = String::from_str(alloc, header)?;
     for _row in 0..rows {
         push_row(&mut text, modulus, draws)?;
     }
-    Ok(text.into_bytes())
+    tables.push(text.into_bytes())?;
+    Ok(())
 }
 
 /// The files of the tables P1 to P4, made in this order with `rows` rows each, from this number.
@@ -86,9 +90,9 @@ pub fn tables_of(alloc: Global, number: u32, rows: u32) -> Result<Vec<Vec<u8>>, 
     let modulus = rows / 100 + 1;
     let mut draws = Draws { last: number };
     let mut tables = Vec::new(alloc);
-    tables.push(table(alloc, "a,b,w\n", modulus, rows, &mut draws)?)?;
-    tables.push(table(alloc, "b,c,w\n", modulus, rows, &mut draws)?)?;
-    tables.push(table(alloc, "c,d,w\n", modulus, rows, &mut draws)?)?;
-    tables.push(table(alloc, "d,e,w\n", modulus, rows, &mut draws)?)?;
+    push_table(alloc, &mut tables, "a,b,w\n", modulus, rows, &mut draws)?;
+    push_table(alloc, &mut tables, "b,c,w\n", modulus, rows, &mut draws)?;
+    push_table(alloc, &mut tables, "c,d,w\n", modulus, rows, &mut draws)?;
+    push_table(alloc, &mut tables, "d,e,w\n", modulus, rows, &mut draws)?;
     Ok(tables)
 }

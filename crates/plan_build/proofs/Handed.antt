@@ -11,3 +11,8 @@ handed s (Err _) x P e h = subst (λ o. IfOk o P) (sym e) tt
 -- nothing is asked after an error
 pub failed : {T E : Type 0} (r : Result T E) (X : Type 0) → IsErr r → OnOk r X
 failed r X e = IfOk-from_err r (λ _. X) e
+
+-- what holds in any case holds after a call that went well
+pub anyway : {T E : Type 0} (r : Result T E) (X : Type 0) → X → OnOk r X
+anyway (Ok _) X x = x
+anyway (Err _) X x = tt

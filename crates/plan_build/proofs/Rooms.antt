@@ -2,12 +2,13 @@
 use Rattle.std.proofs.Common.{◌≡◌, ◌↔◌, ◌≤◌, ℕ, Bool, false, List, length, arith}
 use Rattle.std.specs.Prelude.{IsTrue}
 use Rattle.rank_key.specs.declared.fixed_rank.FixedRank.{FixedRank}
+use Rattle.rank_key.specs.declared.packed.PackedRank.{PackedRank}
 use Rattle.anyk_model.specs.Table.{Table}
 use Rattle.bound_query.specs.WeighedQuery.{BoundQuery, Fits}
 use Rattle.node_build.proofs.Shaped.{caps_small}
 use Rattle.plan_build.specs.Plan.{PlanView}
 use Rattle.plan_build.specs.RankedPlan.{HasLeastRoom, HasRoom, fixed_room, packed_room}
-use Rattle.plan_build.specs.declared.ranked_plan.RankedPlan.TheVariants.{Lex, MiddleSum, SmallLex, Sum}
+use Rattle.plan_build.specs.declared.ranked_plan.RankedPlan.TheVariants.{Lex, MiddleSum, Packed, SmallLex, Sum}
 
 -- what a test denies
 pub denied : {A : Type 0} (b : Bool) → b ≡ false → IsTrue b ↔ A → A → ⊥
@@ -22,6 +23,12 @@ module _ (bound : BoundQuery) (tables : List Table) (fits : Fits bound tables) w
 
   no_fixed : (n m : ℕ) → (HasPlaces n m → ⊥) → HasRoom bound tables (fixed_room n m) → ⊥
   no_fixed n m never room = never (room.keys, room.items)
+
+  pub packed_least : (plan : PlanView PackedRank) → HasRoom bound tables packed_room → HasLeastRoom bound tables (Packed plan)
+  packed_least plan room = record {
+    enough = room;
+    least = ((λ h. omega arith), ((λ h. omega arith), ((λ h. omega arith), ((λ h. omega arith), ((λ h. omega arith), tt)))));
+  }
 
   module _ (packed : HasRoom bound tables packed_room → ⊥) where
     pub middle_least : (plan : PlanView (FixedRank 1 8)) → HasPlaces 1 8 → HasLeastRoom bound tables (MiddleSum plan)

@@ -4,7 +4,7 @@ ghost use Rattle.rankings.specs.KeyTuple.{KeyOf};
 ghost use Rattle.rankings.specs.KeyNumbers.{numbers};
 ghost use Rattle.tdp_core.specs.AnswerView.{answers_of, rows_of_key};
 ghost use Rattle.tdp_core.specs.Solutions.{IsTreeRanking};
-ghost use Rattle.tdp_core.specs.TreeView.{parent, rows, group_number, group, best};
+ghost use Rattle.tdp_core.specs.TreeView.{parent, rows, group, best};
 ghost use Rattle.tdp_core.specs.WellFormed.{IsFormed, IsTieFreeTree};
 
 use ground::Steps;
@@ -71,27 +71,8 @@ fn first_row<R: Rank, L: Ledger>(
     ensures row { result < rows tree.now node }
     ensures cost { steps.new ≤ steps.old + 2 }
 {
-    let group = named_group(tree, chosen, node, steps);
-    tree.member(node, group, 0, steps)
-}
-
-/// The group that the row chosen at a node's parent names. It takes one step.
-fn named_group<R: Rank, L: Ledger>(
-    tree: &Tree<R>,
-    chosen: &[u32],
-    node: u32,
-    steps: &mut Steps<L>,
-) -> u32
-    requires formed { IsFormed R.KEYS R.key tree.now }
-    requires below { 0 < node }
-    requires node { node < length tree.now }
-    requires above { (q : ℕ) → q < node → slice_index chosen.now q < rows tree.now q }
-    requires long { node ≤ length chosen.now }
-    ensures group { result
-        ≡ group_number tree.now node (slice_index chosen.now (parent tree.now node)) }
-    ensures cost { steps.new ≤ steps.old + 1 }
-{
     let above = tree.shape(node).parent;
     let place = tree.child_place(node);
-    tree.group_of(above, chosen[above as usize], place, steps)
+    let group = tree.group_of(above, chosen[above as usize], place, steps);
+    tree.member(node, group, 0, steps)
 }

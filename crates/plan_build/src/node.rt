@@ -12,7 +12,7 @@ use rank_key::Rank;
 use smallvec::SmallVec;
 use std::alloc::{AllocError, Global};
 use std::sync::ledger::Ledger;
-use tdp_core::{Groups, NamedGroups, NodeParts, NodeRow, NodeRows, NodeShape, RawTree};
+use tdp_core::{Groups, NamedGroups, NodeParts, NodeRow, NodeRows, RawTree};
 
 /// A node with its rows in groups.
 #[derive(Drop)]
@@ -54,43 +54,27 @@ pub(crate) fn reduce_node<R: Rank, L: Ledger>(
 {
     let kept = keep_rows(alloc, raw, node, later, steps)?;
     match Groups::of_numbers(alloc, &kept.numbers, kept.links.len()) {
-        Ok(groups) => Ok(grouped(alloc, *raw.shape(node), kept, groups)),
+        Ok(groups) => {
+            let KeptRows {
+                rows,
+                to_child,
+                links,
+                ..
+            } = kept;
+            let parts = NodeParts {
+                shape: *raw.shape(node),
+                rows,
+                to_child,
+                groups,
+                best: Vec::new(alloc),
+            };
+            Ok(GroupedNode { parts, links })
+        }
         Err(refused) => {
             drop(kept);
             Err(refused)
         }
     }
-}
-
-/// The node with the rows that are kept, in these groups.
-fn grouped<R: Rank>(
-    alloc: Global,
-    shape: NodeShape,
-    kept: KeptRows<R>,
-    groups: Groups,
-) -> GroupedNode<R>
-    ensures shape { result.parts.shape ≡ shape }
-    ensures rows { result.parts.rows ≡ kept.rows }
-    ensures to_child { result.parts.to_child ≡ kept.to_child }
-    ensures groups { result.parts.groups ≡ groups }
-    ensures best { result.parts.best.items ≡ [] }
-    ensures links { result.links ≡ kept.links }
-{
-    let KeptRows {
-        rows,
-        to_child,
-        links,
-        ..
-    } = kept;
-    let best = Vec::new(alloc);
-    let parts = NodeParts {
-        shape,
-        rows,
-        to_child,
-        groups,
-        best,
-    };
-    GroupedNode { parts, links }
 }
 
 /// The rows of a node that are kept, each with the number of its group.
@@ -208,8 +192,7 @@ fn keep_row<R: Rank, L: Ledger>(
     kept.rows.push(row)?;
     let number = kept.links.insert(own, steps)?;
     kept.numbers.push(number)?;
-    kept.to_child.push(named)?;
-    Ok(())
+    kept.to_child.push(named)
 }
 
 /// The children of a node, in ascending order.

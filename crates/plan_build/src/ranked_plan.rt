@@ -58,23 +58,31 @@ pub fn prepare_ranked<L: Ledger>(
     let _keys = query.keys();
     let _items = query.items();
     if has_packed_room(query) {
-        let plan = prepare_of::<PackedRank, L>(alloc, query, tables, item, steps)?;
-        return Ok(RankedPlan::Packed(plan));
+        match prepare_of(alloc, query, tables, item, steps) {
+            Ok(plan) => Ok(RankedPlan::Packed(plan)),
+            Err(fault) => Err(fault),
+        }
+    } else if has_places(query, 1, 8) {
+        match prepare_of(alloc, query, tables, item, steps) {
+            Ok(plan) => Ok(RankedPlan::MiddleSum(plan)),
+            Err(fault) => Err(fault),
+        }
+    } else if has_places(query, 2, 4) {
+        match prepare_of(alloc, query, tables, item, steps) {
+            Ok(plan) => Ok(RankedPlan::SmallLex(plan)),
+            Err(fault) => Err(fault),
+        }
+    } else if has_places(query, 1, 16) {
+        match prepare_of(alloc, query, tables, item, steps) {
+            Ok(plan) => Ok(RankedPlan::Sum(plan)),
+            Err(fault) => Err(fault),
+        }
+    } else {
+        match prepare_of(alloc, query, tables, item, steps) {
+            Ok(plan) => Ok(RankedPlan::Lex(plan)),
+            Err(fault) => Err(fault),
+        }
     }
-    if has_places(query, 1, 8) {
-        let plan = prepare_of::<MiddleSumRank, L>(alloc, query, tables, item, steps)?;
-        return Ok(RankedPlan::MiddleSum(plan));
-    }
-    if has_places(query, 2, 4) {
-        let plan = prepare_of::<SmallLexRank, L>(alloc, query, tables, item, steps)?;
-        return Ok(RankedPlan::SmallLex(plan));
-    }
-    if has_places(query, 1, 16) {
-        let plan = prepare_of::<SumRank, L>(alloc, query, tables, item, steps)?;
-        return Ok(RankedPlan::Sum(plan));
-    }
-    let plan = prepare_of::<LexRank, L>(alloc, query, tables, item, steps)?;
-    Ok(RankedPlan::Lex(plan))
 }
 
 /// Whether packed ranks have room for the query.

@@ -35,26 +35,29 @@ pub fn reduce<R: Rank, L: Ledger>(
 {
     let mut tree = raw;
     let mut nodes = Vec::new(alloc);
-    let reduced = reduce_nodes(alloc, &mut tree, &mut nodes, steps);
+    let mut later = Vec::new(alloc);
+    let reduced = reduce_nodes(alloc, &mut tree, &mut nodes, &mut later, steps);
     reduced.and(Ok(Reduced { nodes }))
 }
 
-/// Reduces the nodes of a raw tree, from the last one up to the root, and clears each one there. It
-/// owns neither the tree nor the nodes, so that an error leaves little to drop.
+/// Reduces the nodes of a raw tree, from the last one up to the root, and clears each one there.
+/// `later` gets the links of the groups of each. It owns nothing that it fills, so that an error
+/// leaves little to drop.
 fn reduce_nodes<R: Rank, L: Ledger>(
     alloc: Global,
     tree: &mut RawTree<R>,
     nodes: &mut Vec<NodeParts<R>>,
+    later: &mut Vec<GroupLinks>,
     steps: &mut Steps<L>,
 ) -> Result<(), NoMemory>
-    requires { nodes.old.items ≡ [] }
+    requires nodes { nodes.old.items ≡ [] }
+    requires later { later.old.items ≡ [] }
     ensures reduced { OnOk result (IsReduced R.KEYS R.key tree.old (tree_view nodes.new.items)) }
     ensures cost { steps.new
         ≤ steps.old + 2 * length tree.old.shapes * (1 + row_total tree.old) }
 {
-    let mut later: Vec<GroupLinks> = Vec::new(alloc);
     for node in (0..tree.nodes()).rev() {
-        let grouped = reduce_node(alloc, tree, node, &later, steps)?;
+        let grouped = reduce_node(alloc, tree, node, later, steps)?;
         tree.clear(node);
         nodes.insert(0, grouped.parts)?;
         later.insert(0, grouped.links)?;

@@ -40,7 +40,7 @@ fn solve_nodes<R: Rank, L: Ledger>(
     nodes: &mut [NodeParts<R>],
     steps: &mut Steps<L>,
 ) -> Result<(), NoMemory>
-    requires { IsLaidOut R.KEYS R.key (tree_view nodes.old) }
+    requires laid_out { IsLaidOut R.KEYS R.key (tree_view nodes.old) }
     ensures reordered { OnOk result
         ((v : ℕ) → IsReordered (node_at (tree_view nodes.old) v)
         (node_at (tree_view nodes.new) v)) }

@@ -10,15 +10,18 @@ ghost use Rattle.proof_check.specs.BoundedRows.{IsBounded};
 
 use crate::bounded::BoundedTree;
 use crate::bounds::with_bounds;
-use crate::node_rows::query_rows;
 use bound_query::Query;
 use ground::Steps;
 use join_tree::JoinTree;
+use node_build::{BuildFault, build};
 use proof_model::{Proof, ProofFault};
 use rank_key::Rank;
 use std::alloc::Global;
 use std::sync::ledger::Ledger;
 use table_store::Tables;
+
+/// The greatest number of rows of all nodes of a join tree together.
+const MAX_NODE_ROWS: u32 = 4_194_304;
 
 /// The rows of a query's nodes with the bounds of a certificate. `TooManyRows` exactly if more than
 /// 4,194,304 rows of all nodes pass; then `BadBound` and `BoundTwice`, each exactly if it tells the
@@ -44,6 +47,12 @@ pub fn bounded_tree<R: Rank, L: Ledger>(
     ensures fault { IfErr result
         (TellsFlaw query.now.query tables.now join.now (proof_view proof.now)) }
 {
-    let raw = query_rows(alloc, query, tables, join, steps)?;
-    with_bounds(alloc, query, tables, join, raw, proof, steps)
+    match build(alloc, query, tables, join, MAX_NODE_ROWS as u64, steps) {
+        Ok(built) => {
+            let _nodes = built.tree.nodes();
+            with_bounds(alloc, query, tables, join, built.tree, proof, steps)
+        }
+        Err(BuildFault::TooManyRows(_)) => Err(ProofFault::TooManyRows(MAX_NODE_ROWS)),
+        Err(BuildFault::NoMemory) => Err(ProofFault::NoMemory),
+    }
 }

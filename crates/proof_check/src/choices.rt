@@ -124,17 +124,17 @@ fn node_leaves_after<R: Rank, L: Ledger>(
 {
     let keys = tree.raw.keys();
     let mut taken = TakenRows::new(alloc, keys);
-    let next = prefixes.with_node(alloc, places, node as usize, &mut taken)?;
-    let good = leaves_after(
-        alloc,
-        join,
-        tree,
-        node,
-        &prefixes.starts,
-        &taken,
-        last,
-        steps,
-    );
-    *prefixes = next;
-    good
+    match prefixes.with_node(alloc, places, node as usize, &mut taken) {
+        Ok(next) => {
+            let starts = &prefixes.starts;
+            let good = leaves_after(alloc, join, tree, node, starts, &taken, last, steps);
+            drop(taken);
+            *prefixes = next;
+            good
+        }
+        Err(refused) => {
+            drop(taken);
+            Err(refused)
+        }
+    }
 }

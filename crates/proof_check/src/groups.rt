@@ -73,7 +73,7 @@ pub(crate) fn line_groups<R: Rank, L: Ledger>(
     tops: &[u32],
     steps: &mut Steps<L>,
 ) -> Result<Vec<HashedIndex>, ProofFault>
-    requires { HasPlacedLines R.KEYS R.key raw.now (proof_view proof.now)
+    requires lines { HasPlacedLines R.KEYS R.key raw.now (proof_view proof.now)
         (length proof.now.bounds.items) tops.now }
     ensures groups { IfOk result (λ groups.
         AreLineGroups raw.now (proof_view proof.now) tops.now

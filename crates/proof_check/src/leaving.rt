@@ -171,23 +171,12 @@ fn own_numbers<'a, R: Rank>(tree: &'a BoundedTree<R>, node: u32) -> &'a [Option<
     tree.bounds[node as usize].own.as_slice()
 }
 
-/// The rows by the bounds of their groups.
+/// The rows by the bounds of their groups. Those without a bound come last.
 fn rows_by_bound(alloc: Global, own: &[Option<u32>], count: usize) -> Result<Groups, NoMemory>
     requires few { length own.now ≤ most_node_rows }
     requires within { (i b : ℕ) → i < length own.now → slice_index_or own.now i None ≡ Some b
         → b < count }
     ensures { IfOk result (AreGroups own.now count) }
-{
-    let numbers = numbers_of(alloc, own, count)?;
-    Groups::of_numbers(alloc, &numbers, count + 1)
-}
-
-/// The rows' numbers, with `count` in place of those that are missing.
-fn numbers_of(alloc: Global, own: &[Option<u32>], count: usize) -> Result<Vec<u32>, NoMemory>
-    ensures few { OnOk result (count ≤ 4294967295) }
-    ensures count { IfOk result (λ numbers. length numbers.items ≡ length own.now) }
-    ensures each { IfOk result (λ numbers. (i : ℕ) → i < length own.now
-        → slice_index numbers.items i ≡ unwrap_or (slice_index_or own.now i None) count) }
 {
     let Ok(none) = u32::try_from(count) else {
         return Err(NoMemory);
@@ -197,7 +186,7 @@ fn numbers_of(alloc: Global, own: &[Option<u32>], count: usize) -> Result<Vec<u3
         let number = own[i].unwrap_or(none);
         numbers.push(number)?;
     }
-    Ok(numbers)
+    Groups::of_numbers(alloc, &numbers, count + 1)
 }
 
 /// For each beginning whether it may be left at a node, and how.
@@ -263,7 +252,7 @@ fn nothing_known<R: Rank>(alloc: Global, count: usize) -> Result<Vec<Option<R>>,
 
 /// Puts what is known for a beginning in the place of what is known for its group, if it is less.
 fn lower<R: Rank, L: Ledger>(least: &mut Vec<Option<R>>, group: u32, base: R, steps: &mut Steps<L>)
-    requires { group < vec_len least.old }
+    requires there { group < vec_len least.old }
     ensures { (now : R) × (least.new.items ≡ slice_set least.old.items group (Some now))
         × IsLesser R.KEYS R.key (slice_index_or least.old.items group None) base now }
 {

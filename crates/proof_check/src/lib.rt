@@ -1,7 +1,7 @@
 //! Certificates checked against a query and its tables, without a queue and without an engine.
 //!
 //! What a valid certificate is stands in `proof_model`, and that it shows the first answers in
-//! `laws`. The rows of the query's nodes are built in `node_rows` alone. All that checks them takes
+//! `laws`. The rows of the query's nodes are built in `bounding` alone. All that checks them takes
 //! a raw tree that has the rows of the query's problem.
 //!
 //! A bound line is a solution of its node's subtree, and stands for the group of its row there.
@@ -32,7 +32,6 @@ mod laws;
 mod leaving;
 mod lines;
 mod names;
-mod node_rows;
 mod offers;
 mod order;
 mod places;

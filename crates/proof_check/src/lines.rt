@@ -72,7 +72,7 @@ pub(crate) fn placed_lines<R: Rank, L: Ledger>(
     proof: &Proof,
     steps: &mut Steps<L>,
 ) -> Result<PlacedLines<R>, ProofFault>
-    requires { HasProblem R.KEYS R.key raw.now }
+    requires problem { HasProblem R.KEYS R.key raw.now }
     ensures placed { IfOk result
         (λ lines. (query : SelectQuery) (tables : List Table) (join : JoinTree)
         → length query.order ≤ R.KEYS → HasProblemRows query tables join R.KEYS R.key raw.now

@@ -1,4 +1,4 @@
-use Rattle.std.proofs.Common.{◌≡◌, ℕ, ◌+◌, ◌<◌, ◌≤◌, List, [], ◌∷◌, ◌++◌, length, length-append, get_or, refl, ap, ◌∙◌, arith}
+use Rattle.std.proofs.Common.{◌≡◌, ℕ, ◌+◌, ◌<◌, ◌≤◌, List, [], ◌∷◌, ◌++◌, length, length-append, get_or, ap, ◌∙◌, arith}
 use Rattle.anyk_rec.proofs.Errors.{none_done}
 use Rattle.anyk_rec.proofs.OpenedRows.{items_of, empty_behind}
 use Rattle.anyk_rec.proofs.opened.make_chunk.Goals as goal
@@ -34,18 +34,10 @@ returns-in_err-chunk g c =
       same = λ j. ap (λ vs. get_or (items_of vs) j []) c.in_ok-reserve.ensures.items;
     }
 
-pub returns-in_err-alloc : goal.returns-in_err-alloc
-returns-in_err-alloc g c =
-    record {
-      there = none_done _ c.from_residual.result c.from_residual.ensures.0;
-      longer = same_long _ _ refl;
-      same = λ j. refl;
-    }
-
 pub returns-in_err-reserve : goal.returns-in_err-reserve
 returns-in_err-reserve g c =
     record {
-      there = none_done _ c.from_residual-in_err-reserve.result c.from_residual-in_err-reserve.ensures.0;
+      there = none_done _ c.from_residual.result c.from_residual.ensures.0;
       longer = same_long _ _ (ap length c.reserve.ensures.items);
       same = λ j. ap (λ vs. get_or (items_of vs) j []) c.reserve.ensures.items;
     }

@@ -1,4 +1,4 @@
-use Rattle.std.proofs.Common.{◌∙◌, ◌+◌, ◌++◌, ◌∷◌, ℕ, List, [], if◌then◌else◌, map, refl, subst, sym}
+use Rattle.std.proofs.Common.{◌∙◌, ◌+◌, ◌++◌, ◌∷◌, ℕ, List, [], OnOk, if◌then◌else◌, map, refl, subst, sym}
 use Rattle.std.specs.Fmt.{decimal, signed_decimal}
 use Rattle.std.proofs.lemmas.List.{append-nil}
 use Rattle.anyk_model.specs.Query.{OrderKey, sum_of}
@@ -8,8 +8,8 @@ use Rattle.command_output.specs.Rows.{rows_of}
 use Rattle.command_output.proofs.line.push_shown.Goals as goal
 use Rattle.command_output.proofs.line.push_shown.Goals.{then-style+in_ok-push_sums, else-style}
 
-pub returns-in_ok-push_places : goal.returns-in_ok-push_places
-returns-in_ok-push_places c = λ fields has.
+pub returns-then-style-2 : goal.returns-then-style-2
+returns-then-style-2 c = λ fields has.
     let query = c.args.query.now in
     let style = c.args.style.now in
     let chosen = rows_of query c.args.tagged.now.rows in
@@ -20,8 +20,8 @@ returns-in_ok-push_places c = λ fields has.
       | then-style+in_ok-push_sums w ↦ rw (w.records-is, w.if-style.true) (w.in_ok-push_sums.ensures fields has)
       | else-style w ↦ rw (w.records-is, w.if-style.false, append-nil) has
     ] in
-    subst (λ (fs : List (List ℕ)). HasFields fs c.push_places.new.records.begun) (two_groups fields _ _ _ _ refl (shown style.rows places c.if-style-2.true))
-    (c.in_ok-push_places.ensures _ before)
+    subst (λ (fs : List (List ℕ)). OnOk c.push_places.result (HasFields fs c.push_places.new.records.begun)) (two_groups fields _ _ _ _ refl (shown style.rows places c.if-style-2.true))
+    (c.push_places.ensures _ before)
 
 pub returns-else-style-2 : goal.returns-else-style-2
 returns-else-style-2 c = λ fields has.

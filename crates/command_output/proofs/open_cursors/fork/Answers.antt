@@ -8,7 +8,7 @@ returns-in_default g c =
     record {
       held =
           λ places held opened closed.
-          unknown_closed c.args.set.now c.args.cursors.now places c.args.name.now c.in_default.ensures.unknown held opened;
+          unknown_closed c.args.set.now c.args.cursors.now places c.args.name.now c.told-cursors c.in_default.ensures.unknown held opened;
       only = refl;
     }
 

@@ -14,7 +14,7 @@ returns-in_default-cursor_of g c =
     record {
       taken =
           λ places held can.
-          unknown_closed c.args.set.now c.args.cursors.now places c.bytes-name.result.now c.in_default-cursor_of.ensures.unknown held
+          unknown_closed c.args.set.now c.args.cursors.now places c.bytes-name.result.now c.told-cursors c.in_default-cursor_of.ensures.unknown held
           (rw (c.in-Next.is, ← c.bytes-name.ensures.value) at can);
       kept = refl;
     }

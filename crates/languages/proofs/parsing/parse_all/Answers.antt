@@ -1,4 +1,4 @@
-use Rattle.std.proofs.Common.{Result, Ok, Err, List, ℕ, ◌≤◌, length, ◌∙◌, ap, subst}
+use Rattle.std.proofs.Common.{Result, Ok, Err, List, ℕ, ◌≤◌, length, ◌∙◌, ap, subst, sym}
 use Rattle.std.specs.Prelude.{IfOk}
 use Rattle.std.specs.List.{AllByRecursion}
 use Rattle.std.proofs.lemmas.Result.{err_from_is_err_and}
@@ -13,6 +13,8 @@ use Rattle.query_select.specs.TextOrder.{columns_of, AreInTextOrder, ItemsAreInT
 use Rattle.languages.proofs.Exactly.{parses_all_agree}
 use Rattle.languages.proofs.InOrder.{all_in_order, all_items_in_order, all_some}
 use Rattle.languages.proofs.Limited.{IsFilled, each_filled}
+use Rattle.languages.proofs.Sections.{queries_give}
+use Rattle.languages.proofs.Stepping.{branch_steps}
 use Rattle.languages.proofs.parsing.parse_all.Goals as goal
 
 -- a result that is sound is exact and in order
@@ -46,6 +48,9 @@ all_of_queries bytes all h =
       filled = each_filled all.branches there.1 h.items h.keys;
     }
 
+pub several-requires : goal.several-requires
+several-requires c = branch_steps
+
 pub returns-in_err-branches : goal.returns-in_err-branches
 returns-in_err-branches c =
     let p = err_from_is_err_and c.from_residual-in_err-branches.result c.from_residual-in_err-branches.ensures.1 in
@@ -53,7 +58,7 @@ returns-in_err-branches c =
     let bytes = c.args.bytes.now in
     let e = c.in_err-branches.field-0.0 in
     let short = c.if-bytes-gt-MAX_BYTES.false in
-    let faults = fails_faults_all bytes e (lexemes c.as_slice.result.now) short is c.in_err-branches.ensures in
+    let faults = fails_faults_all bytes e (lexemes c.as_slice.result.now) short is (queries_give (λ v. v.items) _ (λ r. lexemes r.now) some_lexeme (lexemes c.as_slice.result.now) c.several.result (Err e) c.several.ensures c.in_err-branches.ensures) in
     let b = all_of_fault bytes e faults in
     rw (p.1, p.2) (record {
       sound = b.sound;
@@ -68,12 +73,12 @@ pub returns-in_err-limit : goal.returns-in_err-limit
 returns-in_err-limit c =
     let p = err_from_is_err_and c.from_residual-in_err-limit.result c.from_residual-in_err-limit.ensures.1 in
     let is = ap lexemes c.as_slice.ensures.value ∙ c.in_ok-tokens.ensures in
-    let x : Branches = (c.in_ok-branches.branches, some_lexeme c.in_ok-branches.digits) in
+    let x : Branches = (c.in_ok-branches.branches.items, some_lexeme c.in_ok-branches.digits) in
     let bytes = c.args.bytes.now in
     let short = c.if-bytes-gt-MAX_BYTES.false in
-    let says = says_all_read bytes (lexemes c.as_slice.result.now) x short is c.in_ok-branches.ensures in
+    let says = says_all_read bytes (lexemes c.as_slice.result.now) x short is (queries_give (λ v. v.items) _ (λ r. lexemes r.now) some_lexeme (lexemes c.as_slice.result.now) c.several.result (Ok (c.in_ok-branches.branches, c.in_ok-branches.digits)) c.several.ensures c.in_ok-branches.ensures) in
     let e = c.in_err-limit.field-0.0 in
-    let limits = subst (λ (ss : List Select). LimitsAll ss x.1 (Err e)) c.as_slice-2.ensures c.in_err-limit.ensures in
+    let limits = subst (λ (ss : List Select). LimitsAll ss x.1 (Err e)) c.as_slice-2.ensures.value c.in_err-limit.ensures in
     let b = all_of_fault bytes e (limit_faults_all bytes e x says limits) in
     rw (p.1, p.2) (record {
       sound = b.sound;
@@ -87,13 +92,13 @@ returns-in_err-limit c =
 pub returns : goal.returns
 returns c =
     let is = ap lexemes c.as_slice.ensures.value ∙ c.in_ok-tokens.ensures in
-    let x : Branches = (c.in_ok-branches.branches, some_lexeme c.in_ok-branches.digits) in
+    let x : Branches = (c.in_ok-branches.branches.items, some_lexeme c.in_ok-branches.digits) in
     let bytes = c.args.bytes.now in
     let short = c.if-bytes-gt-MAX_BYTES.false in
-    let says = says_all_read bytes (lexemes c.as_slice.result.now) x short is c.in_ok-branches.ensures in
-    let limits = rw c.as_slice-2.ensures at c.in_ok-limit.ensures in
+    let says = says_all_read bytes (lexemes c.as_slice.result.now) x short is (queries_give (λ v. v.items) _ (λ r. lexemes r.now) some_lexeme (lexemes c.as_slice.result.now) c.several.result (Ok (c.in_ok-branches.branches, c.in_ok-branches.digits)) c.several.ensures c.in_ok-branches.ensures) in
+    let limits = rw c.as_slice-2.ensures.value at c.in_ok-limit.ensures in
     let read = parsed_all bytes c.in_ok-limit.limit x says limits in
-    let b = all_of_queries bytes (record { branches = x.0; limit = c.in_ok-limit.limit }) read in
+    let b = subst (λ (bs : List Select). All bytes (Ok (record { branches = bs; limit = c.in_ok-limit.limit }))) (sym c.from_vec-branches.ensures) (all_of_queries bytes (record { branches = x.0; limit = c.in_ok-limit.limit }) read) in
     record {
       sound = b.sound;
       exact = b.exact;

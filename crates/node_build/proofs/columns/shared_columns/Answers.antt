@@ -1,7 +1,7 @@
-use Rattle.std.proofs.Common.{◌<◌, ◌≤◌, ◌+◌, ℕ, List, [], ◌∷◌, ◌++◌, length, get_or, take, sym, subst, arith}
+use Rattle.std.proofs.Common.{◌<◌, ◌≤◌, ◌+◌, ℕ, List, [], ◌∷◌, ◌++◌, length, get_or, refl, take, sym, subst, arith}
 use Rattle.bound_query.proofs.Lists.{at_any}
 use Rattle.rankings.proofs.Members.{get_member}
-use Rattle.node_build.proofs.Sharing.{SoFar, shared_all, shared_more, shared_skip}
+use Rattle.node_build.proofs.Sharing.{SoFar, none_shared, shared_all, shared_more, shared_skip}
 use Rattle.node_build.proofs.columns.shared_columns.Goals as goal
 
 pub loop-variable-preserved-in_default : goal.loop-variable-preserved-in_default
@@ -32,3 +32,9 @@ returns c =
     let all : length xs ≤ i = omega arith in
     shared_all c.args.query.now c.args.item c.args.other xs i c.loop-variable.columns.items c.loop-variable.other_columns.items all
     (λ v h. (c.variables_of-variable-items.ensures.variables.members v).1 h) c.loop-variable.invariant
+
+pub loop-variable-init : goal.loop-variable-init
+loop-variable-init c =
+    let first = take 0 c.variables_of-variable-items.result.now in
+    subst (λ (l : List ℕ). SoFar c.args.query.now c.args.item c.args.other first l c.new-other_columns.result.items) (sym c.new-columns.ensures.items)
+    (subst (SoFar c.args.query.now c.args.item c.args.other first []) (sym c.new-other_columns.ensures.items) (none_shared c.args.query.now c.args.item c.args.other first refl))

@@ -1,5 +1,5 @@
 use Rattle.std.proofs.Common.{arith}
-use Rattle.plan_build.proofs.Handed.{failed}
+use Rattle.plan_build.proofs.Handed.{anyway, failed}
 use Rattle.plan_build.proofs.node.keep_row.Goals as goal
 
 pub returns-in_err-push : goal.returns-in_err-push
@@ -20,20 +20,15 @@ returns-in_err-push-2 g c =
     let e = c.from_residual-in_err-push-2.ensures.0 in
     record { rows = failed r _ e; to_child = failed r _ e; links = failed r _ e; number = failed r _ e; cost = omega (arith, c.insert.ensures.cost) }
 
-pub returns-in_err-push-3 : goal.returns-in_err-push-3
-returns-in_err-push-3 g c =
-    let r = c.from_residual-in_err-push-3.result in
-    let e = c.from_residual-in_err-push-3.ensures.0 in
-    record { rows = failed r _ e; to_child = failed r _ e; links = failed r _ e; number = failed r _ e; cost = omega (arith, c.insert.ensures.cost) }
-
 pub returns : goal.returns
 returns g c =
     let made = c.in_ok-number.ensures in
+    let r = c.push-3.result in
     record {
-      rows = c.in_ok-push.ensures.ok;
-      to_child = c.in_ok-push-3.ensures.ok;
-      links = made.links;
-      number = (c.in_ok-number.number, made.within, made.stands, c.in_ok-push-2.ensures.items);
+      rows = anyway r _ c.in_ok-push.ensures.ok;
+      to_child = c.push-3.ensures.ok;
+      links = anyway r _ made.links;
+      number = anyway r _ (c.in_ok-number.number, made.within, made.stands, c.in_ok-push-2.ensures.items);
       cost = omega (arith, made.cost);
     }
 

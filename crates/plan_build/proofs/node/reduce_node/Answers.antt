@@ -1,5 +1,6 @@
-use Rattle.std.proofs.Common.{◌≡◌, ◌<◌, Some, map, length, sym, ap, subst, ◌∙◌, arith}
+use Rattle.std.proofs.Common.{◌≡◌, ◌<◌, map, length, sym, ap, subst, ◌∙◌, arith}
 use Rattle.std.specs.List.{All}
+use Rattle.std.proofs.lemmas.Result.{IfOk-from_err}
 use Rattle.tdp_core.specs.RowGroups.{places_by_number}
 use Rattle.plan_build.specs.Reduction.{links_of, kept_rows, group_link, group_links, IsGrouping}
 use Rattle.plan_build.proofs.PlacesByNumber.{numbered_grouping}
@@ -15,17 +16,16 @@ returns-in-Ok g c = record {
       let numbers = c.in_ok-kept.kept.numbers.items in
       let groups : c.in-Ok.groups ≡ places_by_number numbers (length links) = c.in-Ok.ensures ∙ ap (λ ns. places_by_number ns c.len.result) c.deref.ensures.value ∙ ap (places_by_number numbers) c.len.ensures in
       let grouping = subst (λ ks. IsGrouping owns ks (places_by_number numbers (length links))) c.in_ok-kept.ensures.kept.links_are (numbered_grouping owns links numbers c.in_ok-kept.ensures.kept.numbering) in
-      let made = c.grouped.ensures in
       record {
-        shape = made.shape ∙ c.shape.ensures;
-        rows = ap (map Some) made.rows ∙ c.in_ok-kept.ensures.kept.rows_are;
-        to_child = ap (λ n. n.rows) made.to_child ∙ c.in_ok-kept.ensures.kept.to_child;
-        grouping = subst (IsGrouping owns (group_links raw node later)) (sym (made.groups ∙ groups)) grouping;
-        best = made.best;
+        shape = c.shape.ensures;
+        rows = c.in_ok-kept.ensures.kept.rows_are;
+        to_child = c.in_ok-kept.ensures.kept.to_child;
+        grouping = subst (IsGrouping owns (group_links raw node later)) (sym groups) grouping;
+        best = c.new.ensures.items;
       };
-  links = ap links_of c.grouped.ensures.links ∙ c.in_ok-kept.ensures.kept.links_are;
+  links = c.in_ok-kept.ensures.kept.links_are;
   few = let numbering = c.in_ok-kept.ensures.kept.numbering in
-      omega (arith, ap (λ ls. length (links_of ls)) c.grouped.ensures.links, numbering.size, numbering.few, c.in_ok-kept.ensures.kept.few_numbers);
+      omega (arith, numbering.size, numbering.few, c.in_ok-kept.ensures.kept.few_numbers);
   cost = c.keep_rows.ensures.cost;
 }
 
@@ -35,6 +35,12 @@ of_numbers-requires g c = record {
       subst (λ ns. All (λ n. n < c.len.result) ns) (sym c.deref.ensures.value) below;
   few = omega (arith, ap length c.deref.ensures.value, c.in_ok-kept.ensures.kept.few_numbers);
 }
+
+pub returns-in_err-kept : goal.returns-in_err-kept
+returns-in_err-kept g c =
+    let r = c.from_residual.result in
+    let e = c.from_residual.ensures.0 in
+    record { reduced = IfOk-from_err r _ e; links = IfOk-from_err r _ e; few = IfOk-from_err r _ e; cost = c.keep_rows.ensures.cost }
 
 pub returns-in-Err : goal.returns-in-Err
 returns-in-Err g c = record { reduced = tt; links = tt; few = tt; cost = c.keep_rows.ensures.cost }

@@ -1,9 +1,6 @@
 use Rattle.std.proofs.Common.{arith}
-use Rattle.std.proofs.lemmas.Result.{IfOk-from_err}
 use Rattle.node_build.proofs.Shaped.{caps_small}
-use Rattle.plan_build.specs.Faults.{TellsFlaw}
-use Rattle.plan_build.proofs.Refusals.{handed_on}
-use Rattle.plan_build.proofs.Rooms.{denied, lex_least, middle_least, small_lex_least, sum_least}
+use Rattle.plan_build.proofs.Rooms.{denied, lex_least, middle_least, packed_least, small_lex_least, sum_least}
 use Rattle.plan_build.proofs.ranked_plan.prepare_ranked.Goals as goal
 
 pub prepare_of-requires-clause-ranks : goal.prepare_of-requires-clause-ranks
@@ -18,104 +15,77 @@ prepare_of-requires-then-has_places-clause-ranks g c =
 
 pub prepare_of-requires-then-has_places-2-clause-ranks : goal.prepare_of-requires-then-has_places-2-clause-ranks
 prepare_of-requires-then-has_places-2-clause-ranks g c =
-    let places = c.has_places-2.ensures.0 c.if-has_places-2.true in
+    let places = c.has_places-else-has_places.ensures.0 c.if-has_places-2.true in
     record { fits = c.requires.fits; keys = places.0; items = places.1; limit = caps_small c.args.query.now c.args.tables.now c.requires.fits }
 
 pub prepare_of-requires-then-has_places-3-clause-ranks : goal.prepare_of-requires-then-has_places-3-clause-ranks
 prepare_of-requires-then-has_places-3-clause-ranks g c =
-    let places = c.has_places-3.ensures.0 c.if-has_places-3.true in
+    let places = c.has_places-else-has_places-2.ensures.0 c.if-has_places-3.true in
     record { fits = c.requires.fits; keys = places.0; items = places.1; limit = caps_small c.args.query.now c.args.tables.now c.requires.fits }
 
-pub prepare_of-requires-2-clause-ranks : goal.prepare_of-requires-2-clause-ranks
-prepare_of-requires-2-clause-ranks g c = record { fits = c.requires.fits; keys = omega arith; items = omega arith; limit = caps_small c.args.query.now c.args.tables.now c.requires.fits }
+pub prepare_of-requires-else-has_places-3-clause-ranks : goal.prepare_of-requires-else-has_places-3-clause-ranks
+prepare_of-requires-else-has_places-3-clause-ranks g c = record { fits = c.requires.fits; keys = omega arith; items = omega arith; limit = caps_small c.args.query.now c.args.tables.now c.requires.fits }
 
-pub returns-in_err-plan : goal.returns-in_err-plan
-returns-in_err-plan g c =
+pub returns-in-Ok : goal.returns-in-Ok
+returns-in-Ok g c =
     record {
-      plan = IfOk-from_err c.from_residual.result _ c.from_residual.ensures.0;
-      smallest = IfOk-from_err c.from_residual.result _ c.from_residual.ensures.0;
-      refusal = handed_on (TellsFlaw c.args.query.now.query c.args.tables.now) c.from_residual.result c.in_err-plan.field-0.0 c.from_residual.ensures.1 c.in_err-plan.ensures.refusal;
-      cost = c.in_err-plan.ensures.cost;
-    }
-
-pub returns-in_err-plan-2 : goal.returns-in_err-plan-2
-returns-in_err-plan-2 g c =
-    record {
-      plan = IfOk-from_err c.from_residual-in_err-plan-2.result _ c.from_residual-in_err-plan-2.ensures.0;
-      smallest = IfOk-from_err c.from_residual-in_err-plan-2.result _ c.from_residual-in_err-plan-2.ensures.0;
-      refusal = handed_on (TellsFlaw c.args.query.now.query c.args.tables.now) c.from_residual-in_err-plan-2.result c.in_err-plan-2.field-0.0 c.from_residual-in_err-plan-2.ensures.1 c.in_err-plan-2.ensures.refusal;
-      cost = c.in_err-plan-2.ensures.cost;
-    }
-
-pub returns-in_err-plan-3 : goal.returns-in_err-plan-3
-returns-in_err-plan-3 g c =
-    record {
-      plan = IfOk-from_err c.from_residual-in_err-plan-3.result _ c.from_residual-in_err-plan-3.ensures.0;
-      smallest = IfOk-from_err c.from_residual-in_err-plan-3.result _ c.from_residual-in_err-plan-3.ensures.0;
-      refusal = handed_on (TellsFlaw c.args.query.now.query c.args.tables.now) c.from_residual-in_err-plan-3.result c.in_err-plan-3.field-0.0 c.from_residual-in_err-plan-3.ensures.1 c.in_err-plan-3.ensures.refusal;
-      cost = c.in_err-plan-3.ensures.cost;
-    }
-
-pub returns-in_err-plan-4 : goal.returns-in_err-plan-4
-returns-in_err-plan-4 g c =
-    record {
-      plan = IfOk-from_err c.from_residual-in_err-plan-4.result _ c.from_residual-in_err-plan-4.ensures.0;
-      smallest = IfOk-from_err c.from_residual-in_err-plan-4.result _ c.from_residual-in_err-plan-4.ensures.0;
-      refusal = handed_on (TellsFlaw c.args.query.now.query c.args.tables.now) c.from_residual-in_err-plan-4.result c.in_err-plan-4.field-0.0 c.from_residual-in_err-plan-4.ensures.1 c.in_err-plan-4.ensures.refusal;
-      cost = c.in_err-plan-4.ensures.cost;
-    }
-
-pub returns-in_err-plan-5 : goal.returns-in_err-plan-5
-returns-in_err-plan-5 g c =
-    record {
-      plan = IfOk-from_err c.from_residual-in_err-plan-5.result _ c.from_residual-in_err-plan-5.ensures.0;
-      smallest = IfOk-from_err c.from_residual-in_err-plan-5.result _ c.from_residual-in_err-plan-5.ensures.0;
-      refusal = handed_on (TellsFlaw c.args.query.now.query c.args.tables.now) c.from_residual-in_err-plan-5.result c.in_err-plan-5.field-0.0 c.from_residual-in_err-plan-5.ensures.1 c.in_err-plan-5.ensures.refusal;
-      cost = c.in_err-plan-5.ensures.cost;
-    }
-
-pub returns-then-has_places : goal.returns-then-has_places
-returns-then-has_places g c =
-    record {
-      plan = c.in_ok-plan-2.ensures.plan;
-      smallest = middle_least c.args.query.now c.args.tables.now c.requires.fits
-          (denied c.has_packed_room.result c.if-has_packed_room.false (c.has_packed_room.ensures c.args.tables.now c.requires.fits))
-          c.in_ok-plan-2.plan (c.has_places.ensures.0 c.if-has_places.true);
+      plan = c.in-Ok.ensures.plan;
+      smallest = packed_least c.args.query.now c.args.tables.now c.requires.fits c.in-Ok.plan ((c.has_packed_room.ensures c.args.tables.now c.requires.fits).0 c.if-has_packed_room.true);
       refusal = tt;
-      cost = c.in_ok-plan-2.ensures.cost;
+      cost = c.in-Ok.ensures.cost;
     }
 
-pub returns-then-has_places-2 : goal.returns-then-has_places-2
-returns-then-has_places-2 g c =
+pub returns-in-Err : goal.returns-in-Err
+returns-in-Err g c = record { plan = tt; smallest = tt; refusal = c.in-Err.ensures.refusal; cost = c.in-Err.ensures.cost }
+
+pub returns-in-Ok-prepare_of : goal.returns-in-Ok-prepare_of
+returns-in-Ok-prepare_of g c =
     record {
-      plan = c.in_ok-plan-3.ensures.plan;
-      smallest = small_lex_least c.args.query.now c.args.tables.now c.requires.fits
-          (denied c.has_packed_room.result c.if-has_packed_room.false (c.has_packed_room.ensures c.args.tables.now c.requires.fits))
-          c.in_ok-plan-3.plan (c.has_places-2.ensures.0 c.if-has_places-2.true);
+      plan = c.in-Ok-prepare_of.ensures.plan;
+      smallest = middle_least c.args.query.now c.args.tables.now c.requires.fits (denied c.has_packed_room.result c.if-has_packed_room.false (c.has_packed_room.ensures c.args.tables.now c.requires.fits)) c.in-Ok-prepare_of.plan (c.has_places.ensures.0 c.if-has_places.true);
       refusal = tt;
-      cost = c.in_ok-plan-3.ensures.cost;
+      cost = c.in-Ok-prepare_of.ensures.cost;
     }
 
-pub returns-then-has_places-3 : goal.returns-then-has_places-3
-returns-then-has_places-3 g c =
+pub returns-in-Err-prepare_of : goal.returns-in-Err-prepare_of
+returns-in-Err-prepare_of g c = record { plan = tt; smallest = tt; refusal = c.in-Err-prepare_of.ensures.refusal; cost = c.in-Err-prepare_of.ensures.cost }
+
+pub returns-in-Ok-prepare_of-2 : goal.returns-in-Ok-prepare_of-2
+returns-in-Ok-prepare_of-2 g c =
     record {
-      plan = c.in_ok-plan-4.ensures.plan;
-      smallest = sum_least c.args.query.now c.args.tables.now c.requires.fits
-          (denied c.has_packed_room.result c.if-has_packed_room.false (c.has_packed_room.ensures c.args.tables.now c.requires.fits))
-          (denied c.has_places.result c.if-has_places.false c.has_places.ensures) (denied c.has_places-2.result c.if-has_places-2.false c.has_places-2.ensures)
-          c.in_ok-plan-4.plan (c.has_places-3.ensures.0 c.if-has_places-3.true);
+      plan = c.in-Ok-prepare_of-2.ensures.plan;
+      smallest = small_lex_least c.args.query.now c.args.tables.now c.requires.fits (denied c.has_packed_room.result c.if-has_packed_room.false (c.has_packed_room.ensures c.args.tables.now c.requires.fits)) c.in-Ok-prepare_of-2.plan (c.has_places-else-has_places.ensures.0 c.if-has_places-2.true);
       refusal = tt;
-      cost = c.in_ok-plan-4.ensures.cost;
+      cost = c.in-Ok-prepare_of-2.ensures.cost;
     }
 
-pub returns : goal.returns
-returns g c =
+pub returns-in-Err-prepare_of-2 : goal.returns-in-Err-prepare_of-2
+returns-in-Err-prepare_of-2 g c = record { plan = tt; smallest = tt; refusal = c.in-Err-prepare_of-2.ensures.refusal; cost = c.in-Err-prepare_of-2.ensures.cost }
+
+pub returns-in-Ok-prepare_of-3 : goal.returns-in-Ok-prepare_of-3
+returns-in-Ok-prepare_of-3 g c =
     record {
-      plan = c.in_ok-plan-5.ensures.plan;
-      smallest = lex_least c.args.query.now c.args.tables.now c.requires.fits
-          (denied c.has_packed_room.result c.if-has_packed_room.false (c.has_packed_room.ensures c.args.tables.now c.requires.fits))
-          (denied c.has_places.result c.if-has_places.false c.has_places.ensures) (denied c.has_places-2.result c.if-has_places-2.false c.has_places-2.ensures)
-          c.in_ok-plan-5.plan (denied c.has_places-3.result c.if-has_places-3.false c.has_places-3.ensures) (omega arith, omega arith);
+      plan = c.in-Ok-prepare_of-3.ensures.plan;
+      smallest = sum_least c.args.query.now c.args.tables.now c.requires.fits (denied c.has_packed_room.result c.if-has_packed_room.false (c.has_packed_room.ensures c.args.tables.now c.requires.fits)) (denied c.has_places.result c.if-has_places.false c.has_places.ensures)
+          (denied c.has_places-else-has_places.result c.if-has_places-2.false c.has_places-else-has_places.ensures)
+          c.in-Ok-prepare_of-3.plan (c.has_places-else-has_places-2.ensures.0 c.if-has_places-3.true);
       refusal = tt;
-      cost = c.in_ok-plan-5.ensures.cost;
+      cost = c.in-Ok-prepare_of-3.ensures.cost;
     }
+
+pub returns-in-Err-prepare_of-3 : goal.returns-in-Err-prepare_of-3
+returns-in-Err-prepare_of-3 g c = record { plan = tt; smallest = tt; refusal = c.in-Err-prepare_of-3.ensures.refusal; cost = c.in-Err-prepare_of-3.ensures.cost }
+
+pub returns-in-Ok-prepare_of-4 : goal.returns-in-Ok-prepare_of-4
+returns-in-Ok-prepare_of-4 g c =
+    record {
+      plan = c.in-Ok-prepare_of-4.ensures.plan;
+      smallest = lex_least c.args.query.now c.args.tables.now c.requires.fits (denied c.has_packed_room.result c.if-has_packed_room.false (c.has_packed_room.ensures c.args.tables.now c.requires.fits)) (denied c.has_places.result c.if-has_places.false c.has_places.ensures)
+          (denied c.has_places-else-has_places.result c.if-has_places-2.false c.has_places-else-has_places.ensures)
+          c.in-Ok-prepare_of-4.plan (denied c.has_places-else-has_places-2.result c.if-has_places-3.false c.has_places-else-has_places-2.ensures) (omega arith, omega arith);
+      refusal = tt;
+      cost = c.in-Ok-prepare_of-4.ensures.cost;
+    }
+
+pub returns-in-Err-prepare_of-4 : goal.returns-in-Err-prepare_of-4
+returns-in-Err-prepare_of-4 g c = record { plan = tt; smallest = tt; refusal = c.in-Err-prepare_of-4.ensures.refusal; cost = c.in-Err-prepare_of-4.ensures.cost }

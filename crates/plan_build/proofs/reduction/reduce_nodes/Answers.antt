@@ -98,15 +98,15 @@ pub loop-node-init : goal.loop-node-init
 loop-node-init g c =
     let raw = c.args.tree.now in
     let all = c.nodes-node.ensures.count in
-    let no_links = ap (map links_of) c.new-later.ensures.items in
+    let no_links = ap (map links_of) c.requires.later in
     record {
       formed = c.nodes-node.ensures.formed;
       shapes = refl;
       rows = λ v h. refl;
-      reduced = from_none raw c.nodes-node.result (map node_view c.args.nodes.now.items) all (ap (map node_view) c.requires);
-      links = links_none raw c.nodes-node.result (map links_of c.new-later.result.items) all no_links;
-      few = few_none (map links_of c.new-later.result.items) no_links;
-      count = omega (arith, all, ap length c.new-later.ensures.items);
+      reduced = from_none raw c.nodes-node.result (map node_view c.args.nodes.now.items) all (ap (map node_view) c.requires.nodes);
+      links = links_none raw c.nodes-node.result (map links_of c.args.later.now.items) all no_links;
+      few = few_none (map links_of c.args.later.now.items) no_links;
+      count = omega (arith, all, ap length c.requires.later);
       counted = omega arith;
     }
 

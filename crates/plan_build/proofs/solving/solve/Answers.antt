@@ -14,9 +14,11 @@ steps_within : (nodes rows before after : ℕ) → 0 < nodes → after ≤ befor
 steps_within nodes rows before after some h = omega (arith, times_small 1 nodes rows (omega arith), h)
 
 pub solve_nodes-requires : goal.solve_nodes-requires
-solve_nodes-requires g c =
-    subst (λ ns. IsLaidOut g.R.Rank.KEYS g.R.Rank.key (tree_view ns)) (sym c.as_mut_slice.ensures.value)
-    c.requires.laid_out
+solve_nodes-requires g c = record {
+  laid_out =
+      subst (λ ns. IsLaidOut g.R.Rank.KEYS g.R.Rank.key (tree_view ns)) (sym c.as_mut_slice.ensures.value)
+      c.requires.laid_out;
+}
 
 pub from_parts-requires : goal.from_parts-requires
 from_parts-requires g c =

@@ -44,7 +44,7 @@ pub solve_node-requires-clause-laid_out : goal.solve_node-requires-clause-laid_o
 solve_node-requires-clause-laid_out g c =
     let before = tree_view c.args.nodes.now in
     let now = tree_view c.loop-node.nodes in
-    layout_kept before now c.loop-node.invariant.reordered g.R.Rank.KEYS g.R.Rank.key (length-map c.loop-node.nodes node_view ∙ c.loop-node.auto.nodes ∙ sym (length-map c.args.nodes.now node_view)) c.requires
+    layout_kept before now c.loop-node.invariant.reordered g.R.Rank.KEYS g.R.Rank.key (length-map c.loop-node.nodes node_view ∙ c.loop-node.auto.nodes ∙ sym (length-map c.args.nodes.now node_view)) c.requires.laid_out
 
 pub solve_node-requires-clause-leasts : goal.solve_node-requires-clause-leasts
 solve_node-requires-clause-leasts g c =

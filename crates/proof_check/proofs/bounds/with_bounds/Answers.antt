@@ -24,15 +24,18 @@ returns-in_err-tops g c = record {
 
 pub line_groups-requires : goal.line_groups-requires
 line_groups-requires g c = record {
-  query = c.args.query.now.query;
-  tables = c.args.tables.now;
-  join = c.args.join.now;
-  ranks = map (λ b. b.ranks.items) c.in_ok-tops.field-0.bounds.items;
-  tree = c.requires.rows;
-  placed = subst (λ tops. ArePlacedLines c.args.query.now.query c.args.tables.now c.args.join.now g.R.Rank.KEYS g.R.Rank.key
-      c.args.raw (proof_view c.args.proof.now) (length c.args.proof.now.bounds.items) tops
-      (map (λ b. b.ranks.items) c.in_ok-tops.field-0.bounds.items)) (sym c.as_slice.ensures.value)
-      (c.in_ok-tops.ensures.placed c.args.query.now.query c.args.tables.now c.args.join.now c.requires.keys c.requires.rows);
+  lines =
+      record {
+        query = c.args.query.now.query;
+        tables = c.args.tables.now;
+        join = c.args.join.now;
+        ranks = map (λ b. b.ranks.items) c.in_ok-tops.field-0.bounds.items;
+        tree = c.requires.rows;
+        placed = subst (λ tops. ArePlacedLines c.args.query.now.query c.args.tables.now c.args.join.now g.R.Rank.KEYS g.R.Rank.key
+            c.args.raw (proof_view c.args.proof.now) (length c.args.proof.now.bounds.items) tops
+            (map (λ b. b.ranks.items) c.in_ok-tops.field-0.bounds.items)) (sym c.as_slice.ensures.value)
+            (c.in_ok-tops.ensures.placed c.args.query.now.query c.args.tables.now c.args.join.now c.requires.keys c.requires.rows);
+      };
 }
 
 pub returns-in_err-groups : goal.returns-in_err-groups
@@ -108,10 +111,13 @@ returns-in_err-name_all g c = record {
 
 pub placed_lines-requires : goal.placed_lines-requires
 placed_lines-requires g c = record {
-  query = c.args.query.now.query;
-  tables = c.args.tables.now;
-  join = c.args.join.now;
-  tree = c.requires.rows;
+  problem =
+      record {
+        query = c.args.query.now.query;
+        tables = c.args.tables.now;
+        join = c.args.join.now;
+        tree = c.requires.rows;
+      };
 }
 
 pub name_all-requires-clause-each_group : goal.name_all-requires-clause-each_group

@@ -3,7 +3,7 @@ use Rattle.rankings.specs.KeyTuple.{KeyOf}
 use Rattle.tdp_core.specs.RawView.{raw_len}
 use Rattle.proof_check.specs.Levels.{IsPast, IsWay, list_at}
 use Rattle.proof_check.proofs.Preparing.{start_rows}
-use Rattle.std.proofs.lemmas.Result.{IfOk-from_err, IfOk-weaker}
+use Rattle.std.proofs.lemmas.Result.{IfOk-weaker}
 use Rattle.proof_check.proofs.choices.node_leaves_after.Goals as goal
 
 pub with_node-requires-clause-prefixes : goal.with_node-requires-clause-prefixes
@@ -20,10 +20,10 @@ leaves_after-good-requires-clause-rows g c n q l h =
     (start_rows (raw_len c.args.tree.now.raw) c.args.join.now.count c.args.node c.args.places.now before.numbers.items
     before.starts.items c.requires.ready.node c.requires.within c.requires.prefixes n q (subst (λ xs. n < length xs) value l) h)
 
-pub returns : goal.returns
-returns g c = record {
+pub returns-in-Ok : goal.returns-in-Ok
+returns-in-Ok g c = record {
   prefixes =
-      IfOk-weaker c.leaves_after-good.result _ _ (λ good _. c.in_ok-next.ensures.next) c.leaves_after-good.ensures.passed;
+      IfOk-weaker c.leaves_after-good.result _ _ (λ good _. c.in-Ok.ensures.next) c.leaves_after-good.ensures.passed;
   passed =
       let d = g.R.Rank.KEYS in
       let key = g.R.Rank.key in
@@ -33,7 +33,7 @@ returns g c = record {
         numbers = c.args.prefixes.now.numbers.items;
         starts = c.args.prefixes.now.starts.items;
         pairs = pairs;
-        beginnings = record { prefixes = c.requires.prefixes; taken = c.in_ok-next.ensures.taken };
+        beginnings = record { prefixes = c.requires.prefixes; taken = c.in-Ok.ensures.taken };
         passed = subst (λ xs. (n i : ℕ) (k : KeyOf d 16) → IsWay c.args.join.now c.args.tree.now d key c.args.node xs pairs n i k
             → IsPast d (option_map key c.args.last.now) k) c.deref.ensures.value (after is);
       }) c.leaves_after-good.ensures.passed;
@@ -48,7 +48,7 @@ returns g c = record {
         numbers = c.args.prefixes.now.numbers.items;
         starts = c.args.prefixes.now.starts.items;
         pairs = pairs;
-        beginnings = record { prefixes = c.requires.prefixes; taken = c.in_ok-next.ensures.taken };
+        beginnings = record { prefixes = c.requires.prefixes; taken = c.in-Ok.ensures.taken };
         number = m.0;
         row = m.1.0;
         rank = m.1.1.0;
@@ -58,9 +58,5 @@ returns g c = record {
       }) c.leaves_after-good.ensures.missed;
 }
 
-pub returns-in_err-next : goal.returns-in_err-next
-returns-in_err-next g c = record {
-  prefixes = IfOk-from_err c.from_residual.result _ c.from_residual.ensures.0;
-  passed = IfOk-from_err c.from_residual.result _ c.from_residual.ensures.0;
-  missed = IfOk-from_err c.from_residual.result _ c.from_residual.ensures.0;
-}
+pub returns-in-Err : goal.returns-in-Err
+returns-in-Err g c = record { prefixes = tt; passed = tt; missed = tt }

@@ -14,7 +14,7 @@ use Rattle.proof_check.proofs.groups.line_groups.Goals as goal
 
 pub overflow_sub-node : goal.overflow_sub-node
 overflow_sub-node g c =
-    let h = c.requires in
+    let h = c.requires.lines in
     let value = c.deref-bound-items.ensures.value in
     some_node_lem h.query h.tables h.join g.R.Rank.KEYS g.R.Rank.key c.args.raw.now c.nodes.ensures.formed.shaped h.tree c.args.proof.now
     c.args.tops.now h.ranks h.placed c.loop-line.line c.bound-item.result
@@ -23,7 +23,7 @@ overflow_sub-node g c =
 
 pub group_link-link-requires-clause-node : goal.group_link-link-requires-clause-node
 group_link-link-requires-clause-node g c =
-    let h = c.requires in
+    let h = c.requires.lines in
     let value = c.deref-bound-items.ensures.value in
     node_within h.query h.tables h.join g.R.Rank.KEYS g.R.Rank.key c.args.raw.now c.nodes.ensures.formed.shaped h.tree c.args.proof.now
     c.args.tops.now h.ranks h.placed c.loop-line.line c.bound-item.result
@@ -32,7 +32,7 @@ group_link-link-requires-clause-node g c =
 
 pub group_link-link-requires-clause-place : goal.group_link-link-requires-clause-place
 group_link-link-requires-clause-place g c =
-    let h = c.requires in
+    let h = c.requires.lines in
     let value = c.deref-bound-items.ensures.value in
     let inside = subst (λ xs. c.loop-line.line < length xs) value c.loop-line-test.true in
     h.placed.within (c.bound-item.result.node - 1) c.loop-line.line inside
@@ -42,7 +42,7 @@ group_link-link-requires-clause-place g c =
 
 pub index_mut-requires : goal.index_mut-requires
 index_mut-requires g c =
-    let h = c.requires in
+    let h = c.requires.lines in
     let value = c.deref-bound-items.ensures.value in
     let low = node_within h.query h.tables h.join g.R.Rank.KEYS g.R.Rank.key c.args.raw.now c.nodes.ensures.formed.shaped h.tree c.args.proof.now
     c.args.tops.now h.ranks h.placed c.loop-line.line c.bound-item.result
@@ -53,7 +53,7 @@ index_mut-requires g c =
 
 pub add_group-requires : goal.add_group-requires
 add_group-requires g c =
-    let h = c.requires in
+    let h = c.requires.lines in
     let value = c.deref-bound-items.ensures.value in
     let inside = subst (λ xs. c.loop-line.line < length xs) value c.loop-line-test.true in
     let low = node_within h.query h.tables h.join g.R.Rank.KEYS g.R.Rank.key c.args.raw.now c.nodes.ensures.formed.shaped h.tree c.args.proof.now
@@ -97,7 +97,7 @@ returns-in-Ok-false g c = record {
 
 pub loop-line-preserved : goal.loop-line-preserved
 loop-line-preserved g c =
-    let h = c.requires in
+    let h = c.requires.lines in
     let shaped = c.nodes.ensures.formed.shaped in
     let value = c.deref-bound-items.ensures.value in
     let inside = subst (λ xs. c.loop-line.line < length xs) value c.loop-line-test.true in
@@ -146,7 +146,7 @@ bounds-bound-items-line g c = c.loop-line-test.true
 pub bounds-tops-line : goal.bounds-tops-line
 bounds-tops-line g c =
     let inside = subst (λ xs. c.loop-line.line < length xs) c.deref-bound-items.ensures.value c.loop-line-test.true in
-    omega (arith, inside, c.requires.placed.count)
+    omega (arith, inside, c.requires.lines.placed.count)
 
 pub loop-line-init : goal.loop-line-init
 loop-line-init g c =

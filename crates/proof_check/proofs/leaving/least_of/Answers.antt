@@ -14,13 +14,15 @@ loop-n-init g c = record {
 }
 
 pub lower-requires : goal.lower-requires
-lower-requires g c =
-    let here : get_or c.args.branches.now c.loop-n.n None ≡ Some c.in-Some.branch =
-    get_or_default c.args.branches.now c.loop-n.n None c.index-branches-n.result c.loop-n-test.true
-    ∙ sym c.index-branches-n.is ∙ c.in-Some.is in
-    let l = c.requires.within c.loop-n.n c.in-Some.branch c.loop-n-test.true here in
-    let n = c.loop-n.invariant.count in
-    at_list _ _ _ l (c.loop-n.least.ok.0 ∙ n)
+lower-requires g c = record {
+  there =
+      let here : get_or c.args.branches.now c.loop-n.n None ≡ Some c.in-Some.branch =
+      get_or_default c.args.branches.now c.loop-n.n None c.index-branches-n.result c.loop-n-test.true
+      ∙ sym c.index-branches-n.is ∙ c.in-Some.is in
+      let l = c.requires.within c.loop-n.n c.in-Some.branch c.loop-n-test.true here in
+      let n = c.loop-n.invariant.count in
+      at_list _ _ _ l (c.loop-n.least.ok.0 ∙ n);
+}
 
 pub loop-n-preserved : goal.loop-n-preserved
 loop-n-preserved g c =

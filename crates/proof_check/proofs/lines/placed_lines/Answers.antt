@@ -50,36 +50,36 @@ returns-in_default g c = record {
 
 pub overflow_sub-node : goal.overflow_sub-node
 overflow_sub-node g c =
-    let s = c.in-Some.ensures c.requires.query c.requires.tables c.requires.join c.requires.tree in
+    let s = c.in-Some.ensures c.requires.problem.query c.requires.problem.tables c.requires.problem.join c.requires.problem.tree in
     line_some c.bound-item.result.node s.0 s.2
 
 pub rank_of_places-rank-requires-clause-node : goal.rank_of_places-rank-requires-clause-node
 rank_of_places-rank-requires-clause-node g c =
-    let s = c.in-Some.ensures c.requires.query c.requires.tables c.requires.join c.requires.tree in
+    let s = c.in-Some.ensures c.requires.problem.query c.requires.problem.tables c.requires.problem.join c.requires.problem.tree in
     line_below c.bound-item.result.node s.0 s.2 (length c.args.raw.now.shapes) s.1
 
 pub rank_of_places-rank-requires-clause-solution : goal.rank_of_places-rank-requires-clause-solution
 rank_of_places-rank-requires-clause-solution g c =
-    let s = c.in-Some.ensures c.requires.query c.requires.tables c.requires.join c.requires.tree in
+    let s = c.in-Some.ensures c.requires.problem.query c.requires.problem.tables c.requires.problem.join c.requires.problem.tree in
     let node = line_pred c.bound-item.result.node s.0 s.2 in
     record {
-      query = c.requires.query;
-      tables = c.requires.tables;
-      join = c.requires.join;
+      query = c.requires.problem.query;
+      tables = c.requires.problem.tables;
+      join = c.requires.problem.join;
       rows = c.bound-item.result.rows.items;
-      tree = c.requires.tree;
-      placed = subst (λ v. ArePlacesOf c.requires.query c.requires.tables c.requires.join c.args.raw.now v
+      tree = c.requires.problem.tree;
+      placed = subst (λ v. ArePlacesOf c.requires.problem.query c.requires.problem.tables c.requires.problem.join c.args.raw.now v
           c.bound-item.result.rows.items c.in-Some.places) node s.3;
     }
 
 pub bounds-places-node : goal.bounds-places-node
 bounds-places-node g c =
-    let s = c.in-Some.ensures c.requires.query c.requires.tables c.requires.join c.requires.tree in
+    let s = c.in-Some.ensures c.requires.problem.query c.requires.problem.tables c.requires.problem.join c.requires.problem.tree in
     line_within c.bound-item.result.node s.0 s.2 (length c.args.raw.now.shapes) 16 s.1 c.nodes.ensures.formed.shaped.few_nodes
 
 pub index_mut-of_node-requires : goal.index_mut-of_node-requires
 index_mut-of_node-requires g c =
-    let s = c.in-Some.ensures c.requires.query c.requires.tables c.requires.join c.requires.tree in
+    let s = c.in-Some.ensures c.requires.problem.query c.requires.problem.tables c.requires.problem.join c.requires.problem.tree in
     line_index c.bound-item.result.node s.0 s.2 (length c.args.raw.now.shapes) (length c.loop-bound.bounds.items) c.loop-bound.bounds.len
     s.1 c.loop-bound.invariant.each_node c.loop-bound.bounds.ok.0
 
@@ -88,7 +88,7 @@ loop-bound-preserved g c =
     let node : ℕ = c.bound-item.result.node - 1 in
     let bounds = c.loop-bound.bounds.items in
     let old = c.index_mut-of_node.result.now in
-    let s0 = c.in-Some.ensures c.requires.query c.requires.tables c.requires.join c.requires.tree in
+    let s0 = c.in-Some.ensures c.requires.problem.query c.requires.problem.tables c.requires.problem.join c.requires.problem.tree in
     let room : c.bound-item.result.node - 1 < length bounds =
     at_list (c.bound-item.result.node - 1) (length c.args.raw.now.shapes) (length bounds)
     (line_below c.bound-item.result.node s0.0 s0.2 (length c.args.raw.now.shapes) s0.1) c.loop-bound.invariant.each_node in

@@ -24,7 +24,7 @@ all zero = refl
 all (suc n) = ap suc (all n)
 
 pub invariant_of-result : goal.invariant_of-result
-invariant_of-result g c = rw (c.in_ok-opened.ensures.items_if_clones_equal (λ y same. same)) (own c.args.rows 0, none_chunked c.args.width _ (ap (λ vs. items_of vs) c.new-chunks.ensures.items), omega arith, λ some. absurd (omega (arith, some)))
+invariant_of-result g c = rw (c.in_ok-opened.ensures.items_if_clones_equal (λ y same. same)) (own c.args.rows 0, none_chunked c.args.width _ (ap (λ vs. items_of vs) c.new.ensures.items), omega arith, λ some. absurd (omega (arith, some)))
 
 pub returns : goal.returns
 returns g c =
@@ -42,10 +42,10 @@ returns-in_err-opened g c =
       none = none_given _ c.from_residual-in_err-opened.result c.from_residual-in_err-opened.ensures.0;
     }
 
-pub returns-in_err-clone-2 : goal.returns-in_err-clone-2
-returns-in_err-clone-2 g c =
+pub returns-in_err-of_chunks : goal.returns-in_err-of_chunks
+returns-in_err-of_chunks g c =
     record {
-      width = none_given _ c.from_residual-in_err-clone-2.result c.from_residual-in_err-clone-2.ensures.0;
-      count = none_given _ c.from_residual-in_err-clone-2.result c.from_residual-in_err-clone-2.ensures.0;
-      none = none_given _ c.from_residual-in_err-clone-2.result c.from_residual-in_err-clone-2.ensures.0;
+      width = none_given _ c.from_residual-in_err-of_chunks.result c.from_residual-in_err-of_chunks.ensures.0;
+      count = none_given _ c.from_residual-in_err-of_chunks.result c.from_residual-in_err-of_chunks.ensures.0;
+      none = none_given _ c.from_residual-in_err-of_chunks.result c.from_residual-in_err-of_chunks.ensures.0;
     }

@@ -1,15 +1,18 @@
-use Rattle.std.proofs.Common.{◌≡◌, ℕ, ◌-◌, ◌^◌, ◌<◌, ◌≤◌, min, List, length, refl, sym, ap, ◌∙◌, subst, arith}
+use mir.Val.{bool_byte}
+use Rattle.std.proofs.Common.{◌≡◌, ℕ, ◌-◌, ◌^◌, ◌<◌, ◌≤◌, min, Bool, true, false, IsTrue, List, length, refl, sym, ap, ◌∙◌, subst, arith}
 use Rattle.std.proofs.lemmas.Bool.{false≢true}
 use Rattle.anyk_rec.specs.declared.cell.Cell.{Cell}
 use Rattle.anyk_rec.specs.ProductView.{ProductView}
-use Rattle.anyk_rec.proofs.Errors.{none_done}
+use Rattle.anyk_rec.proofs.Errors.{none_done, ok_then}
+use Rattle.anyk_rec.proofs.SearchCalls.{on_ok}
 use Rattle.anyk_rec.proofs.product.Product.reserve.Goals as goal
 
 room_left : (a n : ℕ) → 0 < a → n < 2 ^ 32 - 1 → 0 < min a (2 ^ 32 - 1 - n)
 room_left a n some few = omega arith
 
-some_left : (n : ℕ) → 1 ≤ n → 0 < n
-some_left n h = omega arith
+room_beside : (b : Bool) (n : ℕ) → IsTrue b → bool_byte b ≤ n → 0 < n
+room_beside true n later more = omega (arith, more)
+room_beside false n later more = absurd (false≢true later)
 
 few_left : {n : ℕ} {before after : List Cell} → n ≡ length before → n < 2 ^ 32 - 1 → after ≡ before → length after < 2 ^ 32 - 1
 few_left e few same = subst (λ (l : List Cell). length l < 2 ^ 32 - 1) (sym same) (subst (λ k. k < 2 ^ 32 - 1) e few)
@@ -24,34 +27,14 @@ returns-in_err-reserve g c =
       found = c.reserve.ensures.cells ∙ ap (λ (p : ProductView g.row.R.Denot). p.found) c.self.view_is;
     }
 
-pub returns-in_err-reserve-2 : goal.returns-in_err-reserve-2
-returns-in_err-reserve-2 g c =
+pub returns : goal.returns
+returns g c =
     record {
-      frontier = c.reserve-then-beside.ensures.entries ∙ ap (λ (p : ProductView g.row.R.Denot). p.frontier) c.self.view_is;
-      frontier_room = none_done _ c.from_residual-in_err-reserve-2.result c.from_residual-in_err-reserve-2.ensures.0;
+      frontier = c.reserve-2.ensures.entries ∙ ap (λ (p : ProductView g.row.R.Denot). p.frontier) c.self.view_is;
       ranks = c.reserve.ensures.ranks ∙ ap (λ (p : ProductView g.row.R.Denot). p.ranks) c.self.view_is;
+      room = on_ok c.reserve-2.result (room_left _ _ c.in_ok-reserve.ensures.spare (few_left c.len.ensures c.if-len.false c.reserve.ensures.cells));
+      frontier_room = ok_then c.reserve-2.result (λ more b. room_beside c.args.beside _ b more) c.reserve-2.ensures.ok;
       found = c.reserve.ensures.cells ∙ ap (λ (p : ProductView g.row.R.Denot). p.found) c.self.view_is;
-      room = none_done _ c.from_residual-in_err-reserve-2.result c.from_residual-in_err-reserve-2.ensures.0;
-    }
-
-pub returns-in_ok-reserve-2 : goal.returns-in_ok-reserve-2
-returns-in_ok-reserve-2 g c =
-    record {
-      frontier = c.reserve-then-beside.ensures.entries ∙ ap (λ (p : ProductView g.row.R.Denot). p.frontier) c.self.view_is;
-      ranks = c.reserve.ensures.ranks ∙ ap (λ (p : ProductView g.row.R.Denot). p.ranks) c.self.view_is;
-      room = room_left _ _ c.in_ok-reserve.ensures.spare (few_left c.len.ensures c.if-len.false c.reserve.ensures.cells);
-      frontier_room = λ b. some_left _ c.in_ok-reserve-2.ensures.ok;
-      found = c.reserve.ensures.cells ∙ ap (λ (p : ProductView g.row.R.Denot). p.found) c.self.view_is;
-    }
-
-pub returns-else-beside : goal.returns-else-beside
-returns-else-beside g c =
-    record {
-      frontier_room = λ b. absurd (false≢true (sym c.if-beside.false ∙ b));
-      room = room_left _ _ c.in_ok-reserve.ensures.spare (few_left c.len.ensures c.if-len.false c.reserve.ensures.cells);
-      frontier = ap (λ (p : ProductView g.row.R.Denot). p.frontier) c.self.view_is;
-      found = c.reserve.ensures.cells ∙ ap (λ (p : ProductView g.row.R.Denot). p.found) c.self.view_is;
-      ranks = c.reserve.ensures.ranks ∙ ap (λ (p : ProductView g.row.R.Denot). p.ranks) c.self.view_is;
     }
 
 pub returns-then-len : goal.returns-then-len
@@ -60,8 +43,5 @@ returns-then-len g c = record { found = refl; ranks = refl; frontier = refl; roo
 pub invariant_of-self : goal.invariant_of-self
 invariant_of-self g c = subst (λ (l : List Cell). (0 < length l) × (length l < 2 ^ 32)) (sym c.reserve.ensures.cells) c.self.invariant
 
-pub invariant_of-self-in_err-reserve-2 : goal.invariant_of-self-in_err-reserve-2
-invariant_of-self-in_err-reserve-2 g c = subst (λ (l : List Cell). (0 < length l) × (length l < 2 ^ 32)) (sym c.reserve.ensures.cells) c.self.invariant
-
-pub invariant_of-self-else-beside : goal.invariant_of-self-else-beside
-invariant_of-self-else-beside g c = subst (λ (l : List Cell). (0 < length l) × (length l < 2 ^ 32)) (sym c.reserve.ensures.cells) c.self.invariant
+pub invariant_of-self-2 : goal.invariant_of-self-2
+invariant_of-self-2 g c = subst (λ (l : List Cell). (0 < length l) × (length l < 2 ^ 32)) (sym c.reserve.ensures.cells) c.self.invariant

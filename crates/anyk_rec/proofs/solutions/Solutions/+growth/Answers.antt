@@ -29,7 +29,7 @@ use Rattle.anyk_rec.proofs.SearchRoom.{unstepped_on}
 use Rattle.anyk_rec.proofs.SearchSteps.{searched, left_or_none, all_or_none, left_reached, left_few, left_within, count_few}
 use Rattle.anyk_rec.proofs.SearchCalls.{on_ok, on_err, not_some, next_read, opened_grown}
 use Rattle.anyk_rec.proofs.solutions.Solutions.+growth.Given.{Over}
-use Rattle.anyk_rec.proofs.solutions.Solutions.+growth.Goals.{after-After-extend, after-After-get-found, after-After-open_row, after-After-place_after-count, after-In-Some-top, search-After-after, search-After-extend, search-After-make_room, extend-then-place-known-via-then-place-known, extend-then-place-known-via-else-place-known+then-count-eq0}
+use Rattle.anyk_rec.proofs.solutions.Solutions.+growth.Goals.{after-After-extend, after-After-get, after-After-open_row, after-After-place_after-count, after-In-Some-top, search-After-after, search-After-extend, search-After-make_room, extend-then-place-known-via-then-place-known, extend-then-place-known-via-else-place-known+then-count-eq0}
 use Rattle.anyk_rec.proofs.solutions.Solutions.+growth.Goals as goal
 
 -- # Numbers
@@ -143,22 +143,22 @@ left_smaller t n n' v count k h last same few = omega arith
 -- # What the proofs share about a call for the next entry
 
 module _ (g : Over) (t : ℕ) where
-  entry_owned : (c : after-After-get-found g t) → IsOwned g.R.Rank.KEYS g.R.Rank.key c.args.self.now.tree.now c.args.self.now.entries.entries c.args.self.now.nodes.items c.args.entry c.get-found.result.now
-  entry_owned c = owned g.R.Rank.KEYS g.R.Rank.key c.args.self.now.tree.now c.args.self.now.entries.entries c.args.self.now.nodes.items c.args.entry c.get-found.result.now c.requires.formed c.requires.entry c.get-found.ensures.value
+  entry_owned : (c : after-After-get g t) → IsOwned g.R.Rank.KEYS g.R.Rank.key c.args.self.now.tree.now c.args.self.now.entries.entries c.args.self.now.nodes.items c.args.entry c.get.result.now
+  entry_owned c = owned g.R.Rank.KEYS g.R.Rank.key c.args.self.now.tree.now c.args.self.now.entries.entries c.args.self.now.nodes.items c.args.entry c.get.result.now c.requires.formed c.requires.entry c.get.ensures.value
 
-  top_of : (c : after-In-Some-top g t) → IsOwned g.R.Rank.KEYS g.R.Rank.key c.args.self.now.tree.now c.args.self.now.entries.entries c.args.self.now.nodes.items c.args.entry c.get-found.result.now → IsTopRead c.args.self.now.tree.now c.args.self.now.nodes.items c.get-found.result.now c.in-Some-top.top
+  top_of : (c : after-In-Some-top g t) → IsOwned g.R.Rank.KEYS g.R.Rank.key c.args.self.now.tree.now c.args.self.now.entries.entries c.args.self.now.nodes.items c.args.entry c.get.result.now → IsTopRead c.args.self.now.tree.now c.args.self.now.nodes.items c.get.result.now c.in-Some-top.top
   top_of c o = top_read o c.in-Some-top.top (c.top.ensures.variant.0 (ap is_some c.in-Some-top.is)) (c.in-Some-top.ensures.top c.in-Some-top.top)
 
-  row_of : (c : after-After-open_row g t) → IsOwned g.R.Rank.KEYS g.R.Rank.key c.args.self.now.tree.now c.args.self.now.entries.entries c.args.self.now.nodes.items c.args.entry c.get-found.result.now → IsTopRead c.args.self.now.tree.now c.args.self.now.nodes.items c.get-found.result.now c.in-Some-top.top → IsRowOpen g.R.Rank.KEYS g.R.Rank.key c.args.self.now.tree.now c.args.self.now.entries.entries c.args.self.now.nodes.items c.open_row.new.self.nodes.items c.get-found.result.now c.in-Some-top.top c.in-Some-top.top.tag.row c.args.steps.now c.open_row.new.steps
+  row_of : (c : after-After-open_row g t) → IsOwned g.R.Rank.KEYS g.R.Rank.key c.args.self.now.tree.now c.args.self.now.entries.entries c.args.self.now.nodes.items c.args.entry c.get.result.now → IsTopRead c.args.self.now.tree.now c.args.self.now.nodes.items c.get.result.now c.in-Some-top.top → IsRowOpen g.R.Rank.KEYS g.R.Rank.key c.args.self.now.tree.now c.args.self.now.entries.entries c.args.self.now.nodes.items c.open_row.new.self.nodes.items c.get.result.now c.in-Some-top.top c.in-Some-top.top.tag.row c.args.steps.now c.open_row.new.steps
   row_of c o p =
-      row_open o p c.open_row.new.self.tree.now c.open_row.new.self.entries.entries c.open_row.new.self.nodes.items c.in-Some-top.top.tag.row c.args.steps.now c.open_row.new.steps p.row c.open_row.ensures.tree (ap (λ z. z.entries) c.open_row.ensures.entries) c.open_row.ensures.formed c.open_row.ensures.above c.open_row.ensures.streams c.open_row.ensures.queues (opened_steps c.args.steps.now c.next_of.new.steps c.get-found.new.steps c.open_row.new.steps (3 * child_count c.args.self.now.tree.now c.get-found.result.now.node) c.next_of.ensures.cost c.get-found.ensures.cost c.open_row.ensures.cost)
+      row_open o p c.open_row.new.self.tree.now c.open_row.new.self.entries.entries c.open_row.new.self.nodes.items c.in-Some-top.top.tag.row c.args.steps.now c.open_row.new.steps p.row c.open_row.ensures.tree (ap (λ z. z.entries) c.open_row.ensures.entries) c.open_row.ensures.formed c.open_row.ensures.above c.open_row.ensures.streams c.open_row.ensures.queues (opened_steps c.args.steps.now c.next_of.new.steps c.get.new.steps c.open_row.new.steps (3 * child_count c.args.self.now.tree.now c.get.result.now.node) c.next_of.ensures.cost c.get.ensures.cost c.open_row.ensures.cost)
 
-  counted_of : (c : after-After-place_after-count g t) → IsOwned g.R.Rank.KEYS g.R.Rank.key c.args.self.now.tree.now c.args.self.now.entries.entries c.args.self.now.nodes.items c.args.entry c.get-found.result.now → IsRowOpen g.R.Rank.KEYS g.R.Rank.key c.args.self.now.tree.now c.args.self.now.entries.entries c.args.self.now.nodes.items c.open_row.new.self.nodes.items c.get-found.result.now c.in-Some-top.top c.in-Some-top.top.tag.row c.args.steps.now c.open_row.new.steps → IsRowCounted c.args.self.now.tree.now c.open_row.new.self.nodes.items c.get-found.result.now c.in-Some-top.top c.in-Some-top.top.tag.row c.place_after-count.result.0
+  counted_of : (c : after-After-place_after-count g t) → IsOwned g.R.Rank.KEYS g.R.Rank.key c.args.self.now.tree.now c.args.self.now.entries.entries c.args.self.now.nodes.items c.args.entry c.get.result.now → IsRowOpen g.R.Rank.KEYS g.R.Rank.key c.args.self.now.tree.now c.args.self.now.entries.entries c.args.self.now.nodes.items c.open_row.new.self.nodes.items c.get.result.now c.in-Some-top.top c.in-Some-top.top.tag.row c.args.steps.now c.open_row.new.steps → IsRowCounted c.args.self.now.tree.now c.open_row.new.self.nodes.items c.get.result.now c.in-Some-top.top c.in-Some-top.top.tag.row c.place_after-count.result.0
   counted_of c o a = row_counted o a c.place_after-count.result.0 c.place_after-count.ensures.count c.in_ok-open_row.ensures.count
 
-  search_of : (c : after-After-extend g t) → IsRowSearched g.R.Rank.KEYS g.R.Rank.key c.args.self.now.tree.now c.args.self.now.entries.entries c.extend.new.self.entries.entries c.open_row.new.self.nodes.items c.extend.new.self.nodes.items c.get-found.result.now.node c.in-Some-top.top.tag.row c.place_after-count.result.0 c.open_row.new.steps c.extend.new.steps
+  search_of : (c : after-After-extend g t) → IsRowSearched g.R.Rank.KEYS g.R.Rank.key c.args.self.now.tree.now c.args.self.now.entries.entries c.extend.new.self.entries.entries c.open_row.new.self.nodes.items c.extend.new.self.nodes.items c.get.result.now.node c.in-Some-top.top.tag.row c.place_after-count.result.0 c.open_row.new.steps c.extend.new.steps
   search_of c =
-      row_searched g.R.Rank.KEYS g.R.Rank.key c.args.self.now.tree.now c.open_row.new.self.tree.now c.extend.new.self.tree.now c.args.self.now.entries.entries c.open_row.new.self.entries.entries c.extend.new.self.entries.entries c.open_row.new.self.nodes.items c.extend.new.self.nodes.items c.get-found.result.now.node c.in-Some-top.top.tag.row c.place_after-count.result.0 c.open_row.new.steps c.extend.new.steps c.open_row.ensures.tree (ap (λ z. z.entries) c.open_row.ensures.entries) c.extend.ensures.tree c.extend.ensures.formed c.extend.ensures.extended c.extend.ensures.queues c.extend.ensures.cost
+      row_searched g.R.Rank.KEYS g.R.Rank.key c.args.self.now.tree.now c.open_row.new.self.tree.now c.extend.new.self.tree.now c.args.self.now.entries.entries c.open_row.new.self.entries.entries c.extend.new.self.entries.entries c.open_row.new.self.nodes.items c.extend.new.self.nodes.items c.get.result.now.node c.in-Some-top.top.tag.row c.place_after-count.result.0 c.open_row.new.steps c.extend.new.steps c.open_row.ensures.tree (ap (λ z. z.entries) c.open_row.ensures.entries) c.extend.ensures.tree c.extend.ensures.formed c.extend.ensures.extended c.extend.ensures.queues c.extend.ensures.cost
 
   -- # What they share about a search in a row
 
@@ -180,45 +180,45 @@ module _ (g : Over) (t : ℕ) where
 pub after-top-requires-clause-node : goal.after-top-requires-clause-node
 after-top-requires-clause-node g t c =
     let at = goal.at.after-top-requires-clause-node g t c in
-    let o = entry_owned g t at.After-get-found in
+    let o = entry_owned g t at.After-get in
     o.in_nodes
 
 pub after-top-requires-clause-group : goal.after-top-requires-clause-group
 after-top-requires-clause-group g t c =
     let at = goal.at.after-top-requires-clause-group g t c in
-    let o = entry_owned g t at.After-get-found in
-    in_same _ _ _ o.group (o.formed.all_streams c.get-found.result.now.node o.node)
+    let o = entry_owned g t at.After-get in
+    in_same _ _ _ o.group (o.formed.all_streams c.get.result.now.node o.node)
 
 pub after-open_row-requires-clause-node : goal.after-open_row-requires-clause-node
 after-open_row-requires-clause-node g t c =
     let at = goal.at.after-open_row-requires-clause-node g t c in
-    let o = entry_owned g t at.After-get-found in
+    let o = entry_owned g t at.After-get in
     o.node
 
 pub after-open_row-requires-clause-group : goal.after-open_row-requires-clause-group
 after-open_row-requires-clause-group g t c =
     let at = goal.at.after-open_row-requires-clause-group g t c in
-    let o = entry_owned g t at.After-get-found in
+    let o = entry_owned g t at.After-get in
     o.group
 
 pub after-open_row-requires-clause-row : goal.after-open_row-requires-clause-row
 after-open_row-requires-clause-row g t c =
     let at = goal.at.after-open_row-requires-clause-row g t c in
-    let o = entry_owned g t at.After-get-found in
+    let o = entry_owned g t at.After-get in
     let p = top_of g t at.In-Some-top o in
     row_within o p c.in-Some-top.top.tag.row p.row
 
 pub after-open_row-requires-clause-place : goal.after-open_row-requires-clause-place
 after-open_row-requires-clause-place g t c =
     let at = goal.at.after-open_row-requires-clause-place g t c in
-    let o = entry_owned g t at.After-get-found in
+    let o = entry_owned g t at.After-get in
     let p = top_of g t at.In-Some-top o in
-    subst (λ r. c.in-Some-top.top.tag.place < row_known c.args.self.now.nodes.items c.get-found.result.now.node r) (sym p.row) p.known
+    subst (λ r. c.in-Some-top.top.tag.place < row_known c.args.self.now.nodes.items c.get.result.now.node r) (sym p.row) p.known
 
 pub after-place_after-count-requires-clause-node : goal.after-place_after-count-requires-clause-node
 after-place_after-count-requires-clause-node g t c =
     let at = goal.at.after-place_after-count-requires-clause-node g t c in
-    let o = entry_owned g t at.After-get-found in
+    let o = entry_owned g t at.After-get in
     let p = top_of g t at.In-Some-top o in
     let a = row_of g t at.After-open_row o p in
     a.in_nodes
@@ -226,15 +226,15 @@ after-place_after-count-requires-clause-node g t c =
 pub after-place_after-count-requires-clause-opened : goal.after-place_after-count-requires-clause-opened
 after-place_after-count-requires-clause-opened g t c =
     let at = goal.at.after-place_after-count-requires-clause-opened g t c in
-    let o = entry_owned g t at.After-get-found in
+    let o = entry_owned g t at.After-get in
     let p = top_of g t at.In-Some-top o in
     let a = row_of g t at.After-open_row o p in
-    chain (length (products_of c.open_row.new.self.nodes.items c.get-found.result.now.node c.in-Some-top.top.tag.row)) (child_count c.args.self.now.tree.now c.get-found.result.now.node) (length (lists_of c.open_row.new.self.nodes.items c.get-found.result.now.node).children) c.in_ok-open_row.ensures.count (sym (a.formed.all_children c.get-found.result.now.node o.node))
+    chain (length (products_of c.open_row.new.self.nodes.items c.get.result.now.node c.in-Some-top.top.tag.row)) (child_count c.args.self.now.tree.now c.get.result.now.node) (length (lists_of c.open_row.new.self.nodes.items c.get.result.now.node).children) c.in_ok-open_row.ensures.count (sym (a.formed.all_children c.get.result.now.node o.node))
 
 pub after-place_after-count-requires-clause-known : goal.after-place_after-count-requires-clause-known
 after-place_after-count-requires-clause-known g t c =
     let at = goal.at.after-place_after-count-requires-clause-known g t c in
-    let o = entry_owned g t at.After-get-found in
+    let o = entry_owned g t at.After-get in
     let p = top_of g t at.In-Some-top o in
     let a = row_of g t at.After-open_row o p in
     a.known
@@ -242,42 +242,42 @@ after-place_after-count-requires-clause-known g t c =
 pub after-extend-requires : goal.after-extend-requires
 after-extend-requires g t c κs within =
     let at = goal.at.after-extend-requires g t c in
-    let o = entry_owned g t at.After-get-found in
+    let o = entry_owned g t at.After-get in
     let p = top_of g t at.In-Some-top o in
     let a = row_of g t at.After-open_row o p in
     let k = counted_of g t at.After-place_after-count o a in
-    (row_smaller _ _ _ _ _ _ c.decreases o.node_is (same (λ (z : List (NodeView g.row.R.Denot)). length z) c.open_row.new.self.tree.now c.args.self.now.tree.now c.open_row.ensures.tree) o.node (kids_few _ _ _ _ k.all (kids_below_most (parent c.args.self.now.tree.now) c.get-found.result.now.node (length c.args.self.now.tree.now)) o.formed.tree.shaped.few_nodes), (within.0, (within.1.0, (within.1.1, (c.open_row.ensures.formed, (back IsTieFreeTree c.args.self.now.tree.now c.open_row.new.self.tree.now c.open_row.ensures.tree c.requires.tie_free, (back (λ (z : List (NodeView g.row.R.Denot)). c.get-found.result.now.node < length z) c.args.self.now.tree.now c.open_row.new.self.tree.now c.open_row.ensures.tree o.node, (back (λ (z : List (NodeView g.row.R.Denot)). c.in-Some-top.top.tag.row < rows z c.get-found.result.now.node) c.args.self.now.tree.now c.open_row.new.self.tree.now c.open_row.ensures.tree a.row, (k.within, next_within _ _ _ k.known c.place_after-count.ensures.place)))))))))
+    (row_smaller _ _ _ _ _ _ c.decreases o.node_is (same (λ (z : List (NodeView g.row.R.Denot)). length z) c.open_row.new.self.tree.now c.args.self.now.tree.now c.open_row.ensures.tree) o.node (kids_few _ _ _ _ k.all (kids_below_most (parent c.args.self.now.tree.now) c.get.result.now.node (length c.args.self.now.tree.now)) o.formed.tree.shaped.few_nodes), (within.0, (within.1.0, (within.1.1, (c.open_row.ensures.formed, (back IsTieFreeTree c.args.self.now.tree.now c.open_row.new.self.tree.now c.open_row.ensures.tree c.requires.tie_free, (back (λ (z : List (NodeView g.row.R.Denot)). c.get.result.now.node < length z) c.args.self.now.tree.now c.open_row.new.self.tree.now c.open_row.ensures.tree o.node, (back (λ (z : List (NodeView g.row.R.Denot)). c.in-Some-top.top.tag.row < rows z c.get.result.now.node) c.args.self.now.tree.now c.open_row.new.self.tree.now c.open_row.ensures.tree a.row, (k.within, next_within _ _ _ k.known c.place_after-count.ensures.place)))))))))
 
 pub after-advance-requires-clause-row : goal.after-advance-requires-clause-row
 after-advance-requires-clause-row g t c =
     let at = goal.at.after-advance-requires-clause-row g t c in
-    let o = entry_owned g t at.After-get-found in
+    let o = entry_owned g t at.After-get in
     let p = top_of g t at.In-Some-top o in
     let a = row_of g t at.After-open_row o p in
     let k = counted_of g t at.After-place_after-count o a in
     let s = search_of g t at.After-extend in
     let tree : c.args.self.now.tree.now ≡ c.extend.new.self.tree.now = sym (two_calls c.args.self.now.tree.now c.open_row.new.self.tree.now c.extend.new.self.tree.now c.open_row.ensures.tree c.extend.ensures.tree) in
-    let kids : child_count c.args.self.now.tree.now c.get-found.result.now.node ≡ child_count c.extend.new.self.tree.now c.get-found.result.now.node = ap (λ (z : List (NodeView g.row.R.Denot)). child_count z c.get-found.result.now.node) tree in
+    let kids : child_count c.args.self.now.tree.now c.get.result.now.node ≡ child_count c.extend.new.self.tree.now c.get.result.now.node = ap (λ (z : List (NodeView g.row.R.Denot)). child_count z c.get.result.now.node) tree in
     let queue = searched_queue o a k s in
-    let first : (x : Entry g.row.R.Denot Source) → get_or (stream_of c.extend.new.self.nodes.items c.get-found.result.now.node c.get-found.result.now.group).queue 0 x ≡ c.in-Some-top.top = λ x. ap (λ z. get_or z 0 x) queue ∙ any_default (stream_of c.args.self.now.nodes.items c.get-found.result.now.node c.get-found.result.now.group).queue 0 x c.in-Some-top.top p.some ∙ sym p.first in
+    let first : (x : Entry g.row.R.Denot Source) → get_or (stream_of c.extend.new.self.nodes.items c.get.result.now.node c.get.result.now.group).queue 0 x ≡ c.in-Some-top.top = λ x. ap (λ z. get_or z 0 x) queue ∙ any_default (stream_of c.args.self.now.nodes.items c.get.result.now.node c.get.result.now.group).queue 0 x c.in-Some-top.top p.some ∙ sym p.first in
     record {
       top = record {
         some = subst (λ z. 0 < length z) (sym queue) p.some;
         member = λ x. ap (λ e. e.tag.member) (first x);
         after = λ x. ap (λ e. e.tag.place + 1) (first x) ∙ sym c.place_after-count.ensures.place;
       };
-      row = along (λ (z : List (NodeView g.row.R.Denot)). c.in-Some-top.top.tag.row ≡ get_or (members z c.get-found.result.now.node c.get-found.result.now.group) c.in-Some-top.top.tag.member 0) c.args.self.now.tree.now c.extend.new.self.tree.now tree p.row;
-      number = p.numbered ∙ ap (number c.args.self.now.tree.now c.get-found.result.now.node) (sym p.row) ∙ ap (λ (z : List (NodeView g.row.R.Denot)). number z c.get-found.result.now.node c.in-Some-top.top.tag.row) tree;
+      row = along (λ (z : List (NodeView g.row.R.Denot)). c.in-Some-top.top.tag.row ≡ get_or (members z c.get.result.now.node c.get.result.now.group) c.in-Some-top.top.tag.member 0) c.args.self.now.tree.now c.extend.new.self.tree.now tree p.row;
+      number = p.numbered ∙ ap (number c.args.self.now.tree.now c.get.result.now.node) (sym p.row) ∙ ap (λ (z : List (NodeView g.row.R.Denot)). number z c.get.result.now.node c.in-Some-top.top.tag.row) tree;
       count =
-          chain (length (products_of c.extend.new.self.nodes.items c.get-found.result.now.node c.in-Some-top.top.tag.row)) (length (products_of c.open_row.new.self.nodes.items c.get-found.result.now.node c.in-Some-top.top.tag.row)) (child_count c.extend.new.self.tree.now c.get-found.result.now.node) c.extend.ensures.extended.count
-          (chain (length (products_of c.open_row.new.self.nodes.items c.get-found.result.now.node c.in-Some-top.top.tag.row)) (child_count c.args.self.now.tree.now c.get-found.result.now.node) (child_count c.extend.new.self.tree.now c.get-found.result.now.node) c.in_ok-open_row.ensures.count kids);
+          chain (length (products_of c.extend.new.self.nodes.items c.get.result.now.node c.in-Some-top.top.tag.row)) (length (products_of c.open_row.new.self.nodes.items c.get.result.now.node c.in-Some-top.top.tag.row)) (child_count c.extend.new.self.tree.now c.get.result.now.node) c.extend.ensures.extended.count
+          (chain (length (products_of c.open_row.new.self.nodes.items c.get.result.now.node c.in-Some-top.top.tag.row)) (child_count c.args.self.now.tree.now c.get.result.now.node) (child_count c.extend.new.self.tree.now c.get.result.now.node) c.in_ok-open_row.ensures.count kids);
       place =
-          along (λ z. IsReached g.R.Rank.KEYS g.R.Rank.key c.extend.new.self.tree.now c.extend.new.self.nodes.items c.get-found.result.now.node c.in-Some-top.top.tag.row z c.place_after-count.result.1) c.place_after-count.result.0 (child_count c.extend.new.self.tree.now c.get-found.result.now.node) (k.all ∙ kids)
-          (back (λ (z : List (NodeView g.row.R.Denot)). IsReached g.R.Rank.KEYS g.R.Rank.key z c.extend.new.self.nodes.items c.get-found.result.now.node c.in-Some-top.top.tag.row c.place_after-count.result.0 c.place_after-count.result.1) c.open_row.new.self.tree.now c.extend.new.self.tree.now c.extend.ensures.tree c.in_ok-extend.ensures.reached);
+          along (λ z. IsReached g.R.Rank.KEYS g.R.Rank.key c.extend.new.self.tree.now c.extend.new.self.nodes.items c.get.result.now.node c.in-Some-top.top.tag.row z c.place_after-count.result.1) c.place_after-count.result.0 (child_count c.extend.new.self.tree.now c.get.result.now.node) (k.all ∙ kids)
+          (back (λ (z : List (NodeView g.row.R.Denot)). IsReached g.R.Rank.KEYS g.R.Rank.key z c.extend.new.self.nodes.items c.get.result.now.node c.in-Some-top.top.tag.row c.place_after-count.result.0 c.place_after-count.result.1) c.open_row.new.self.tree.now c.extend.new.self.tree.now c.extend.ensures.tree c.in_ok-extend.ensures.reached);
       queue_room =
           λ one.
-          subst (λ (z : List (NodeView g.row.R.Denot)). can_enter (length (members z c.get-found.result.now.node c.get-found.result.now.group)) ≤ (stream_of c.extend.new.self.nodes.items c.get-found.result.now.node c.get-found.result.now.group).room) tree
-          (subst (λ (z : StreamView g.row.R.Denot). can_enter (length (members c.args.self.now.tree.now c.get-found.result.now.node c.get-found.result.now.group)) ≤ z.room) (sym (searched_stream o a k s)) (c.in_ok-open_row.ensures.room (none_before _ _ one c.place_after-count.ensures.place)));
+          subst (λ (z : List (NodeView g.row.R.Denot)). can_enter (length (members z c.get.result.now.node c.get.result.now.group)) ≤ (stream_of c.extend.new.self.nodes.items c.get.result.now.node c.get.result.now.group).room) tree
+          (subst (λ (z : StreamView g.row.R.Denot). can_enter (length (members c.args.self.now.tree.now c.get.result.now.node c.get.result.now.group)) ≤ z.room) (sym (searched_stream o a k s)) (c.in_ok-open_row.ensures.room (none_before _ _ one c.place_after-count.ensures.place)));
     }
 
 pub search-after-requires : goal.search-after-requires
@@ -442,7 +442,7 @@ after-advance-requires-clause-tie_free g t c =
 pub after-advance-requires-clause-last : goal.after-advance-requires-clause-last
 after-advance-requires-clause-last g t c =
     let at = goal.at.after-advance-requires-clause-last g t c in
-    let o = entry_owned g t at.After-get-found in
+    let o = entry_owned g t at.After-get in
     let s = search_of g t at.After-extend in
     let none = next_read c.args.self.now.entries.entries c.args.entry c.next_of.result None c.requires.entry c.next_of.ensures.next c.in_default.is in
     record {
@@ -459,7 +459,7 @@ after-advance-requires-clause-room g t c =
 pub after-returns : goal.after-returns
 after-returns g t c =
     let at = goal.at.after-returns g t c in
-    let o = entry_owned g t at.After-get-found in
+    let o = entry_owned g t at.After-get in
     let p = top_of g t at.In-Some-top o in
     let a = row_of g t at.After-open_row o p in
     let k = counted_of g t at.After-place_after-count o a in
@@ -477,9 +477,9 @@ after-returns g t c =
           λ some. not_some (next_of c.args.self.now.entries.entries c.args.entry) none some;
       queues = linked_queues o a k s c.advance.new.self.entries.entries c.advance.new.self.nodes.items formed c.advance.ensures.store c.advance.ensures.above c.advance.ensures.products c.advance.ensures.growth;
       cost =
-          let last : c.advance.new.steps ≤ c.extend.new.steps + 10 + 3 * child_count c.args.self.now.tree.now c.get-found.result.now.node + 4 * bit_length (length (members c.args.self.now.tree.now c.get-found.result.now.node c.get-found.result.now.group) + 1) =
-          subst (λ (z : List (NodeView g.row.R.Denot)). c.advance.new.steps ≤ c.extend.new.steps + 10 + 3 * child_count z c.get-found.result.now.node + 4 * bit_length (length (members z c.get-found.result.now.node c.get-found.result.now.group) + 1)) tree c.advance.ensures.cost in
-          searched_steps o a k s c.advance.new.steps (λ b members. fewer_digits _ _ _ _ last (members c.get-found.result.now.node c.get-found.result.now.group));
+          let last : c.advance.new.steps ≤ c.extend.new.steps + 10 + 3 * child_count c.args.self.now.tree.now c.get.result.now.node + 4 * bit_length (length (members c.args.self.now.tree.now c.get.result.now.node c.get.result.now.group) + 1) =
+          subst (λ (z : List (NodeView g.row.R.Denot)). c.advance.new.steps ≤ c.extend.new.steps + 10 + 3 * child_count z c.get.result.now.node + 4 * bit_length (length (members z c.get.result.now.node c.get.result.now.group) + 1)) tree c.advance.ensures.cost in
+          searched_steps o a k s c.advance.new.steps (λ b members. fewer_digits _ _ _ _ last (members c.get.result.now.node c.get.result.now.group));
     }
 
 pub search-overflow_sub-child : goal.search-overflow_sub-child
@@ -522,25 +522,25 @@ search-returns-in_err-extend g t c =
 pub after-returns-in_err-open_row : goal.after-returns-in_err-open_row
 after-returns-in_err-open_row g t c =
     let at = goal.at.after-returns-in_err-open_row g t c in
-    let o = entry_owned g t at.After-get-found in
+    let o = entry_owned g t at.After-get in
     record {
       formed = c.open_row.ensures.formed;
       tree = c.open_row.ensures.tree;
       grown =
           subst (λ v. IsGrown (parent c.args.self.now.tree.now) v c.args.self.now.entries.entries c.args.self.now.nodes.items c.open_row.new.self.entries.entries c.open_row.new.self.nodes.items) (sym o.node_is)
-          (opened_grown c.args.self.now.tree.now c.get-found.result.now.node c.args.self.now.entries.entries c.open_row.new.self.entries.entries c.args.self.now.nodes.items c.open_row.new.self.nodes.items (ap (λ z. z.entries) c.open_row.ensures.entries) c.open_row.ensures.above);
+          (opened_grown c.args.self.now.tree.now c.get.result.now.node c.args.self.now.entries.entries c.open_row.new.self.entries.entries c.args.self.now.nodes.items c.open_row.new.self.nodes.items (ap (λ z. z.entries) c.open_row.ensures.entries) c.open_row.ensures.above);
       answer = none_given (IsAnswered g.R.Rank.KEYS g.R.Rank.key c.args.self.now.tree.now c.open_row.new.self.entries.entries c.args.entry) c.from_residual.result c.from_residual.ensures.0;
       known =
           let none = next_read c.args.self.now.entries.entries c.args.entry c.next_of.result None c.requires.entry c.next_of.ensures.next c.in_default.is in
           λ some. not_some (next_of c.args.self.now.entries.entries c.args.entry) none some;
       queues = λ v r k. queue_grown (length (product_of c.open_row.new.self.nodes.items v r k).frontier) (max 1 (length (product_of c.args.self.now.nodes.items v r k).frontier)) (is_below (parent c.args.self.now.tree.now) (node_of c.args.self.now.entries.entries c.args.entry) v) (c.open_row.ensures.queues v r k);
-      cost = only_opened o c.args.steps.now c.open_row.new.steps (opened_steps c.args.steps.now c.next_of.new.steps c.get-found.new.steps c.open_row.new.steps (3 * child_count c.args.self.now.tree.now c.get-found.result.now.node) c.next_of.ensures.cost c.get-found.ensures.cost c.open_row.ensures.cost);
+      cost = only_opened o c.args.steps.now c.open_row.new.steps (opened_steps c.args.steps.now c.next_of.new.steps c.get.new.steps c.open_row.new.steps (3 * child_count c.args.self.now.tree.now c.get.result.now.node) c.next_of.ensures.cost c.get.ensures.cost c.open_row.ensures.cost);
     }
 
 pub after-returns-in_err-extend : goal.after-returns-in_err-extend
 after-returns-in_err-extend g t c =
     let at = goal.at.after-returns-in_err-extend g t c in
-    let o = entry_owned g t at.After-get-found in
+    let o = entry_owned g t at.After-get in
     let p = top_of g t at.In-Some-top o in
     let a = row_of g t at.After-open_row o p in
     let k = counted_of g t at.After-place_after-count o a in
@@ -624,14 +624,14 @@ after-returns-in_default-top g t c =
       grown = opened_grown c.args.self.now.tree.now (node_of c.args.self.now.entries.entries c.args.entry) c.args.self.now.entries.entries c.args.self.now.entries.entries c.args.self.now.nodes.items c.args.self.now.nodes.items refl (λ w other. refl);
       answer =
           let at = goal.at.after-returns-in_default-top g t c in
-          let o = entry_owned g t at.After-get-found in
-          let empty : (stream_of c.args.self.now.nodes.items c.get-found.result.now.node c.get-found.result.now.group).queue ≡ [] =
-          no_top c.top.result (stream_of c.args.self.now.nodes.items c.get-found.result.now.node c.get-found.result.now.group).queue c.in_default-top.is c.top.ensures.variant in
+          let o = entry_owned g t at.After-get in
+          let empty : (stream_of c.args.self.now.nodes.items c.get.result.now.node c.get.result.now.group).queue ≡ [] =
+          no_top c.top.result (stream_of c.args.self.now.nodes.items c.get.result.now.node c.get.result.now.group).queue c.in_default-top.is c.top.ensures.variant in
           last_of_all g.R.Rank.KEYS g.R.Rank.key c.args.self.now.tree.now c.args.self.now.entries.entries c.args.self.now.nodes.items c.requires.formed c.args.entry c.requires.entry none
-          (subst (λ v. (stream_of c.args.self.now.nodes.items v (group_of c.args.self.now.entries.entries c.args.entry)).queue ≡ []) (sym o.node_is) (subst (λ k. (stream_of c.args.self.now.nodes.items c.get-found.result.now.node k).queue ≡ []) (sym o.group_is) empty));
+          (subst (λ v. (stream_of c.args.self.now.nodes.items v (group_of c.args.self.now.entries.entries c.args.entry)).queue ≡ []) (sym o.node_is) (subst (λ k. (stream_of c.args.self.now.nodes.items c.get.result.now.node k).queue ≡ []) (sym o.group_is) empty));
       known = λ some. not_some (next_of c.args.self.now.entries.entries c.args.entry) none some;
       queues = λ v r k. queue_itself (length (product_of c.args.self.now.nodes.items v r k).frontier) (is_below (parent c.args.self.now.tree.now) (node_of c.args.self.now.entries.entries c.args.entry) v);
-      cost = λ k b one bits few queues. second_step c.args.steps.now c.next_of.new.steps c.get-found.new.steps b (20 * kids_size c.args.self.now.tree.now (node_of c.args.self.now.entries.entries c.args.entry) (child_count c.args.self.now.tree.now (node_of c.args.self.now.entries.entries c.args.entry)) * (1 + b)) c.next_of.ensures.cost c.get-found.ensures.cost;
+      cost = λ k b one bits few queues. second_step c.args.steps.now c.next_of.new.steps c.get.new.steps b (20 * kids_size c.args.self.now.tree.now (node_of c.args.self.now.entries.entries c.args.entry) (child_count c.args.self.now.tree.now (node_of c.args.self.now.entries.entries c.args.entry)) * (1 + b)) c.next_of.ensures.cost c.get.ensures.cost;
     }
 
 pub after-returns-in-Some : goal.after-returns-in-Some

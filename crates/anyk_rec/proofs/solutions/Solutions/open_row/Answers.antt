@@ -1,5 +1,5 @@
-use Rattle.anyk_rec.proofs.Errors.{none_done}
-use Rattle.std.proofs.Common.{◌≡◌, ℕ, zero, suc, ◌+◌, ◌<◌, ◌≤◌, max, List, [], length, slice_set, get_or, refl, sym, ap, ◌∙◌, subst, arith}
+use Rattle.anyk_rec.proofs.Errors.{none_done, ok_then}
+use Rattle.std.proofs.Common.{◌≡◌, ℕ, zero, suc, ◌+◌, ◌<◌, ◌≤◌, max, Result, Ok, Err, OnOk, OnErr, List, [], length, slice_set, get_or, refl, sym, ap, ◌∙◌, subst, arith}
 use Rattle.std.proofs.lemmas.List.{set-get_or}
 use Rattle.tdp_core.specs.TreeView.{child_count, members, rows}
 use Rattle.anyk_rec.specs.ProductView.{ProductView}
@@ -17,6 +17,11 @@ use Rattle.anyk_rec.proofs.SearchCalls.{on_ok}
 use Rattle.anyk_rec.proofs.solutions.Solutions.open_row.Given.{Over}
 use Rattle.anyk_rec.proofs.solutions.Solutions.open_row.Goals.{After-make_queue_room, After-set_products, In_ok-make_queue_room}
 use Rattle.anyk_rec.proofs.solutions.Solutions.open_row.Goals as goal
+
+-- what follows whether something is done or refused
+either : {A E P Q X : Type 0} (r : Result A E) → OnOk r P → OnErr r Q → (P → X) → (Q → X) → X
+either (Ok x) p q f h = f p
+either (Err e) p q f h = h q
 
 in_same : (v n m : ℕ) → v < n → m ≡ n → v < m
 in_same v n m l e = omega arith
@@ -69,7 +74,7 @@ pub set_products-requires-clause-row : goal.set_products-requires-clause-row
 set_products-requires-clause-row g c =
     let at = goal.at.set_products-requires-clause-row g c in
     let inside : c.args.node < length c.make_queue_room.new.nodes.items = in_same _ _ _ c.requires.node (room_of g at.After-make_queue_room).formed.all_nodes in
-    let few = row_lacks g.R.Rank.KEYS g.R.Rank.key c.args.self.now.tree.now c.args.self.now.entries.entries c.make_queue_room.new.nodes.items (room_of g at.After-make_queue_room).formed c.args.node c.args.row c.requires.node c.requires.row c.index-lists.result.now c.index-lists.ensures c.product_count.result c.child_count.result c.product_count.ensures c.child_count.ensures c.if-product_count-child_count.true in
+    let few = row_lacks g.R.Rank.KEYS g.R.Rank.key c.args.self.now.tree.now c.args.self.now.entries.entries c.make_queue_room.new.nodes.items (room_of g at.After-make_queue_room).formed c.args.node c.args.row c.requires.node c.requires.row c.index-lists.result.now c.index-lists.ensures c.product_count.result c.child_count.result c.product_count.ensures c.child_count.ensures c.if-product_count-child_count.false in
     subst (λ n. c.args.row < length n.products) (lists_at c.make_queue_room.new.nodes.items c.args.node c.index_mut.result.now c.index_mut.ensures.value inside)
     (in_rows _ _ _ _ c.requires.row ((room_of g at.After-make_queue_room).formed.all_rows c.args.node c.requires.node) (open_all (child_count c.args.self.now.tree.now c.args.node) (rows c.args.self.now.tree.now c.args.node) few.1))
 
@@ -117,24 +122,6 @@ pub make_products-requires-clause-row : goal.make_products-requires-clause-row
 make_products-requires-clause-row g c =
     c.requires.row
 
-pub returns-in_err-set_products : goal.returns-in_err-set_products
-returns-in_err-set_products g c =
-    let at = goal.at.returns-in_err-set_products g c in
-    record {
-      entries = refl;
-      room = on_ok c.from_residual-in_err-set_products.result (λ none. subst (λ (z : List (NodeStreamsView g.row.R.Denot)). can_enter (length (members c.args.self.now.tree.now c.args.node c.args.group)) ≤ (stream_of z c.args.node c.args.group).room) (sym (refused g at.After-set_products c.in_err-set_products.ensures.refused)) (roomy g at.In_ok-make_queue_room));
-      queues =
-          λ v r k.
-          subst (λ (z : List (NodeStreamsView g.row.R.Denot)). length (product_of z v r k).frontier ≤ max 1 (length (product_of c.args.self.now.nodes.items v r k).frontier) + 0) (sym (refused g at.After-set_products c.in_err-set_products.ensures.refused))
-          (same_queue _ _ (room_queues g at.After-make_queue_room v r k));
-      count = none_done _ c.from_residual-in_err-set_products.result c.from_residual-in_err-set_products.ensures.0;
-      formed = subst (λ (z : List (NodeStreamsView g.row.R.Denot)). IsStreams g.R.Rank.KEYS g.R.Rank.key c.args.self.now.tree.now c.args.self.now.entries.entries z) (sym (refused g at.After-set_products c.in_err-set_products.ensures.refused)) (room_of g at.After-make_queue_room).formed;
-      tree = refl;
-      streams = subst (λ (z : List (NodeStreamsView g.row.R.Denot)). (lists_of z c.args.node).streams ≡ (with_queue (lists_of c.args.self.now.nodes.items c.args.node) c.args.group (stream_of c.args.self.now.nodes.items c.args.node c.args.group).queue (stream_of z c.args.node c.args.group).room).streams) (sym (refused g at.After-set_products c.in_err-set_products.ensures.refused)) (room_of g at.After-make_queue_room).streams;
-      above = λ v n. ap (λ z. lists_of z v) (refused g at.After-set_products c.in_err-set_products.ensures.refused) ∙ (room_of g at.After-make_queue_room).above v n;
-      cost = c.make_products.ensures.cost;
-    }
-
 pub returns-in_err-make_products : goal.returns-in_err-make_products
 returns-in_err-make_products g c =
     let at = goal.at.returns-in_err-make_products g c in
@@ -150,46 +137,52 @@ returns-in_err-make_products g c =
       streams = (room_of g at.After-make_queue_room).streams;
     }
 
-pub returns-in_ok-set_products : goal.returns-in_ok-set_products
-returns-in_ok-set_products g c =
-    let at = goal.at.returns-in_ok-set_products g c in
+pub returns : goal.returns
+returns g c =
+    let at = goal.at.returns g c in
+    let kept = refused g at.After-set_products in
     let inside : c.args.node < length c.make_queue_room.new.nodes.items = in_same _ _ _ c.requires.node (room_of g at.After-make_queue_room).formed.all_nodes in
-    let stay = streams_stay c.make_queue_room.new.nodes.items c.args.node c.args.row c.index_mut.result.now c.set_products.new.self c.make_products.new.products.items inside c.index_mut.ensures.value c.in_ok-set_products.ensures.set in
-    let few = row_lacks g.R.Rank.KEYS g.R.Rank.key c.args.self.now.tree.now c.args.self.now.entries.entries c.make_queue_room.new.nodes.items (room_of g at.After-make_queue_room).formed c.args.node c.args.row c.requires.node c.requires.row c.index-lists.result.now c.index-lists.ensures c.product_count.result c.child_count.result c.product_count.ensures c.child_count.ensures c.if-product_count-child_count.true in
+    let stay = streams_stay c.make_queue_room.new.nodes.items c.args.node c.args.row c.index_mut.result.now c.set_products.new.self c.make_products.new.products.items inside c.index_mut.ensures.value in
+    let few = row_lacks g.R.Rank.KEYS g.R.Rank.key c.args.self.now.tree.now c.args.self.now.entries.entries c.make_queue_room.new.nodes.items (room_of g at.After-make_queue_room).formed c.args.node c.args.row c.requires.node c.requires.row c.index-lists.result.now c.index-lists.ensures c.product_count.result c.child_count.result c.product_count.ensures c.child_count.ensures c.if-product_count-child_count.false in
     let fresh = subst (λ (z : List (NodeStreamsView g.row.R.Denot)). AreFreshTo g.R.Rank.KEYS g.R.Rank.key c.args.self.now.tree.now z c.args.node c.args.row (child_count c.args.self.now.tree.now c.args.node) c.make_products.new.products.items) c.as_slice.ensures.value c.in_ok-make_products.ensures.fresh in
+    let opened = opened_is c.make_queue_room.new.nodes.items c.args.node c.args.row c.index_mut.result.now c.set_products.new.self c.make_products.new.products.items inside c.index_mut.ensures.value in
     record {
       cost = c.make_products.ensures.cost;
-      streams =
-          stay ∙ (room_of g at.After-make_queue_room).streams
-          ∙ ap (λ (z : List (StreamView g.row.R.Denot)). (with_queue (lists_of c.args.self.now.nodes.items c.args.node) c.args.group (stream_of c.args.self.now.nodes.items c.args.node c.args.group).queue (get_or z c.args.group (record { head = 0; queue = []; room = 0 })).room).streams) (sym stay);
       tree = refl;
       entries = refl;
       formed =
-          subst (λ (z : List (NodeStreamsView g.row.R.Denot)). IsStreams g.R.Rank.KEYS g.R.Rank.key c.args.self.now.tree.now c.args.self.now.entries.entries z)
-          (sym (opened_is c.make_queue_room.new.nodes.items c.args.node c.args.row c.index_mut.result.now c.set_products.new.self c.make_products.new.products.items inside c.index_mut.ensures.value c.in_ok-set_products.ensures.set))
-          (row_opened g.R.Rank.KEYS g.R.Rank.key c.args.self.now.tree.now c.args.self.now.entries.entries c.make_queue_room.new.nodes.items (room_of g at.After-make_queue_room).formed c.requires.tie_free c.args.node c.args.row c.requires.node c.requires.row c.make_products.new.products.items fresh few.0 few.1);
+          either c.set_products.result c.set_products.ensures.set c.set_products.ensures.refused
+          (λ set. subst (λ (z : List (NodeStreamsView g.row.R.Denot)). IsStreams g.R.Rank.KEYS g.R.Rank.key c.args.self.now.tree.now c.args.self.now.entries.entries z) (sym (opened set))
+          (row_opened g.R.Rank.KEYS g.R.Rank.key c.args.self.now.tree.now c.args.self.now.entries.entries c.make_queue_room.new.nodes.items (room_of g at.After-make_queue_room).formed c.requires.tie_free c.args.node c.args.row c.requires.node c.requires.row c.make_products.new.products.items fresh few.0 few.1))
+          (λ same. subst (λ (z : List (NodeStreamsView g.row.R.Denot)). IsStreams g.R.Rank.KEYS g.R.Rank.key c.args.self.now.tree.now c.args.self.now.entries.entries z) (sym (kept same)) (room_of g at.After-make_queue_room).formed);
+      streams =
+          either c.set_products.result c.set_products.ensures.set c.set_products.ensures.refused
+          (λ set. stay set ∙ (room_of g at.After-make_queue_room).streams
+          ∙ ap (λ (z : List (StreamView g.row.R.Denot)). (with_queue (lists_of c.args.self.now.nodes.items c.args.node) c.args.group (stream_of c.args.self.now.nodes.items c.args.node c.args.group).queue (get_or z c.args.group (record { head = 0; queue = []; room = 0 })).room).streams) (sym (stay set)))
+          (λ same. subst (λ (z : List (NodeStreamsView g.row.R.Denot)). (lists_of z c.args.node).streams ≡ (with_queue (lists_of c.args.self.now.nodes.items c.args.node) c.args.group (stream_of c.args.self.now.nodes.items c.args.node c.args.group).queue (stream_of z c.args.node c.args.group).room).streams) (sym (kept same)) (room_of g at.After-make_queue_room).streams);
       queues =
-          λ v r k. subst (λ q. length (product_of (slice_set c.make_queue_room.new.nodes.items c.args.node c.set_products.new.self) v r k).frontier ≤ max 1 q + 0) (room_queues g at.After-make_queue_room v r k) (
-          subst (λ (z : List (NodeStreamsView g.row.R.Denot)). (v r k : ℕ) → length (product_of z v r k).frontier ≤ max 1 (length (product_of c.make_queue_room.new.nodes.items v r k).frontier) + 0)
-          (sym (opened_is c.make_queue_room.new.nodes.items c.args.node c.args.row c.index_mut.result.now c.set_products.new.self c.make_products.new.products.items inside c.index_mut.ensures.value c.in_ok-set_products.ensures.set))
-          (opened_queues g.R.Rank.KEYS g.R.Rank.key c.args.self.now.tree.now c.args.self.now.entries.entries c.make_queue_room.new.nodes.items (room_of g at.After-make_queue_room).formed c.requires.tie_free c.args.node c.args.row c.requires.node c.requires.row c.make_products.new.products.items fresh few.0 few.1) v r k);
+          λ v r k. either c.set_products.result c.set_products.ensures.set c.set_products.ensures.refused
+          (λ set. subst (λ q. length (product_of (slice_set c.make_queue_room.new.nodes.items c.args.node c.set_products.new.self) v r k).frontier ≤ max 1 q + 0) (room_queues g at.After-make_queue_room v r k) (
+          subst (λ (z : List (NodeStreamsView g.row.R.Denot)). (v r k : ℕ) → length (product_of z v r k).frontier ≤ max 1 (length (product_of c.make_queue_room.new.nodes.items v r k).frontier) + 0) (sym (opened set))
+          (opened_queues g.R.Rank.KEYS g.R.Rank.key c.args.self.now.tree.now c.args.self.now.entries.entries c.make_queue_room.new.nodes.items (room_of g at.After-make_queue_room).formed c.requires.tie_free c.args.node c.args.row c.requires.node c.requires.row c.make_products.new.products.items fresh few.0 few.1) v r k))
+          (λ same. subst (λ (z : List (NodeStreamsView g.row.R.Denot)). length (product_of z v r k).frontier ≤ max 1 (length (product_of c.args.self.now.nodes.items v r k).frontier) + 0) (sym (kept same)) (same_queue _ _ (room_queues g at.After-make_queue_room v r k)));
       above = λ v n. lists_other c.make_queue_room.new.nodes.items c.args.node v c.set_products.new.self n ∙ (room_of g at.After-make_queue_room).above v n;
-      room = λ none. subst (λ (z : List (StreamView g.row.R.Denot)). can_enter (length (members c.args.self.now.tree.now c.args.node c.args.group)) ≤ (get_or z c.args.group (record { head = 0; queue = []; room = 0 })).room) (sym stay) (roomy g at.In_ok-make_queue_room);
+      room = ok_then c.set_products.result (λ set none. subst (λ (z : List (StreamView g.row.R.Denot)). can_enter (length (members c.args.self.now.tree.now c.args.node c.args.group)) ≤ (get_or z c.args.group (record { head = 0; queue = []; room = 0 })).room) (sym (stay set)) (roomy g at.In_ok-make_queue_room)) c.set_products.ensures.set;
       count =
-          ap (λ (z : List (NodeStreamsView g.row.R.Denot)). length (products_of z c.args.node c.args.row))
-          (opened_is c.make_queue_room.new.nodes.items c.args.node c.args.row c.index_mut.result.now c.set_products.new.self c.make_products.new.products.items inside c.index_mut.ensures.value c.in_ok-set_products.ensures.set)
+          ok_then c.set_products.result
+          (λ set. ap (λ (z : List (NodeStreamsView g.row.R.Denot)). length (products_of z c.args.node c.args.row)) (opened set)
           ∙ ap length (opened_row g.R.Rank.KEYS g.R.Rank.key c.args.self.now.tree.now c.args.self.now.entries.entries c.make_queue_room.new.nodes.items (room_of g at.After-make_queue_room).formed c.requires.tie_free c.args.node c.args.row c.requires.node c.requires.row c.make_products.new.products.items fresh few.0 few.1)
-          ∙ fresh.count;
+          ∙ fresh.count) c.set_products.ensures.set;
     }
 
-pub returns-else-product_count-child_count : goal.returns-else-product_count-child_count
-returns-else-product_count-child_count g c =
-    let at = goal.at.returns-else-product_count-child_count g c in
+pub returns-then-product_count-child_count : goal.returns-then-product_count-child_count
+returns-then-product_count-child_count g c =
+    let at = goal.at.returns-then-product_count-child_count g c in
     record {
       room = λ none. roomy g at.In_ok-make_queue_room;
       above = (room_of g at.After-make_queue_room).above;
       tree = refl;
-      count = row_whole g.R.Rank.KEYS g.R.Rank.key c.args.self.now.tree.now c.args.self.now.entries.entries c.make_queue_room.new.nodes.items (room_of g at.After-make_queue_room).formed c.args.node c.args.row c.requires.node c.requires.row c.index-lists.result.now c.index-lists.ensures c.product_count.result c.child_count.result c.product_count.ensures c.child_count.ensures c.if-product_count-child_count.false;
+      count = row_whole g.R.Rank.KEYS g.R.Rank.key c.args.self.now.tree.now c.args.self.now.entries.entries c.make_queue_room.new.nodes.items (room_of g at.After-make_queue_room).formed c.args.node c.args.row c.requires.node c.requires.row c.index-lists.result.now c.index-lists.ensures c.product_count.result c.child_count.result c.product_count.ensures c.child_count.ensures c.if-product_count-child_count.true;
       streams = (room_of g at.After-make_queue_room).streams;
       queues = λ v r k. same_queue _ _ (room_queues g at.After-make_queue_room v r k);
       entries = refl;

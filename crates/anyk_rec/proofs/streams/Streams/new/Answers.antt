@@ -31,8 +31,8 @@ returns-in_err-begin_nodes g c =
       cost = c.begin_nodes.ensures.cost;
     }
 
-pub returns-in_err-clone : goal.returns-in_err-clone
-returns-in_err-clone g c =
+pub returns-in_err-of_entries : goal.returns-in_err-of_entries
+returns-in_err-of_entries g c =
     record {
       tree = none_given _ c.from_residual.result c.from_residual.ensures.0;
       prefixes = none_given _ c.from_residual.result c.from_residual.ensures.0;
@@ -40,21 +40,21 @@ returns-in_err-clone g c =
       cost = no_steps _ _;
     }
 
-pub returns-in_err-clone-2 : goal.returns-in_err-clone-2
-returns-in_err-clone-2 g c =
+pub returns-in_err-of_made : goal.returns-in_err-of_made
+returns-in_err-of_made g c =
     record {
-      tree = none_given _ c.from_residual-in_err-clone-2.result c.from_residual-in_err-clone-2.ensures.0;
-      prefixes = none_given _ c.from_residual-in_err-clone-2.result c.from_residual-in_err-clone-2.ensures.0;
-      calls = none_given _ c.from_residual-in_err-clone-2.result c.from_residual-in_err-clone-2.ensures.0;
+      tree = none_given _ c.from_residual-in_err-of_made.result c.from_residual-in_err-of_made.ensures.0;
+      prefixes = none_given _ c.from_residual-in_err-of_made.result c.from_residual-in_err-of_made.ensures.0;
+      calls = none_given _ c.from_residual-in_err-of_made.result c.from_residual-in_err-of_made.ensures.0;
       cost = no_steps _ _;
     }
 
-pub returns-in_err-clone-3 : goal.returns-in_err-clone-3
-returns-in_err-clone-3 g c =
+pub returns-in_err-of_nodes : goal.returns-in_err-of_nodes
+returns-in_err-of_nodes g c =
     record {
-      tree = none_given _ c.from_residual-in_err-clone-3.result c.from_residual-in_err-clone-3.ensures.0;
-      prefixes = none_given _ c.from_residual-in_err-clone-3.result c.from_residual-in_err-clone-3.ensures.0;
-      calls = none_given _ c.from_residual-in_err-clone-3.result c.from_residual-in_err-clone-3.ensures.0;
+      tree = none_given _ c.from_residual-in_err-of_nodes.result c.from_residual-in_err-of_nodes.ensures.0;
+      prefixes = none_given _ c.from_residual-in_err-of_nodes.result c.from_residual-in_err-of_nodes.ensures.0;
+      calls = none_given _ c.from_residual-in_err-of_nodes.result c.from_residual-in_err-of_nodes.ensures.0;
       cost = no_steps _ _;
     }
 

@@ -122,3 +122,13 @@ returns-then-after-gt0-clause-stands g c =
     let read : get_or table link 0 ≡ r = get_or_default table link 0 r inside ∙ sym c.index-after.ensures in
     let some : get_or table link 0 ≡ (r - 1) + 1 = omega (arith, read, c.if-after-gt0.true) in
     (is_table.numbered link (r - 1) some).1
+
+pub overflow_add-number : goal.overflow_add-number
+overflow_add-number g c =
+    let last : length c.self.inside.links.items ≡ c.len-number.result = omega (arith, c.len-number.ensures, c.self.inside.links.ok.0) in
+    omega (arith, last, ap length c.self.view_is, c.requires)
+
+pub overflow_cast-number : goal.overflow_cast-number
+overflow_cast-number g c =
+    let last : length c.self.inside.links.items ≡ c.len-number.result = omega (arith, c.len-number.ensures, c.self.inside.links.ok.0) in
+    omega (arith, last, ap length c.self.view_is, c.requires)
