@@ -3,7 +3,7 @@
 #![tactic(auto)]
 
 use anyk_top::run_uncounted;
-use ground::Keys;
+use hash_keys::Keys;
 use outer_io::{FileShelf, StdSink};
 use std::alloc::AllocError;
 use std::env;

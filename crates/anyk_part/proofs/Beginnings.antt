@@ -6,20 +6,20 @@ use Rattle.std.proofs.lemmas.List.{get_or_past}
 use Rattle.std.proofs.lemmas.List.Elements.{All-head, All-cons, All-nil}
 use Rattle.std.proofs.lemmas.List.Sorted.{All-permutation, length_permutation}
 use Rattle.std.proofs.lemmas.Bool.Decides.{nat_tests}
-use Rattle.containers.specs.declared.linked.Linked.{Linked}
-use Rattle.containers.specs.declared.entry.Entry.{Entry}
+use Rattle.stream_store.specs.declared.linked.Linked.{Linked}
+use Rattle.take2_heap.specs.declared.entry.Entry.{Entry}
 use Rattle.rankings.specs.Order.{ranked}
-use Rattle.rankings.specs.KeyTuple.{KeyOf, key_below, key_add, key_none, slot_of}
-use Rattle.rankings.specs.Remains.{Remains}
-use Rattle.rankings.specs.Regions.{in_regions, opening, completes, stands}
-use Rattle.rankings.proofs.Division.{times_pos, stands_place}
-use Rattle.rankings.specs.Queue.{whole_region, IsQueue}
-use Rattle.rankings.specs.TreeProblem.{sum_from, open_part}
-use Rattle.rankings.proofs.KeyTuples.{tuple_keys}
-use Rattle.rankings.proofs.Sums.{none_add}
-use Rattle.rankings.proofs.TreeStaged.{bound_parts, other_of}
-use Rattle.rankings.proofs.Begin.{part_begins, ranking_of_root}
-use Rattle.rankings.proofs.Enumeration.{group_ranking, group_keys}
+use Rattle.tdp_model.specs.KeyTuple.{KeyOf, key_below, key_add, key_none, slot_of}
+use Rattle.tdp_model.specs.Remains.{Remains}
+use Rattle.tdp_model.specs.Regions.{in_regions, opening, completes, stands}
+use Rattle.tdp_model.proofs.Division.{times_pos, stands_place}
+use Rattle.tdp_model.specs.Queue.{whole_region, IsQueue}
+use Rattle.tdp_model.specs.TreeProblem.{sum_from, open_part}
+use Rattle.tdp_model.proofs.KeyTuples.{tuple_keys}
+use Rattle.tdp_model.proofs.Sums.{none_add}
+use Rattle.tdp_model.proofs.TreeStaged.{bound_parts, other_of}
+use Rattle.tdp_model.proofs.Begin.{part_begins, ranking_of_root}
+use Rattle.tdp_model.proofs.Enumeration.{group_ranking, group_keys}
 use Rattle.tdp_core.specs.TreeView.{NodeView, node_at, parent, rows, members, group_count, group, rank, best, item, number}
 use Rattle.tdp_core.specs.WellFormed.{IsFormed, IsTieFreeTree}
 use Rattle.tdp_core.specs.Solutions.{IsTreeRanking}

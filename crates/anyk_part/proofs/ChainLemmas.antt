@@ -2,9 +2,9 @@
 use Rattle.std.proofs.Common.{◌≡◌, ℕ, zero, suc, ◌+◌, ◌-◌, ◌<◌, ◌≤◌, List, [], ◌∷◌, ◌++◌, length, take, drop, refl, sym, ap, ◌∙◌, subst, arith}
 use Rattle.std.proofs.Math.ListN.{get_or-append, set}
 use Rattle.std.proofs.lemmas.List.{get_or_at, length-append}
-use Rattle.containers.specs.declared.linked.Linked.{Linked}
+use Rattle.stream_store.specs.declared.linked.Linked.{Linked}
 use Rattle.anyk_part.specs.declared.candidate.Link.{Link}
-use Rattle.rankings.proofs.Sums.{length_end}
+use Rattle.tdp_model.proofs.Sums.{length_end}
 use Rattle.anyk_part.specs.Chains.{link_at, chain, IsChain}
 
 pub chain_length : (links : List (Linked Link)) (n last : ℕ) → IsChain links n last → length (chain links n last) ≡ n

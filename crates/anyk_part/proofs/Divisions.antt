@@ -8,10 +8,10 @@ use Rattle.std.proofs.lemmas.Bool.{false≢true}
 use Rattle.std.proofs.lemmas.List.Sums.{sum_by-cons}
 use Rattle.std.proofs.lemmas.List.Sorted.{sum_by-IsPermutation, All-permutation, length_permutation}
 use Rattle.std.proofs.lemmas.List.Elements.{All-tail}
-use Rattle.containers.specs.declared.linked.Linked.{Linked}
-use Rattle.containers.specs.declared.entry.Entry.{Entry}
-use Rattle.rankings.specs.KeyTuple.{KeyOf}
-use Rattle.rankings.specs.Regions.{in_region, in_regions, completion, deviations, opening, best_of, divided}
+use Rattle.stream_store.specs.declared.linked.Linked.{Linked}
+use Rattle.take2_heap.specs.declared.entry.Entry.{Entry}
+use Rattle.tdp_model.specs.KeyTuple.{KeyOf}
+use Rattle.tdp_model.specs.Regions.{in_region, in_regions, completion, deviations, opening, best_of, divided}
 use Rattle.tdp_core.specs.TreeView.{NodeView}
 use Rattle.anyk_part.specs.declared.candidate.Link.{Link}
 use Rattle.anyk_part.specs.declared.candidate.Candidate.{Candidate}

@@ -3,11 +3,11 @@ use Rattle.std.proofs.Common.{◌≡◌, ℕ, zero, suc, ◌*◌, ◌-◌, ◌/�
 use Rattle.std.proofs.lemmas.Bool.{cases_lt, eq-eqb, eqb-true, cond-true}
 use Rattle.rankings.specs.Order.{IsOrder, IsMember, ranked}
 use Rattle.rankings.proofs.Members.{member_left, member_right, member_either, member_map, member_unmap}
-use Rattle.rankings.specs.Remains.{Remains}
-use Rattle.rankings.specs.Heap.{under, climbs}
-use Rattle.rankings.specs.Regions.{past, is_empty, completes, held, stands, place_of, Region, in_region, in_regions}
-use Rattle.rankings.proofs.Division.{get_place, place_le, stands_yes, stands_place, past_found, past_at, empty_found, append_nil, times_pos}
-use Rattle.rankings.proofs.Enumeration.{gather_member, member_gather}
+use Rattle.tdp_model.specs.Remains.{Remains}
+use Rattle.tdp_model.specs.Heap.{under, climbs}
+use Rattle.tdp_model.specs.Regions.{past, is_empty, completes, held, stands, place_of, Region, in_region, in_regions}
+use Rattle.tdp_model.proofs.Division.{get_place, place_le, stands_yes, stands_place, past_found, past_at, empty_found, append_nil, times_pos}
+use Rattle.tdp_model.proofs.Enumeration.{gather_member, member_gather}
 use Rattle.rankings.proofs.Sorting.{ranked_is_ranking}
 use Rattle.rankings.proofs.Unique.{ranking_unique}
 use Rattle.anyk_part.specs.RemainingSolutions.{completions, region_solutions, held_solutions, ranking_of}

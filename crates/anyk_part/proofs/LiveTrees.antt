@@ -1,10 +1,10 @@
 -- A live tree as the theory of ranked enumeration has it.
 use Rattle.std.proofs.Common.{ℕ, ◌<◌, List, length}
-use Rattle.rankings.specs.KeyTuple.{KeyOf, key_below, key_add, key_none}
-use Rattle.rankings.specs.StagedProblem.{IsStaged}
-use Rattle.rankings.specs.TreeProblem.{IsTree}
-use Rattle.rankings.proofs.KeyTuples.{tuple_keys}
-use Rattle.rankings.proofs.TreeStaged.{other_of, tree_staged}
+use Rattle.tdp_model.specs.KeyTuple.{KeyOf, key_below, key_add, key_none}
+use Rattle.tdp_model.specs.StagedProblem.{IsStaged}
+use Rattle.tdp_model.specs.TreeProblem.{IsTree}
+use Rattle.tdp_model.proofs.KeyTuples.{tuple_keys}
+use Rattle.tdp_model.proofs.TreeStaged.{other_of, tree_staged}
 use Rattle.tdp_core.specs.TreeView.{NodeView, parent, rows, group_count, group, rank, best}
 use Rattle.tdp_core.specs.WellFormed.{IsFormed}
 use Rattle.tdp_core.proofs.TreeFacts.{tree_of}

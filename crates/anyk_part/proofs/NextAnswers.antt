@@ -3,15 +3,15 @@ use Rattle.std.proofs.Common.{◌≡◌, ℕ, ◌+◌, ◌-◌, ◌*◌, ◌/◌
 use Rattle.std.specs.List.{All}
 use Rattle.std.proofs.lemmas.Bool.{cases_lt, cond-true, lt-ltb}
 use Rattle.std.proofs.lemmas.List.{get_or-take}
-use Rattle.containers.specs.declared.linked.Linked.{Linked}
-use Rattle.containers.specs.declared.entry.Entry.{Entry}
-use Rattle.containers.specs.Order as heaps
+use Rattle.stream_store.specs.declared.linked.Linked.{Linked}
+use Rattle.take2_heap.specs.declared.entry.Entry.{Entry}
+use Rattle.take2_heap.specs.Order as heaps
 use Rattle.rank_key.specs.Bits.{bit_length}
 use Rattle.rank_key.proofs.BitLemmas.{bit_length_rises, bit_length_half}
 use Rattle.rankings.specs.Order.{ranked}
-use Rattle.rankings.specs.KeyTuple.{KeyOf}
-use Rattle.rankings.specs.KeyNumbers.{numbers}
-use Rattle.rankings.specs.Regions.{in_regions, divided, best_of}
+use Rattle.tdp_model.specs.KeyTuple.{KeyOf}
+use Rattle.tdp_model.specs.KeyNumbers.{numbers}
+use Rattle.tdp_model.specs.Regions.{in_regions, divided, best_of}
 use Rattle.tdp_core.specs.AnswerView.{rows_of_key, answers_of}
 use Rattle.tdp_core.specs.TreeView.{NodeView, rows}
 use Rattle.anyk_part.specs.declared.candidate.Link.{Link}

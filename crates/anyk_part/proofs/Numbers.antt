@@ -3,9 +3,9 @@ use Rattle.std.proofs.Common.{◌≡◌, ◌≢◌, ℕ, zero, suc, ◌+◌, ◌
 use Rattle.std.proofs.lemmas.Bool.{cases_eq, ne_eqb, cond-false}
 use Rattle.std.proofs.Math.ListN.{set}
 use Rattle.std.proofs.lemmas.List.{get_or-take, length-take, get_or-set_same, get_or-set_other}
-use Rattle.rankings.specs.KeyTuple.{KeyOf, key_add, key_none, slot_of}
-use Rattle.rankings.specs.TreeProblem.{rows_key}
-use Rattle.rankings.proofs.Ties.{slot_key, slot_zero}
+use Rattle.tdp_model.specs.KeyTuple.{KeyOf, key_add, key_none, slot_of}
+use Rattle.tdp_model.specs.TreeProblem.{rows_key}
+use Rattle.tdp_model.proofs.Ties.{slot_key, slot_zero}
 use Rattle.tdp_core.specs.AnswerView.{rows_of_key}
 use Rattle.tdp_core.specs.TreeView.{NodeView, parent, item, rows, number, group, rank}
 use Rattle.tdp_core.specs.WellFormed.{IsFormed, IsTieFreeTree}

@@ -3,17 +3,17 @@ use Rattle.std.proofs.Common.{◌≡◌, ℕ, suc, ◌+◌, ◌-◌, ◌*◌, �
 use Rattle.std.specs.List.{All}
 use Rattle.std.proofs.lemmas.List.Sums.{sum_by-cons}
 use Rattle.std.proofs.lemmas.List.Elements.{All-head, All-tail}
-use Rattle.containers.specs.declared.linked.Linked.{Linked}
-use Rattle.containers.specs.declared.entry.Entry.{Entry}
-use Rattle.containers.specs.Order as heaps
-use Rattle.rankings.specs.KeyTuple.{KeyOf, key_below}
-use Rattle.rankings.specs.Remains.{AtMost, Remains}
-use Rattle.rankings.specs.Regions.{Region, in_region, in_regions, divided}
-use Rattle.rankings.specs.Queue.{rank_of, IsOpen, AllOpen, IsLeast, IsQueue, present}
-use Rattle.rankings.proofs.KeyTuples.{tuple_keys}
-use Rattle.rankings.proofs.KeyNumbers.{not_less_at_most}
-use Rattle.rankings.proofs.Removal.{Remains-same}
-use Rattle.rankings.proofs.PartNext.{part_keeps, in_regions_append, present_same}
+use Rattle.stream_store.specs.declared.linked.Linked.{Linked}
+use Rattle.take2_heap.specs.declared.entry.Entry.{Entry}
+use Rattle.take2_heap.specs.Order as heaps
+use Rattle.tdp_model.specs.KeyTuple.{KeyOf, key_below}
+use Rattle.tdp_model.specs.Remains.{AtMost, Remains}
+use Rattle.tdp_model.specs.Regions.{Region, in_region, in_regions, divided}
+use Rattle.tdp_model.specs.Queue.{rank_of, IsOpen, AllOpen, IsLeast, IsQueue, present}
+use Rattle.tdp_model.proofs.KeyTuples.{tuple_keys}
+use Rattle.tdp_model.proofs.KeyNumbers.{not_less_at_most}
+use Rattle.tdp_model.proofs.Removal.{Remains-same}
+use Rattle.tdp_model.proofs.PartNext.{part_keeps, in_regions_append, present_same}
 use Rattle.tdp_core.specs.TreeView.{NodeView, group_count}
 use Rattle.tdp_core.specs.WellFormed.{IsFormed}
 use Rattle.anyk_part.specs.declared.candidate.Link.{Link}

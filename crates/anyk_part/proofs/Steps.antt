@@ -7,11 +7,11 @@ use Rattle.std.proofs.lemmas.List.{get_or-take, get_or_past}
 use Rattle.std.proofs.lemmas.Bool.{cases_eq, cases_lt, eq-eqb, cond-true}
 use Rattle.std.proofs.lemmas.List.Sums.{sum_by-cons}
 use Rattle.std.proofs.lemmas.List.Elements.{All-head, All-tail, All-cons, All-nil}
-use Rattle.containers.specs.declared.linked.Linked.{Linked}
-use Rattle.containers.specs.declared.entry.Entry.{Entry}
-use Rattle.rankings.specs.KeyTuple.{KeyOf, key_below}
-use Rattle.rankings.specs.StagedProblem.{IsStaged}
-use Rattle.rankings.specs.Regions.{in_region, opening}
+use Rattle.stream_store.specs.declared.linked.Linked.{Linked}
+use Rattle.take2_heap.specs.declared.entry.Entry.{Entry}
+use Rattle.tdp_model.specs.KeyTuple.{KeyOf, key_below}
+use Rattle.tdp_model.specs.StagedProblem.{IsStaged}
+use Rattle.tdp_model.specs.Regions.{in_region, opening}
 use Rattle.tdp_core.specs.TreeView.{NodeView, node_at, parent, rows, members, group_count, group_number, group_named, child_place, group, best}
 use Rattle.tdp_core.proofs.TreeFacts.{member_is_row, rows_within, group_rows_within}
 use Rattle.anyk_part.specs.declared.candidate.Link.{Link}
@@ -23,7 +23,7 @@ use Rattle.anyk_part.specs.Regions.{followers, Reached, least, region_of, region
 use Rattle.anyk_part.specs.Walks.{IsSite, IsAt, IsChoice, row_at}
 use Rattle.anyk_part.proofs.ChainLemmas.{chain_length, IsChain-kept, chain_kept, IsChain-new, chain_new}
 use Rattle.anyk_part.proofs.LiveTrees.{staged}
-use Rattle.rankings.proofs.PartNext.{none_past}
+use Rattle.tdp_model.proofs.PartNext.{none_past}
 
 -- # Entries and a growing store
 

@@ -3,17 +3,17 @@ use Rattle.std.proofs.Common.{◌≡◌, ℕ, suc, ◌+◌, ◌*◌, ◌<◌, Li
 use Rattle.std.proofs.lemmas.Bool.{cases_lt}
 use Rattle.std.proofs.lemmas.List.{length-append}
 use Rattle.rankings.specs.Order.{IsMember}
-use Rattle.rankings.specs.KeyTuple.{KeyOf, key_below, key_add, key_none}
-use Rattle.rankings.specs.Remains.{AtMost, Remains}
-use Rattle.rankings.specs.Regions.{Region, held, stands, place_of, completes, in_region, in_regions, best_of}
-use Rattle.rankings.specs.Heap.{under}
-use Rattle.rankings.specs.Queue.{rank_of, IsOpen, AllOpen}
-use Rattle.rankings.proofs.KeyTuples.{tuple_keys}
-use Rattle.rankings.proofs.Cover.{region_division}
-use Rattle.rankings.proofs.Division.{past_found, times_pos, exactly_at}
-use Rattle.rankings.proofs.Least.{region_least, best_bound}
-use Rattle.rankings.proofs.Ties.{completes_length}
-use Rattle.rankings.proofs.TreeStaged.{bound_whole}
+use Rattle.tdp_model.specs.KeyTuple.{KeyOf, key_below, key_add, key_none}
+use Rattle.tdp_model.specs.Remains.{AtMost, Remains}
+use Rattle.tdp_model.specs.Regions.{Region, held, stands, place_of, completes, in_region, in_regions, best_of}
+use Rattle.tdp_model.specs.Heap.{under}
+use Rattle.tdp_model.specs.Queue.{rank_of, IsOpen, AllOpen}
+use Rattle.tdp_model.proofs.KeyTuples.{tuple_keys}
+use Rattle.tdp_model.proofs.Cover.{region_division}
+use Rattle.tdp_model.proofs.Division.{past_found, times_pos, exactly_at}
+use Rattle.tdp_model.proofs.Least.{region_least, best_bound}
+use Rattle.tdp_model.proofs.Ties.{completes_length}
+use Rattle.tdp_model.proofs.TreeStaged.{bound_whole}
 use Rattle.tdp_core.specs.TreeView.{NodeView, parent, rows, group_count, group, rank, best}
 use Rattle.tdp_core.specs.WellFormed.{IsFormed}
 use Rattle.anyk_part.specs.Regions.{followers, Reached, least}

@@ -1,10 +1,10 @@
 -- What the candidates are to a caller: regions of the solutions that are left, each with its least
 -- key.
 use Rattle.std.specs.Prelude.{◌≡◌, ℕ, ◌<◌, List}
-use Rattle.rankings.specs.KeyTuple.{KeyOf, key_below, key_add, key_none}
-use Rattle.rankings.specs.Regions.{in_region, in_regions}
-use Rattle.rankings.specs.Remains.{AtMost, Remains}
-use Rattle.rankings.specs.TreeProblem.{rows_key}
+use Rattle.tdp_model.specs.KeyTuple.{KeyOf, key_below, key_add, key_none}
+use Rattle.tdp_model.specs.Regions.{in_region, in_regions}
+use Rattle.tdp_model.specs.Remains.{AtMost, Remains}
+use Rattle.tdp_model.specs.TreeProblem.{rows_key}
 use Rattle.tdp_core.specs.TreeView.{NodeView, rank}
 use Rattle.anyk_part.specs.Regions.{RankedRegion, regions, followers, rest_keys}
 

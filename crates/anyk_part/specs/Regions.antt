@@ -1,14 +1,14 @@
 -- What the candidates mean, and what the queue of them is.
 use Rattle.std.specs.Prelude.{◌≡◌, ℕ, ◌+◌, ◌-◌, ◌*◌, ◌<◌, ◌≤◌, suc, List, length, map}
 use Rattle.std.specs.List.{All, sum_by}
-use Rattle.containers.specs.declared.linked.Linked.{Linked}
-use Rattle.containers.specs.declared.entry.Entry.{Entry}
-use Rattle.rankings.specs.KeyTuple.{KeyOf, key_below, key_add, key_none}
-use Rattle.rankings.specs.Regions.{Region, in_region, in_regions}
-use Rattle.rankings.specs.TreeProblem.{rows_after, bound_of, IsReached}
-use Rattle.rankings.specs.Queue.{rank_of}
-use Rattle.rankings.specs.Remains.{Remains}
-use Rattle.rankings.proofs.KeyTuples.{tuple_keys}
+use Rattle.stream_store.specs.declared.linked.Linked.{Linked}
+use Rattle.take2_heap.specs.declared.entry.Entry.{Entry}
+use Rattle.tdp_model.specs.KeyTuple.{KeyOf, key_below, key_add, key_none}
+use Rattle.tdp_model.specs.Regions.{Region, in_region, in_regions}
+use Rattle.tdp_model.specs.TreeProblem.{rows_after, bound_of, IsReached}
+use Rattle.tdp_model.specs.Queue.{rank_of}
+use Rattle.tdp_model.specs.Remains.{Remains}
+use Rattle.tdp_model.proofs.KeyTuples.{tuple_keys}
 use Rattle.tdp_core.specs.AnswerView.{AnswerView, answers_of}
 use Rattle.tdp_core.specs.TreeView.{NodeView, parent, rows, group, group_count, rank, best}
 use Rattle.tdp_core.specs.WellFormed.{IsFormed, IsTieFreeTree}

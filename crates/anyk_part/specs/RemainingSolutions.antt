@@ -1,9 +1,9 @@
 -- The solutions that regions hold, as a list, and the ranking of their keys.
 use Rattle.std.specs.Prelude.{ℕ, zero, suc, cond, nat_eq, List, [], ◌∷◌, ◌++◌, map}
 use Rattle.rankings.specs.Order.{IsOrder, ranked}
-use Rattle.rankings.specs.Heap.{under}
-use Rattle.rankings.specs.Regions.{Region, place_of}
-use Rattle.rankings.specs.TreeProblem.{gather}
+use Rattle.tdp_model.specs.Heap.{under}
+use Rattle.tdp_model.specs.Regions.{Region, place_of}
+use Rattle.tdp_model.specs.TreeProblem.{gather}
 
 -- the solutions that n members after `pre` complete
 unfoldable pub completions : (List ℕ → List ℕ) → ℕ → List ℕ → List (List ℕ)

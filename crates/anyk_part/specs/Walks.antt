@@ -1,10 +1,10 @@
 -- The division of a region by one answer, node by node.
 use Rattle.std.specs.Prelude.{Bool, ◌≡◌, ℕ, ◌+◌, ◌-◌, ◌*◌, ◌<◌, ◌≤◌, zero, suc, true, cond, List, [], ◌∷◌, ◌++◌, length, take, slice_index, slice_set}
 use Rattle.std.specs.List.{All}
-use Rattle.containers.specs.declared.linked.Linked.{Linked}
-use Rattle.containers.specs.declared.entry.Entry.{Entry}
-use Rattle.rankings.specs.KeyTuple.{KeyOf}
-use Rattle.rankings.specs.Regions.{Region, in_region, in_regions, completion, deviations, best_of, divided}
+use Rattle.stream_store.specs.declared.linked.Linked.{Linked}
+use Rattle.take2_heap.specs.declared.entry.Entry.{Entry}
+use Rattle.tdp_model.specs.KeyTuple.{KeyOf}
+use Rattle.tdp_model.specs.Regions.{Region, in_region, in_regions, completion, deviations, best_of, divided}
 use Rattle.tdp_core.specs.TreeView.{NodeView, parent, rows, group_count, group_number, best}
 use Rattle.tdp_core.specs.WellFormed.{IsFormed}
 use Rattle.anyk_part.specs.declared.candidate.Link.{Link}

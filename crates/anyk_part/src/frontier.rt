@@ -2,9 +2,9 @@
 ghost use Rattle.std.specs.Prelude.{◌≡◌, ℕ, ◌+◌, ◌-◌, ◌*◌, ◌^◌, ◌<◌, ◌≤◌, true, false, List, ◌∷◌, cond, length, take, slice_index_or, OnOk, IsSome, IfSome, ◌↔◌};
 ghost use Rattle.std.specs.List.{All};
 ghost use Rattle.std.specs.List.Sorted.{IsPermutation};
-ghost use Rattle.containers.specs.Order.{IsLeast};
+ghost use Rattle.take2_heap.specs.Order.{IsLeast};
 ghost use Rattle.rank_key.specs.Bits.{bit_length};
-ghost use Rattle.rankings.specs.Regions.{in_region};
+ghost use Rattle.tdp_model.specs.Regions.{in_region};
 ghost use Rattle.tdp_core.specs.TreeView.{members};
 ghost use Rattle.anyk_part.specs.Chains.{chain, IsChain};
 ghost use Rattle.anyk_part.specs.Places.{ArePlaces};
@@ -13,11 +13,12 @@ ghost use Rattle.anyk_part.specs.Walks.{CanChoose, IsAdvanced, IsDivided, IsSite
 
 use crate::candidate::{Candidate, Choice, Link, Site, Walk};
 use crate::paths::group_at;
-use containers::{Entry, EntryId, HeapOf, Store};
-use ground::{NoMemory, Steps};
 use rank_key::Rank;
 use std::alloc::Allocator;
 use std::sync::ledger::Ledger;
+use step_counter::{NoMemory, Steps};
+use stream_store::{EntryId, Store};
+use take2_heap::{Entry, HeapOf};
 use tdp_core::Tree;
 
 /// The candidates in heap order of their ranks, and the links of their prefixes.

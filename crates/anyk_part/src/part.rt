@@ -1,9 +1,9 @@
 //! The engine by regions: `next` takes the best candidate, divides its region and returns the
 //! answer.
 ghost use Rattle.std.specs.Prelude.{◌≡◌, ℕ, ◌+◌, ◌-◌, ◌*◌, ◌<◌, ◌≤◌, List, [], length, IfOk};
-ghost use Rattle.containers.specs.declared.linked.Linked.{Linked};
+ghost use Rattle.stream_store.specs.declared.linked.Linked.{Linked};
 ghost use Rattle.std.specs.List.{All};
-ghost use Rattle.rankings.specs.KeyTuple.{KeyOf};
+ghost use Rattle.tdp_model.specs.KeyTuple.{KeyOf};
 ghost use Rattle.tdp_core.specs.TreeView.{group_count, row_count};
 ghost use Rattle.tdp_core.specs.WellFormed.{IsTieFreeTree};
 ghost use Rattle.tdp_core.specs.Solutions.{IsTreeRanking};
@@ -16,12 +16,13 @@ ghost use Rattle.anyk_part.specs.Candidates.{HoldTheRest, HasLeastRank};
 use crate::candidate::{Candidate, Link, Walk};
 use crate::frontier::Frontier;
 use crate::paths::{child_places, row_numbers};
-use containers::{EntryId, HeapOf, Store};
-use ground::{NoMemory, Steps};
 use rank_key::Rank;
 use std::alloc::Allocator;
 use std::marker::Model;
 use std::sync::ledger::Ledger;
+use step_counter::{NoMemory, Steps};
+use stream_store::{EntryId, Store};
+use take2_heap::HeapOf;
 use tdp_core::{Answer, Ranked, Tree};
 
 /// The answers of a tree in order of rank. Contracts see the tree, the candidates in heap order and

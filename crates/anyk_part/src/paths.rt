@@ -1,15 +1,15 @@
 //! The rows of one solution: the group at each node, and the row numbers by item.
 ghost use Rattle.std.specs.Prelude.{◌≡◌, ℕ, ◌+◌, ◌<◌, ◌≤◌, length, take, slice_index};
-ghost use Rattle.rankings.specs.KeyTuple.{key_add, key_none};
-ghost use Rattle.rankings.specs.TreeProblem.{rows_key};
+ghost use Rattle.tdp_model.specs.KeyTuple.{key_add, key_none};
+ghost use Rattle.tdp_model.specs.TreeProblem.{rows_key};
 ghost use Rattle.tdp_core.specs.AnswerView.{rows_of_key};
 ghost use Rattle.tdp_core.specs.TreeView.{parent, rows, rank, group_number};
 ghost use Rattle.tdp_core.specs.WellFormed.{IsFormed, IsTieFreeTree};
 ghost use Rattle.anyk_part.specs.Places.{ArePlaces};
 
-use ground::Steps;
 use rank_key::Rank;
 use std::sync::ledger::Ledger;
+use step_counter::Steps;
 use tdp_core::Tree;
 
 /// The place of each node among the children of its parent, and 0 for the root.

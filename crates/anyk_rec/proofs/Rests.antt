@@ -3,17 +3,17 @@ use Rattle.std.proofs.Common.{◌≡◌, ℕ, ℤ, zero, suc, ◌+◌, ◌*◌, 
 use Rattle.std.proofs.lemmas.Bool.Decides.{nat_tests}
 use Rattle.rank_key.specs.Bits.{bit_length}
 use Rattle.rank_key.proofs.BitLemmas.{bit_length_rises, bit_length_below}
-use Rattle.rankings.specs.KeyTuple.{KeyOf, key_none}
-use Rattle.rankings.specs.KeyNumbers.{numbers}
+use Rattle.tdp_model.specs.KeyTuple.{KeyOf, key_none}
+use Rattle.tdp_model.specs.KeyNumbers.{numbers}
 use Rattle.tdp_core.specs.declared.ranked.Answer.{Answer}
 use Rattle.tdp_core.specs.AnswerView.{AnswerView, rows_of_key, answers_of, answer_of}
 use Rattle.tdp_core.specs.Shares.{size_of, share_of}
 use Rattle.tdp_core.specs.TreeView.{NodeView, group_count, row_count}
 use Rattle.tdp_core.specs.WellFormed.{IsFormed, IsTieFreeTree}
 use Rattle.tdp_core.specs.Solutions.{IsTreeRanking}
-use Rattle.anyk_rec.specs.Rankings.{group_list}
-use Rattle.anyk_rec.specs.StreamsView.{StreamsView, AreKept, Follows, entry_group, entry_place, entry_key}
-use Rattle.anyk_rec.proofs.BeginRankings.{root_list_empty, root_ranks}
+use Rattle.suffix_streams.specs.Rankings.{group_list}
+use Rattle.suffix_streams.specs.StreamsView.{StreamsView, AreKept, Follows, entry_group, entry_place, entry_key}
+use Rattle.suffix_streams.proofs.BeginRankings.{root_list_empty, root_ranks}
 use Rattle.anyk_rec.specs.RecView.{RecView, rest_of, IsRootEntry, given_of}
 
 drop_nothing : {K : Type 0} (n : ℕ) → drop {A = K} n [] ≡ []

@@ -3,9 +3,9 @@ use Rattle.std.specs.Prelude.{◌≡◌, ℕ, ◌+◌, ◌<◌, ◌≤◌, Bool,
 use Rattle.tdp_core.specs.AnswerView.{AnswerView, answers_of}
 use Rattle.tdp_core.specs.TreeView.{group_count}
 use Rattle.tdp_core.specs.WellFormed.{IsFormed}
-use Rattle.rankings.specs.KeyTuple.{KeyOf}
-use Rattle.anyk_rec.specs.Rankings.{group_list}
-use Rattle.anyk_rec.specs.StreamsView.{StreamsView, entry_node, entry_group, entry_place}
+use Rattle.tdp_model.specs.KeyTuple.{KeyOf}
+use Rattle.suffix_streams.specs.Rankings.{group_list}
+use Rattle.suffix_streams.specs.StreamsView.{StreamsView, entry_node, entry_group, entry_place}
 
 -- the streams, how many members of the root's stream were given, and the number of calls so far,
 -- which stays at its last value

@@ -1,25 +1,25 @@
 //! The engine by recursion: `next` asks the root's stream for its next member.
 ghost use Rattle.std.specs.Prelude.{◌≡◌, ℕ, ◌+◌, ◌*◌, ◌^◌, ◌<◌, ◌≤◌, List, [], ◌∷◌, length, IfOk, IfSome, IfNone, OnErr};
 ghost use Rattle.rank_key.specs.Bits.{bit_length};
-ghost use Rattle.rankings.specs.KeyTuple.{KeyOf};
-ghost use Rattle.rankings.specs.KeyNumbers.{numbers};
+ghost use Rattle.tdp_model.specs.KeyTuple.{KeyOf};
+ghost use Rattle.tdp_model.specs.KeyNumbers.{numbers};
 ghost use Rattle.tdp_core.specs.AnswerView.{answers_of, counted};
 ghost use Rattle.tdp_core.specs.Shares.{size_of, share_of};
 ghost use Rattle.tdp_core.specs.RisingShares.{shares_rise, at_most_itself};
 ghost use Rattle.tdp_core.specs.TreeView.{group_count, row_count};
 ghost use Rattle.tdp_core.specs.WellFormed.{IsTieFreeTree};
 ghost use Rattle.tdp_core.specs.Solutions.{IsTreeRanking};
-ghost use Rattle.anyk_rec.specs.Rankings.{group_list};
-ghost use Rattle.anyk_rec.specs.StreamsView.{entry_place, size_of_node, AreKept, IsEntry};
+ghost use Rattle.suffix_streams.specs.Rankings.{group_list};
+ghost use Rattle.suffix_streams.specs.StreamsView.{entry_place, size_of_node, AreKept, IsEntry};
 ghost use Rattle.anyk_rec.specs.RecView.{rest_of, IsRootEntry, given_of};
 
-use crate::Streams;
-use containers::EntryId;
-use ground::{NoMemory, Steps};
 use rank_key::Rank;
 use std::alloc::Allocator;
 use std::marker::Model;
 use std::sync::ledger::Ledger;
+use step_counter::{NoMemory, Steps};
+use stream_store::EntryId;
+use suffix_streams::Streams;
 use tdp_core::{Answer, Ranked, Tree};
 
 /// The answers of a tree in order of rank: the members of the root's stream that were not given

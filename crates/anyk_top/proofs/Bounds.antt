@@ -10,13 +10,13 @@ use Rattle.anyk_model.specs.Query.{Query}
 use Rattle.anyk_model.specs.Table.{Table}
 use Rattle.outer_io.specs.Files.{Files}
 use Rattle.bound_query.specs.Shape.{Shape}
-use Rattle.outer_io.specs.Reason.{Reason}
-use Rattle.verdict.specs.SessionCalls.{session_reach}
+use Rattle.refusals.specs.Reason.{Reason}
+use Rattle.output_model.specs.SessionCalls.{session_reach}
 use Rattle.anyk_model.specs.TaggedRows.{Tagged, branch_at}
 use Rattle.anyk_model.specs.Union.{union_of}
 use Rattle.anyk_model.specs.UnionOutput.{union_output_of}
 use Rattle.bound_query.specs.WeighedQuery.{BoundQuery}
-use Rattle.task_input.specs.Input.{InputView, loaded_of}
+use Rattle.command_input.specs.Input.{InputView, loaded_of}
 use Rattle.plan_build.specs.Plans.{ArePrepared, preparation_of}
 use Rattle.verdict.specs.Bound.{IsBounded, IsPaced, IsPrompt, IsWithin, cost_of}
 use Rattle.verdict.specs.AcceptedInput.{Found, found_of, is_union, queries_in, query_of, structure_of}
@@ -29,7 +29,7 @@ use Rattle.verdict.specs.Words.{Asked, Command, Words, built, run, plan, session
 use Rattle.verdict.proofs.Structure.{shapes_had}
 use Rattle.anyk_top.specs.Plans.{IsEarlyFor, IsEarlyWithin}
 use Rattle.anyk_top.proofs.Prepared.{prepared_over, union_prepared}
-use Rattle.task_input.proofs.Judging.{verdict_structured}
+use Rattle.command_input.proofs.Judging.{verdict_structured}
 
 -- ---- the steps of a preparation
 

@@ -9,9 +9,9 @@ use Rattle.outer_io.specs.Files.{Files}
 use Rattle.bound_query.specs.WeighedQuery.{BoundQuery}
 use Rattle.bound_query.specs.Shape.{Shape}
 use Rattle.anyk_model.specs.TaggedRows.{branch_at}
-use Rattle.task_input.specs.Input.{InputView, loaded_of}
+use Rattle.command_input.specs.Input.{InputView, loaded_of}
 use Rattle.plan_build.specs.Plans.{ArePrepared, preparation_of}
-use Rattle.outer_io.specs.Reason.{Reason}
+use Rattle.refusals.specs.Reason.{Reason}
 use Rattle.bound_query.specs.RunBounds.{IsPrepared}
 use Rattle.verdict.specs.AcceptedInput.{Found, found_of, queries_in}
 use Rattle.verdict.specs.Loading.{Loaded}
@@ -21,9 +21,9 @@ use Rattle.verdict.specs.Stages.{followed}
 use Rattle.verdict.specs.Verdict.{IsLoaded, IsStructured}
 use Rattle.verdict.specs.Words.{Command, built, run, plan, session, load, prove, verify}
 use Rattle.verdict.proofs.One.{one_loading}
-use Rattle.task_input.specs.Judgement.{HasOne, IsLooked}
+use Rattle.command_input.specs.Judgement.{HasOne, IsLooked}
 use Rattle.anyk_top.specs.Plans.{IsEarlyFor, IsEarlyWithin}
-use Rattle.task_input.proofs.Judging.{same_found, verdict_structured}
+use Rattle.command_input.proofs.Judging.{same_found, verdict_structured}
 
 pub early_still : (command : Command) (told : Option Files) (n : ℕ) → IsEarlyWithin command told n n
 early_still command None n = tt

@@ -2,10 +2,10 @@
 use Rattle.std.proofs.Common.{◌≡◌, ℕ, List, Option, Result, Ok, Err, OnOk, IfErr, inl, inr, refl, sym, subst, ap, ◌∙◌}
 use Rattle.outer_io.specs.Files.{Files}
 use Rattle.outer_io.specs.declared.writing.Unwritten.{Unwritten}
-use Rattle.outer_io.specs.declared.refusal.Refusal.{Refusal}
-use Rattle.outer_io.specs.Reason as reason
-use Rattle.outer_io.specs.Reason.{Reason, line_of, status_of}
-use Rattle.outer_io.specs.RefusalReasons.{reason_of}
+use Rattle.refusals.specs.declared.refusal.Refusal.{Refusal}
+use Rattle.refusals.specs.Reason as reason
+use Rattle.refusals.specs.Reason.{Reason, line_of, status_of}
+use Rattle.refusals.specs.RefusalReasons.{reason_of}
 use Rattle.outer_io.specs.SinkText.{Sent}
 use Rattle.outer_io.specs.SinkState.{SinkState}
 use Rattle.verdict.specs.Outcome.{GotNothing, HasLine, IsReason, IsCaused, IsComplete, IsCut, Outcome, Outside}

@@ -1,12 +1,6 @@
-pub mod Bests
 pub mod Bounds
 pub mod Ends
-pub mod Left
 pub mod Prepared
-pub mod Records
-pub mod RootSlots
-pub mod RunBounds
 pub mod UnionRun
-pub mod Verifying
 pub mod EarlyPlans
 pub mod PlanList

@@ -12,7 +12,7 @@ use Rattle.std.proofs.lemmas.Slice.Zip.{AllZip-long, all_zipped_more}
 use Rattle.std.proofs.Math.Seq.{take-length}
 use Rattle.anyk_model.specs.Query.{Query}
 use Rattle.anyk_model.specs.Table.{Table}
-use Rattle.join_tree.specs.Items.{items_of}
+use Rattle.hyper_graph.specs.Items.{items_of}
 use Rattle.plan_build.specs.Plan.{IsPlanOf, PlanView, shape_of}
 use Rattle.plan_build.specs.Faults.{TellsFlaw}
 use Rattle.plan_build.specs.RankedPlan.{IsRankedPlan, fixed_key, key_of_packed}
@@ -27,12 +27,12 @@ use Rattle.node_build.specs.Nodes.{CapsBelow}
 use Rattle.node_build.proofs.Shaped.{caps_small}
 use Rattle.bound_query.specs.WeighedQuery.{BoundQuery, Fits}
 use Rattle.bound_query.specs.Shape.{Flaw, IsShape, Shape, cyclic, too_many_rows}
-use Rattle.outer_io.specs.Reason.{Reason}
-use Rattle.languages.specs.declared.step.Step.{Step}
+use Rattle.refusals.specs.Reason.{Reason}
+use Rattle.session_script.specs.declared.step.Step.{Step}
 use Rattle.bound_query.specs.RunBounds.{IsPrepared}
-use Rattle.rankings.specs.KeyTuple.{KeyOf}
+use Rattle.tdp_model.specs.KeyTuple.{KeyOf}
 use Rattle.anyk_model.specs.TaggedRows.{HaveKeys}
-use Rattle.task_input.specs.Input.{InputView, loaded_of}
+use Rattle.command_input.specs.Input.{InputView, loaded_of}
 use Rattle.verdict.specs.Faults.{of_shape}
 use Rattle.verdict.specs.AcceptedInput.{found_of, queries_in}
 use Rattle.verdict.specs.Loading.{are_several}
@@ -201,11 +201,6 @@ module _ {R : Type 0} (d : ℕ) (key : R → KeyOf d 16) (tables : List Table) w
       (omega (arith, is, length_taken)) tells)
 
 -- # The queries of an input
-
-pub only_one : {X : Type 0} (xs : List X) (x : X) → length xs ≡ 1 → x ≡ get_or xs 0 x → xs ≡ x ∷ []
-only_one [] x one at = absurd (omega (arith, one))
-only_one (y ∷ []) x one at = ap (λ z. z ∷ []) (sym at)
-only_one (y ∷ other ∷ ys) x one at = absurd (omega (arith, one))
 
 pub one_found : (input : InputView) (query : BoundQuery) (shape : Shape) → input.queries ≡ query ∷ []
     → IsShape query.query input.tables (Ok shape)

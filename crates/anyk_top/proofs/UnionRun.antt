@@ -11,8 +11,8 @@ use Rattle.anyk_model.specs.Query.{Query}
 use Rattle.anyk_model.specs.Ranking.{ranking_of}
 use Rattle.anyk_model.specs.Table.{Table}
 use Rattle.command_output.specs.UnionSteps.{AreMembers, IsMember as IsUnionMember, steps_from}
-use Rattle.anyk_top.specs.Engines.{calls_of, rest_of, tree_of}
-use Rattle.anyk_top.specs.declared.choice.ChosenEngine.{ChosenEngine}
+use Rattle.engine_choice.specs.Engines.{calls_of, rest_of, tree_of}
+use Rattle.engine_choice.specs.declared.choice.ChosenEngine.{ChosenEngine}
 use Rattle.plan_build.specs.Plan.{IsPlanOf, PlanView}
 use Rattle.plan_build.proofs.ShapeIs.{rows_counted}
 use Rattle.plan_build.proofs.Rooted.{whole_of}
@@ -26,8 +26,8 @@ use Rattle.tdp_core.specs.RisingShares.{shares_rise}
 use Rattle.tdp_core.specs.AnswerView.{counted}
 use Rattle.tdp_core.specs.Shares.{share_of, size_of}
 use Rattle.tdp_core.specs.WellFormed.{IsTieFreeTree}
-use Rattle.rankings.specs.KeyTuple.{KeyOf}
-use Rattle.command_output.specs.Merge.{AreBegun, EngineView, HasCalled, rests_of}
+use Rattle.tdp_model.specs.KeyTuple.{KeyOf}
+use Rattle.union_all.specs.Merge.{AreBegun, EngineView, HasCalled, rests_of}
 use Rattle.anyk_model.specs.TaggedRows.{Tagged, branch_at}
 use Rattle.anyk_model.specs.Union.{left_of, members_in, union_of}
 use Rattle.anyk_model.proofs.Unions.{rankings_union, union_is}
@@ -35,7 +35,7 @@ use Rattle.verdict.specs.AcceptedInput.{queries_in}
 use Rattle.verdict.specs.UnionBound.{HaveShapes, union_cost}
 use Rattle.anyk_top.specs.Begun.{AreStarted, IsStarted, start_of, starts_of}
 use Rattle.anyk_top.proofs.Prepared.{union_prepared}
-use Rattle.anyk_top.proofs.RunBounds.{called, started}
+use Rattle.engine_choice.proofs.RunBounds.{called, started}
 
 -- # Engines one after another
 

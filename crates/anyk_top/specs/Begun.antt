@@ -2,13 +2,13 @@
 use Rattle.std.specs.Prelude.{◌≡◌, ◌+◌, ◌*◌, ℕ, List, None, length}
 use Rattle.std.specs.List.{AllZip, sum_by}
 use Rattle.anyk_model.specs.Table.{Table}
-use Rattle.anyk_top.specs.Engines.{calls_of, rest_of, tree_of}
-use Rattle.anyk_top.specs.declared.choice.ChosenEngine.{ChosenEngine}
+use Rattle.engine_choice.specs.Engines.{calls_of, rest_of, tree_of}
+use Rattle.engine_choice.specs.declared.choice.ChosenEngine.{ChosenEngine}
 use Rattle.plan_build.specs.Plan.{IsPlanOf, PlanView}
 use Rattle.bound_query.specs.WeighedQuery.{BoundQuery}
-use Rattle.rankings.specs.KeyTuple.{KeyOf}
+use Rattle.tdp_model.specs.KeyTuple.{KeyOf}
 use Rattle.tdp_core.specs.TreeView.{row_count}
-use Rattle.anyk_top.specs.AskedList.{IsAskedList}
+use Rattle.engine_choice.specs.AskedList.{IsAskedList}
 
 -- an engine over the plan that was not called yet, and has all answers of its query left
 pub record IsStarted {R : Type 0} (d : ℕ) (key : R → KeyOf d 16) (plan : PlanView R)

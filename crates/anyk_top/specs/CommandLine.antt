@@ -1,11 +1,11 @@
 -- What the arguments of the command line ask for.
 use Rattle.std.specs.Prelude.{◌≡◌, ℕ, List, Option, Some, None}
-use Rattle.outer_io.specs.Reason as reason
-use Rattle.outer_io.specs.Reason.{Reason}
+use Rattle.refusals.specs.Reason as reason
+use Rattle.refusals.specs.Reason.{Reason}
 use Rattle.cmd_words.specs.declared.fault.WordsFault.{WordsFault}
 use Rattle.cmd_words.specs.declared.fault.WordsFault.TheVariants as fault
 use Rattle.cmd_words.specs.Commands.{CommandSaid, run_said, session_said, plan_said, prove_said, verify_said, load_said}
-use Rattle.task_input.specs.Tasks.{words_of}
+use Rattle.command_input.specs.Tasks.{words_of}
 use Rattle.verdict.specs.Words.{Words, Asked, no_command, built, run, plan, session, load, prove, verify}
 
 -- `clap` accepts the arguments of a session only if a script is among them

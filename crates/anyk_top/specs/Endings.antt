@@ -2,9 +2,9 @@
 use Rattle.std.specs.Prelude.{◌≡◌, ℕ, List, [], Result, Ok, Err}
 use Rattle.std.specs.Io.KnownBytes.{Appends}
 use Rattle.outer_io.specs.declared.writing.Unwritten.{Unwritten}
-use Rattle.outer_io.specs.declared.refusal.Refusal.{Refusal}
-use Rattle.outer_io.specs.Reason.{line_of, status_of}
-use Rattle.outer_io.specs.RefusalReasons.{reason_of}
+use Rattle.refusals.specs.declared.refusal.Refusal.{Refusal}
+use Rattle.refusals.specs.Reason.{line_of, status_of}
+use Rattle.refusals.specs.RefusalReasons.{reason_of}
 use Rattle.outer_io.specs.SinkText.{Sent}
 use Rattle.outer_io.specs.SinkState.{SinkState}
 

@@ -1,10 +1,6 @@
 pub mod Answered
-pub mod AskedList
 pub mod Begun
-pub mod BestKey
 pub mod CommandLine
 pub mod Endings
-pub mod Engines
 pub mod Requests
-pub mod Verifications
 pub mod Plans

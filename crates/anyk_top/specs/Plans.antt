@@ -3,7 +3,7 @@ use Rattle.std.specs.Prelude.{◌≡◌, ◌<◌, ℕ, List, [], ◌∷◌, leng
 use Rattle.std.specs.Prelude.{Option, IfSome, Result, Ok, Err, Vec}
 use Rattle.std.specs.Global.{Global}
 use Rattle.anyk_model.specs.Table.{Table}
-use Rattle.join_tree.specs.Items.{items_of}
+use Rattle.hyper_graph.specs.Items.{items_of}
 use Rattle.outer_io.specs.Files.{Files}
 use Rattle.plan_build.specs.Plan.{IsPlanOf, PlanView, shape_of}
 use Rattle.plan_build.specs.Plans.{ArePrepared, HavePlans}
@@ -15,14 +15,14 @@ use Rattle.plan_build.specs.declared.ranked_plan.RankedPlan.TheVariants.{Lex, Mi
 use Rattle.bound_query.specs.WeighedQuery.{BoundQuery}
 use Rattle.bound_query.specs.Shape.{Shape}
 use Rattle.proof_model.specs.Certificate.{Certificate}
-use Rattle.languages.specs.declared.step.Step.{Step}
-use Rattle.rankings.specs.KeyTuple.{KeyOf}
-use Rattle.outer_io.specs.declared.refusal.Refusal.{Refusal}
-use Rattle.outer_io.specs.Reason as reason
-use Rattle.outer_io.specs.Reason.{Reason}
-use Rattle.outer_io.specs.RefusalReasons.{reason_of}
+use Rattle.session_script.specs.declared.step.Step.{Step}
+use Rattle.tdp_model.specs.KeyTuple.{KeyOf}
+use Rattle.refusals.specs.declared.refusal.Refusal.{Refusal}
+use Rattle.refusals.specs.Reason as reason
+use Rattle.refusals.specs.Reason.{Reason}
+use Rattle.refusals.specs.RefusalReasons.{reason_of}
 use Rattle.bound_query.specs.RunBounds.{IsPrepared}
-use Rattle.task_input.specs.Input.{InputView, loaded_of}
+use Rattle.command_input.specs.Input.{InputView, loaded_of}
 use Rattle.verdict.specs.AcceptedInput.{Found, found_of, query_of}
 use Rattle.verdict.specs.Loading.{Loaded}
 use Rattle.verdict.specs.Verdict.{IsVerdict}

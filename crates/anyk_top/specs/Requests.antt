@@ -2,7 +2,7 @@
 use Rattle.cmd_words.specs.ArgumentMeaning.{words_view}
 use Rattle.std.specs.Prelude.{string_bytes}
 use Rattle.verdict.specs.Words.{Command, verify}
-use Rattle.task_input.specs.Tasks.{command_of, words_of}
+use Rattle.command_input.specs.Tasks.{command_of, words_of}
 use Rattle.anyk_top.specs.declared.request.Request.{Request}
 use Rattle.anyk_top.specs.declared.request.Request.TheVariants.{Planned, Verify}
 

@@ -1,13 +1,13 @@
 //! A command that plans its queries, from its input to its output.
 ghost use Rattle.std.specs.Prelude.{◌<◌, [], ◌∷◌, IfErr, OnOk, length};
-ghost use Rattle.task_input.specs.Input.{loaded_of};
+ghost use Rattle.command_input.specs.Input.{loaded_of};
 ghost use Rattle.plan_build.specs.Plan.{IsPlanOf, shape_of};
 ghost use Rattle.plan_build.specs.Plans.{ArePrepared, HavePlans};
 ghost use Rattle.proof_model.specs.Certificate.{Certificate};
 ghost use Rattle.bound_query.specs.WeighedQuery.{Fits};
-ghost use Rattle.outer_io.specs.RefusalReasons.{reason_of};
+ghost use Rattle.refusals.specs.RefusalReasons.{reason_of};
 ghost use Rattle.outer_io.specs.SinkState.{state_of};
-ghost use Rattle.languages.specs.Script.{KeepsRules};
+ghost use Rattle.session_script.specs.Script.{KeepsRules};
 ghost use Rattle.bound_query.specs.RunBounds.{IsPrepared};
 ghost use Rattle.verdict.specs.Bound.{IsBounded, IsPrompt};
 ghost use Rattle.verdict.specs.AcceptedInput.{found_of, queries_in};
@@ -15,10 +15,10 @@ ghost use Rattle.verdict.specs.MadeFiles.{known_to};
 ghost use Rattle.verdict.specs.Outcome.{IsReason, IsCaused, IsComplete, IsCut};
 ghost use Rattle.verdict.specs.Words.{built};
 ghost use Rattle.anyk_top.specs.Answered.{IsAnswered};
-ghost use Rattle.task_input.specs.Judgement.{HasOne, IsUnnamed};
+ghost use Rattle.command_input.specs.Judgement.{HasOne, IsUnnamed};
 ghost use Rattle.anyk_top.specs.Plans.{ArePlans, IsOnePlan, IsOnePlanOf, found_by};
 ghost use Rattle.anyk_top.specs.Plans.{found_in, shape_in, shapes_of};
-ghost use Rattle.task_input.specs.Tasks.{command_of};
+ghost use Rattle.command_input.specs.Tasks.{command_of};
 ghost use Rattle.verdict.specs.Sides.{seen_by};
 
 use crate::certificate::print_certificate;
@@ -30,14 +30,16 @@ use crate::run::print_run;
 use crate::session::print_script;
 use crate::style::style_in;
 use crate::union::print_union_run;
-use ground::{Keys, Steps};
-use languages::Step;
-use outer_io::{PrintFault, Refusal, Shelf, Sink, refused};
+use command_input::{Input, Task};
+use hash_keys::Keys;
+use outer_io::{PrintFault, Shelf, Sink};
 use plan_build::{Plan, RankedPlan};
 use rank_key::Rank;
+use refusals::{Refusal, refused};
+use session_script::Step;
 use std::alloc::Global;
 use std::sync::ledger::Ledger;
-use task_input::{Input, Task};
+use step_counter::Steps;
 
 /// Reads or makes the input of the command, plans its query, and prints the command's output. The
 /// result is an error if the input is refused, if a read or a write failed, or if memory is

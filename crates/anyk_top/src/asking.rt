@@ -8,9 +8,9 @@ ghost use Rattle.anyk_top.specs.Requests.{asked_by};
 
 use crate::request::Request;
 use cmd_words::{Command, Words, WordsFault, read_words};
-use ground::NoMemory;
+use command_input::{MadeTables, Task};
 use std::alloc::Global;
-use task_input::{MadeTables, Task};
+use step_counter::NoMemory;
 
 /// The command that the arguments ask for. `Usage` if they are not a command, and `NoMemory` if
 /// memory is refused.

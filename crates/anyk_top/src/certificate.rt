@@ -8,19 +8,20 @@ ghost use Rattle.outer_io.specs.Printing.{PrintedSome};
 ghost use Rattle.outer_io.specs.SinkState.{state_of};
 ghost use Rattle.tdp_core.specs.AnswerView.{answers_of};
 ghost use Rattle.tdp_core.specs.Solutions.{IsTreeRanking};
-ghost use Rattle.rankings.specs.KeyTuple.{KeyOf};
+ghost use Rattle.tdp_model.specs.KeyTuple.{KeyOf};
 
-use crate::engine_over;
 use bound_query::Query;
 use bumpalo::Bump;
 use cmd_words::Engine;
-use ground::Steps;
+use engine_choice::engine_over;
 use outer_io::{PrintFault, Sink, print};
-use plan_build::{Plan, prove};
+use plan_build::Plan;
 use rank_key::Rank;
 use std::alloc::Global;
 use std::sync::ledger::Ledger;
+use step_counter::Steps;
 use tdp_core::{Ranked, Tree};
+use topk_proof::prove;
 
 /// Prints the text of a certificate of the query's first answers, as many as the limit allows.
 /// `NoMemory` if memory is refused, before anything is written, and `Write` if the write

@@ -1,12 +1,13 @@
 //! How a call ends.
 ghost use Rattle.std.specs.Prelude.{◌≡◌};
-ghost use Rattle.outer_io.specs.RefusalReasons.{reason_of};
+ghost use Rattle.refusals.specs.RefusalReasons.{reason_of};
 ghost use Rattle.outer_io.specs.SinkState.{state_of};
 ghost use Rattle.anyk_top.specs.CommandLine.{rejected_as};
 ghost use Rattle.anyk_top.specs.Endings.{Finished};
 
 use cmd_words::WordsFault;
-use outer_io::{Refusal, Sink, write_line};
+use outer_io::Sink;
+use refusals::{Refusal, write_line};
 
 /// Writes the line of a refusal to `err`, if there is one, and returns the exit status. A write
 /// that fails there does not change the status.

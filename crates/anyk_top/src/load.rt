@@ -7,18 +7,18 @@ ghost use Rattle.bound_query.specs.WeighedQuery.{Fits};
 ghost use Rattle.outer_io.specs.Printing.{Printed};
 ghost use Rattle.outer_io.specs.SinkState.{state_of};
 ghost use Rattle.bound_query.specs.RunBounds.{IsPrepared, KeepsBound};
-ghost use Rattle.verdict.specs.Summary.{summary_text};
+ghost use Rattle.output_model.specs.Summary.{summary_text};
 
-use crate::engine_over;
 use crate::planned_query::PlannedQuery;
 use bumpalo::Bump;
 use cmd_words::Engine;
 use command_output::print_summary;
-use ground::Steps;
+use engine_choice::engine_over;
 use outer_io::{PrintFault, Sink};
 use rank_key::Rank;
 use std::alloc::Global;
 use std::sync::ledger::Ledger;
+use step_counter::Steps;
 
 /// Takes the first answers of the query, as many as the limit allows, and then prints their
 /// summary. `Write` if the write failed, and `NoMemory` if memory is refused.

@@ -1,31 +1,33 @@
 //! The input of a command, with the plans of its queries.
 ghost use Rattle.std.specs.Prelude.{◌≡◌, ◌<◌, ◌≤◌, None, true, IfErr, IfOk, IfSome, length};
 ghost use Rattle.std.specs.List.{All};
-ghost use Rattle.task_input.specs.Input.{loaded_of};
+ghost use Rattle.command_input.specs.Input.{loaded_of};
 ghost use Rattle.node_build.specs.Nodes.{CapsBelow};
 ghost use Rattle.plan_build.specs.Plans.{ArePrepared, HavePlans};
 ghost use Rattle.bound_query.specs.WeighedQuery.{Fits};
-ghost use Rattle.outer_io.specs.RefusalReasons.{reason_of};
+ghost use Rattle.refusals.specs.RefusalReasons.{reason_of};
 ghost use Rattle.bound_query.specs.RunBounds.{IsPrepared};
 ghost use Rattle.verdict.specs.AcceptedInput.{queries_in};
 ghost use Rattle.verdict.specs.MadeFiles.{known_to};
 ghost use Rattle.verdict.specs.StageResults.{Pure, shelved};
 ghost use Rattle.verdict.specs.Verdict.{AreStructures, IsShaped, IsStructure};
 ghost use Rattle.verdict.specs.Words.{built};
-ghost use Rattle.task_input.specs.Judgement.{HasOne, IsJudged};
+ghost use Rattle.command_input.specs.Judgement.{HasOne, IsJudged};
 ghost use Rattle.anyk_top.specs.Plans.{ArePlans, IsEarlyWithin, plan_reason};
 ghost use Rattle.anyk_top.specs.Plans.{plans_result_view, planned_result_view, shapes_result_view};
-ghost use Rattle.task_input.specs.Tasks.{command_of};
+ghost use Rattle.command_input.specs.Tasks.{command_of};
 
 use bound_query::Query;
-use ground::{Keys, Steps};
-use outer_io::{Refusal, Shelf};
+use command_input::{Input, Task, look_at};
+use hash_keys::Keys;
+use outer_io::Shelf;
 use plan_build::{Plan, PlanFault, RankedPlan, prepare, prepare_ranked};
 use rank_key::{LexRank, Rank, SumRank};
+use refusals::Refusal;
 use std::alloc::{AllocError, AllocFailed, Global};
 use std::sync::ledger::Ledger;
+use step_counter::Steps;
 use table_store::Tables;
-use task_input::{Input, Task, look_at};
 
 /// An accepted input, with the plans of its queries.
 #[derive(Drop)]

@@ -1,6 +1,6 @@
 //! The commands.
 use cmd_words::Words;
-use task_input::Task;
+use command_input::Task;
 
 /// A command with its arguments.
 #[derive(Drop)]

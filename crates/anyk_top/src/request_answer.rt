@@ -1,6 +1,6 @@
 //! A command, from its input to its output.
 ghost use Rattle.std.specs.Prelude.{◌<◌, IfErr, OnOk};
-ghost use Rattle.outer_io.specs.RefusalReasons.{reason_of};
+ghost use Rattle.refusals.specs.RefusalReasons.{reason_of};
 ghost use Rattle.verdict.specs.Bound.{IsBounded, IsPrompt};
 ghost use Rattle.verdict.specs.MadeFiles.{known_to};
 ghost use Rattle.verdict.specs.Outcome.{IsReason, IsCaused, IsComplete, IsCut};
@@ -8,12 +8,15 @@ ghost use Rattle.verdict.specs.Words.{built};
 ghost use Rattle.anyk_top.specs.Requests.{asked_by};
 ghost use Rattle.verdict.specs.Sides.{seen_by};
 
+use crate::answer_task;
 use crate::request::Request;
-use crate::{answer_task, answer_verified};
-use ground::{Keys, Steps};
-use outer_io::{Refusal, Shelf, Sink};
+use command_verify::answer_verified;
+use hash_keys::Keys;
+use outer_io::{Shelf, Sink};
+use refusals::Refusal;
 use std::alloc::Global;
 use std::sync::ledger::Ledger;
+use step_counter::Steps;
 
 /// Reads or makes the input of the command, plans its query or checks its certificate, and prints
 /// the command's output. The result is an error if the input is refused, if a read or a write

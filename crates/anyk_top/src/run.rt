@@ -1,7 +1,7 @@
 //! The command `run`.
 ghost use Rattle.std.specs.Prelude.{ℕ};
 ghost use Rattle.anyk_model.specs.Output.{cut, output_of};
-ghost use Rattle.command_output.specs.StyleView.{style_view};
+ghost use Rattle.answer_print.specs.StyleView.{style_view};
 ghost use Rattle.anyk_model.specs.BestList.{list_of};
 ghost use Rattle.plan_build.specs.Plan.{IsPlanOf};
 ghost use Rattle.bound_query.specs.WeighedQuery.{Fits};
@@ -9,16 +9,17 @@ ghost use Rattle.outer_io.specs.Printing.{Printed};
 ghost use Rattle.outer_io.specs.SinkState.{state_of};
 ghost use Rattle.bound_query.specs.RunBounds.{IsPrepared, KeepsBound, KeepsPace};
 
-use crate::engine_over;
 use crate::planned_query::PlannedQuery;
+use answer_print::Style;
 use bumpalo::Bump;
 use cmd_words::Engine;
-use command_output::{Style, print_ranking};
-use ground::Steps;
+use command_output::print_ranking;
+use engine_choice::engine_over;
 use outer_io::{PrintFault, Sink};
 use rank_key::Rank;
 use std::alloc::Global;
 use std::sync::ledger::Ledger;
+use step_counter::Steps;
 
 /// Prints the header, and then the first answers of the query, as many as the limit allows, each as
 /// soon as it is known: of all its answers, or of the best answer of each row of the item, if one

@@ -1,28 +1,29 @@
 //! The command `session`.
 ghost use Rattle.std.specs.Prelude.{[], ℕ};
 ghost use Rattle.anyk_model.specs.Output.{cut};
-ghost use Rattle.command_output.specs.StyleView.{style_view};
+ghost use Rattle.answer_print.specs.StyleView.{style_view};
 ghost use Rattle.anyk_model.specs.BestList.{list_of};
 ghost use Rattle.plan_build.specs.Plan.{IsPlanOf};
 ghost use Rattle.bound_query.specs.WeighedQuery.{Fits};
 ghost use Rattle.outer_io.specs.Printing.{Printed};
 ghost use Rattle.outer_io.specs.SinkState.{state_of};
-ghost use Rattle.languages.specs.Script.{KeepsRules};
+ghost use Rattle.session_script.specs.Script.{KeepsRules};
 ghost use Rattle.bound_query.specs.RunBounds.{IsPrepared};
-ghost use Rattle.verdict.specs.Session.{session_text};
+ghost use Rattle.output_model.specs.Session.{session_text};
 ghost use Rattle.verdict.specs.SessionBound.{KeepsSessionBound};
 
-use crate::engine_over;
 use crate::planned_query::PlannedQuery;
+use answer_print::Style;
 use bumpalo::Bump;
 use cmd_words::Engine;
-use command_output::{Style, print_session};
-use ground::Steps;
-use languages::Step;
+use command_output::print_session;
+use engine_choice::engine_over;
 use outer_io::{PrintFault, Sink};
 use rank_key::Rank;
+use session_script::Step;
 use std::alloc::Global;
 use std::sync::ledger::Ledger;
+use step_counter::Steps;
 
 /// Prints the header with the title of the cursors' names, and then what the steps of the script
 /// print of the query's answers, as far as the limit allows: of all of them, or of the best answer

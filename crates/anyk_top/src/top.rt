@@ -11,10 +11,11 @@ ghost use Rattle.verdict.specs.Sides.{outside};
 use crate::asking::read_request;
 use crate::ending::{finish, refusal_of};
 use crate::request_answer::answer;
-use ground::{Keys, Steps};
+use hash_keys::Keys;
 use outer_io::{Shelf, Sink};
 use std::alloc::Global;
 use std::sync::ledger::{Blank, Ledger};
+use step_counter::Steps;
 
 /// Runs the program, and returns its exit status. It reads the words and the files on the shelf
 /// that they name. The answers go to `out`, and the line of a refusal goes to `err`. The tables are

@@ -2,7 +2,7 @@
 ghost use Rattle.std.specs.Prelude.{◌≡◌, ◌≤◌, ◌+◌, None, IfOk, length, vec_len, ℕ};
 ghost use Rattle.std.specs.List.{All};
 ghost use Rattle.anyk_model.specs.Output.{cut};
-ghost use Rattle.command_output.specs.StyleView.{style_view};
+ghost use Rattle.answer_print.specs.StyleView.{style_view};
 ghost use Rattle.plan_build.specs.Plans.{ArePrepared, HavePlans};
 ghost use Rattle.bound_query.specs.WeighedQuery.{Fits};
 ghost use Rattle.outer_io.specs.Printing.{Printed};
@@ -16,16 +16,18 @@ ghost use Rattle.verdict.specs.UnionBound.{KeepsUnionBound, KeepsUnionPace};
 ghost use Rattle.anyk_top.specs.Begun.{AreStarted, starts_of};
 
 use crate::planned_query::PlannedQueries;
-use crate::{ChosenEngine, engine_over};
+use answer_print::Style;
 use bumpalo::Bump;
 use cmd_words::Engine;
-use command_output::{Merge, Style, print_union};
-use ground::{NoMemory, Steps};
+use command_output::print_union;
+use engine_choice::{ChosenEngine, engine_over};
 use outer_io::{PrintFault, Sink};
 use plan_build::Plan;
 use rank_key::Rank;
 use std::alloc::Global;
 use std::sync::ledger::Ledger;
+use step_counter::{NoMemory, Steps};
+use union_all::Merge;
 
 /// Prints the header, and then the first members of the union of the queries' answers, as many as
 /// the limit allows, each as soon as it is known. `Write` if a write failed, and `NoMemory` if

@@ -1,8 +1,8 @@
 -- Ear removal over the same variables removes the same ears in the same order.
 use Rattle.std.proofs.Common.{◌≡◌, ℕ, zero, suc, ◌<◌, ◌≤◌, List, slice_index, inl, inr, sym, ◌∙◌, subst, arith}
 use Rattle.std.proofs.lemmas.Bool.{cases_order}
-use Rattle.join_tree.specs.Ears.{Covers, IsEar, CoversFirst}
-use Rattle.join_tree.specs.Graph.{Hypergraph, HasVar, IsIn}
+use Rattle.hyper_graph.specs.Ears.{Covers, IsEar, CoversFirst}
+use Rattle.hyper_graph.specs.Graph.{Hypergraph, HasVar, IsIn}
 use Rattle.join_tree.specs.Removal.{IsLive, IsStep, IsRun}
 
 -- a variable of one side is a variable of the other, and what is left on one side is left on the

@@ -2,9 +2,9 @@
 use Rattle.std.proofs.Common.{◌≡◌, ◌↔◌, ◌+◌, ◌<◌, ◌≤◌, ◌^◌, ℕ, zero, suc, List, [], ◌∷◌, map, filter, subst, inl, inr, arith}
 use Rattle.std.specs.List.{range_with_len}
 use Rattle.std.proofs.lemmas.Bool.{cases_lt}
-use Rattle.join_tree.proofs.Bits.{in_below}
-use Rattle.join_tree.specs.Graph.{is_in}
-use Rattle.join_tree.specs.Items.{items_below, items_of}
+use Rattle.hyper_graph.proofs.Bits.{in_below}
+use Rattle.hyper_graph.specs.Graph.{is_in}
+use Rattle.hyper_graph.specs.Items.{items_below, items_of}
 use Rattle.rankings.specs.Order.{IsMember, IsAscending}
 use Rattle.rankings.proofs.Ascending.{ascending_filter, below_all}
 use Rattle.rankings.proofs.Members.{below_member, kept_member, member_kept, member_map, member_unmap}

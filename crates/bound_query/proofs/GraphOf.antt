@@ -5,8 +5,8 @@ use Rattle.std.specs.Int.{bit_at}
 use Rattle.std.proofs.lemmas.Bool.{cases_eq}
 use Rattle.std.proofs.lemmas.Bool.Decides.{Decides-eqb}
 use Rattle.std.proofs.lemmas.Nat.Bits.{bit_at_set_other, bit_at_set_same}
-use Rattle.join_tree.specs.Graph.{IsIn}
-use Rattle.join_tree.proofs.Bits.{bit_from_in, in_from_bit}
+use Rattle.hyper_graph.specs.Graph.{IsIn}
+use Rattle.hyper_graph.proofs.Bits.{bit_from_in, in_from_bit}
 use Rattle.anyk_model.specs.Table.{Table}
 use Rattle.anyk_model.specs.Query.{Column}
 use Rattle.bound_query.specs.Classes.{HasVariable, IsShared, variable_at}

@@ -3,8 +3,8 @@ use Rattle.std.proofs.Common.{◌≡◌, ◌≢◌, ◌<◌, ◌≤◌, ◌+◌,
 use Rattle.std.specs.List.{range_with_len, sum_by}
 use Rattle.std.proofs.lemmas.Bool.Decides.{Decides-eqb}
 use Rattle.std.proofs.lemmas.List.Sums.{sum_by-cons}
-use Rattle.rankings.specs.TreeProblem.{sum_from}
-use Rattle.rankings.proofs.Ranges as ranges
+use Rattle.tdp_model.specs.TreeProblem.{sum_from}
+use Rattle.tdp_model.proofs.Ranges as ranges
 use Rattle.bound_query.specs.Parts.{sum_of_all}
 use Rattle.bound_query.proofs.Sums.{sum_ap}
 use Rattle.bound_query.proofs.Parts.{counts}

@@ -2,9 +2,9 @@
 use Rattle.std.proofs.Common.{◌≡◌, ◌↔◌, ℕ, suc, ◌-◌, ◌<◌, ◌≤◌, List, length, slice_index, inl, inr, refl, sym, ◌∙◌, ap, subst, arith, Result, Ok, Err}
 use Rattle.std.proofs.lemmas.Bool.{cases_order}
 use Rattle.std.proofs.lemmas.Grind.{same_number_lists}
-use Rattle.join_tree.specs.Graph.{Hypergraph, HasVar, IsIn}
-use Rattle.join_tree.specs.JoinTrees.{HasJoinTree}
-use Rattle.join_tree.proofs.Graphs.{has_within}
+use Rattle.hyper_graph.specs.Graph.{Hypergraph, HasVar, IsIn}
+use Rattle.hyper_graph.specs.JoinTrees.{HasJoinTree}
+use Rattle.hyper_graph.proofs.Graphs.{has_within}
 use Rattle.join_tree.specs.Removal.{HasOne}
 use Rattle.join_tree.proofs.Hanging.{one_iff_tree}
 use Rattle.join_tree.proofs.FromRemoval as removing
@@ -16,7 +16,7 @@ use Rattle.bound_query.specs.Classes.{AreVariables, ColumnBefore, HasVariable}
 use Rattle.bound_query.specs.Graph.{IsGraphOf}
 use Rattle.bound_query.specs.Parts.{sum_of_all}
 use Rattle.bound_query.specs.Shape.{Flaw, cyclic, too_many_rows, IsInCore, IsCyclic, Shape, HasNodeRows, HasTree, HasShape, IsShape}
-use Rattle.rankings.specs.NodeRows.{most_node_rows}
+use Rattle.tdp_model.specs.NodeRows.{most_node_rows}
 use Rattle.bound_query.proofs.Alike.{runs_same, ends_same, core_same}
 
 before_asym : (a b : Column) → ColumnBefore a b → ColumnBefore b a → ⊥

@@ -1,7 +1,7 @@
 -- The hypergraph of a query.
 use Rattle.std.specs.Prelude.{◌≡◌, ◌↔◌, ◌==◌, ◌<◌, ◌^◌, ℕ, Bool, IsTrue, List, length, slice_index}
 use Rattle.std.specs.List.{list_any}
-use Rattle.join_tree.specs.Graph.{Hypergraph, IsGraph, HasVar, IsIn}
+use Rattle.hyper_graph.specs.Graph.{Hypergraph, IsGraph, HasVar, IsIn}
 use Rattle.anyk_model.specs.Query.{Query, Column}
 use Rattle.bound_query.specs.Classes.{AreVariables, HasVariable}
 use Rattle.bound_query.specs.WeighedQuery.{variables_at}

@@ -2,7 +2,7 @@
 use Rattle.std.specs.Prelude.{ℕ, ◌<◌, List, slice_index, take}
 use Rattle.anyk_model.specs.Query.{Query}
 use Rattle.join_tree.specs.declared.tree.JoinTree.{JoinTree}
-use Rattle.join_tree.specs.Items.{items_of}
+use Rattle.hyper_graph.specs.Items.{items_of}
 use Rattle.bound_query.specs.Shape.{HasTree, IsCyclic}
 use Rattle.bound_query.specs.declared.fault.ShapeFault.{ShapeFault}
 use Rattle.bound_query.specs.declared.fault.ShapeFault.TheVariants as fault

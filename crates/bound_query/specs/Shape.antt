@@ -1,9 +1,9 @@
 -- The join tree of a query, and its node rows. These are relations, since the classes of columns
 -- are given by a closure and not computed.
 use Rattle.std.specs.Prelude.{◌≡◌, ◌↔◌, ℕ, ◌+◌, ◌<◌, ◌≤◌, List, length, slice_index, Result, Ok, Err}
-use Rattle.rankings.specs.NodeRows.{most_node_rows}
-use Rattle.join_tree.specs.Graph.{Hypergraph, IsIn}
-use Rattle.join_tree.specs.JoinTrees.{IsJoinTree, HasJoinTree}
+use Rattle.tdp_model.specs.NodeRows.{most_node_rows}
+use Rattle.hyper_graph.specs.Graph.{Hypergraph, IsIn}
+use Rattle.hyper_graph.specs.JoinTrees.{IsJoinTree, HasJoinTree}
 use Rattle.join_tree.specs.Removal.{IsRemoval, IsTreeOf}
 use Rattle.anyk_model.specs.Table.{Table}
 use Rattle.anyk_model.specs.Query.{Query}

@@ -1,6 +1,6 @@
 //! Why a query has no join tree.
 
-use ground::NoMemory;
+use step_counter::NoMemory;
 
 /// The error of finding a query's join tree.
 #[derive(Clone, Copy, PartialEq, Eq)]

@@ -1,6 +1,6 @@
 //! The items of each variable, as bits.
 ghost use Rattle.std.specs.Prelude.{◌≡◌, ◌+◌, ◌↔◌, ◌⊎◌, ◌<◌, ◌≤◌, ◌^◌, ℕ, length, IfOk};
-ghost use Rattle.join_tree.specs.Graph.{IsIn};
+ghost use Rattle.hyper_graph.specs.Graph.{IsIn};
 ghost use Rattle.bound_query.specs.Graph.{AreItemSets, IsItemSet, has_number};
 ghost use Rattle.bound_query.specs.StoredParts.{lists_view};
 

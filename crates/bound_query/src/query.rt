@@ -14,10 +14,10 @@ use crate::bound::{BoundEquality, BoundTerm, ItemWeights, Variables, part_at};
 use crate::filters::{Filter, stands};
 use crate::item_sets::item_sets;
 use crate::selection::Selection;
-use ground::NoMemory;
-use join_tree::Graph;
+use hyper_graph::Graph;
 use std::alloc::Global;
 use std::marker::Model;
+use step_counter::NoMemory;
 use table_store::Tables;
 
 /// A query whose names are bound to the columns of tables, with its weights, its variables and the

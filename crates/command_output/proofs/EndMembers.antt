@@ -7,8 +7,8 @@ use Rattle.anyk_model.specs.Query.{Query, IsCombination, row_counts}
 use Rattle.anyk_model.specs.Output.{cut}
 use Rattle.tdp_core.specs.AnswerView.{AnswerView}
 use Rattle.bound_query.specs.Steps.{calls_for}
-use Rattle.node_build.specs.WitnessKey.{AreCombinations, combinations_in}
-use Rattle.verdict.specs.Summary.{member_text, rows_in_all, summary_text}
+use Rattle.witness_key.specs.WitnessKey.{AreCombinations, combinations_in}
+use Rattle.output_model.specs.Summary.{member_text, rows_in_all, summary_text}
 use Rattle.command_output.specs.Ends.{HasEnds, ends_text}
 use Rattle.command_output.specs.declared.ends.Ends.{Ends}
 

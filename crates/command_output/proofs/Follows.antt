@@ -1,12 +1,12 @@
 -- Members that a cursor was given one by one.
-use Rattle.std.proofs.Common.{◌≡◌, ◌+◌, ◌-◌, ◌<◌, ◌≤◌, ℕ, zero, suc, List, [], ◌∷◌, ◌++◌, length, map, take, drop, set, get_or, Option, Some, None, IfNone, IfSome, IsSomeAnd, Result, Ok, Err, OnOk, refl, sym, ap, subst, ◌∙◌, arith}
+use Rattle.std.proofs.Common.{◌≡◌, ◌+◌, ◌-◌, ◌<◌, ◌≤◌, ℕ, zero, suc, List, [], ◌∷◌, ◌++◌, length, map, take, drop, set, get_or, Option, Some, None, IfSome, IsSomeAnd, Result, Ok, Err, OnOk, refl, sym, ap, subst, ◌∙◌, arith}
 use Rattle.std.specs.Prelude.{slice_get}
 use Rattle.std.proofs.lemmas.List.{drop_all, drop_more, get_or-map, get_or-set_same, get_or-take, set-get_or, set-set, length-drop, length-map, length-take, length-take-le, take_all}
 use Rattle.std.proofs.lemmas.Option.{get_or_from_slice_get, slice_get_within}
 use Rattle.std.specs.List.{AllByRecursion}
 use Rattle.rankings.proofs.Members.{all_member, contains_member}
 use Rattle.anyk_model.specs.Output.{cut}
-use Rattle.verdict.specs.Session.{next_text}
+use Rattle.output_model.specs.Session.{next_text}
 
 -- ---- the text of what is left
 
@@ -78,13 +78,6 @@ told_is f answers p b x at =
     ap f (sym (get_or_from_slice_get answers p b b at)) ∙ sym (get_or-map f answers p b x (slice_get_within answers p b at))
 
 -- what holds for all answers holds for it
--- what is said of the value of an option, or if it has none
-pub at_some : {T : Type 0} (P : T → Type 0) (o : Option T) (x : T) → o ≡ Some x → IfSome o P → P x
-at_some P o x is h = rw is at h
-
-pub at_none : {T : Type 0} (P : Type 0) (o : Option T) → o ≡ None → IfNone o P → P
-at_none P o is h = rw is at h
-
 pub told_all : {B : Type 0} (P : B → Type 0) (answers : List B) (p : ℕ) (b : B) → AllByRecursion P answers → slice_get answers p ≡ Some b → P b
 told_all P answers p b all at =
     all_member P b answers all (contains_member b answers p (slice_get_within answers p b at) (get_or_from_slice_get answers p b b at))

@@ -5,8 +5,8 @@ use Rattle.std.specs.Str.{bytes_eq}
 use Rattle.std.proofs.lemmas.Bool.{cases_order, false≢true}
 use Rattle.std.proofs.lemmas.List.{get_or-map, get_or-set_other, get_or-set_same, length-map, map-set}
 use Rattle.std.proofs.lemmas.List.Quantifiers.{position-Some}
-use Rattle.command_output.specs.CursorSet.{CursorSet}
-use Rattle.verdict.specs.Session.{Places, with_cursor}
+use Rattle.cursor_set.specs.CursorSet.{CursorSet}
+use Rattle.output_model.specs.Session.{Places, with_cursor}
 use Rattle.command_output.specs.declared.open_cursors.OpenCursor.{OpenCursor}
 use Rattle.command_output.specs.OpenCursors.{AreOthers, Found, IsAt, IsHeld, is_named}
 use Rattle.command_output.proofs.Names.{name_differs, name_same, same_name}

@@ -4,10 +4,10 @@ use Rattle.std.specs.Str.{bytes_eq}
 use Rattle.std.proofs.lemmas.List.Folds.{list_any-append}
 use Rattle.std.proofs.lemmas.Map.Views.{any-filter_same}
 use Rattle.std.proofs.lemmas.Slice.Eq.{bytes_eq-Decides}
-use Rattle.languages.specs.declared.step.Step.{Step}
-use Rattle.languages.specs.declared.step.Step.TheVariants.{Open, Next, Fork, Rewind, Close}
-use Rattle.languages.specs.Script.{KeepsRules, is_open, names_after, names_without}
-use Rattle.verdict.specs.Session.{Places, place_in, places_after, with_cursor}
+use Rattle.session_script.specs.declared.step.Step.{Step}
+use Rattle.session_script.specs.declared.step.Step.TheVariants.{Open, Next, Fork, Rewind, Close}
+use Rattle.session_script.specs.Script.{KeepsRules, is_open, names_after, names_without}
+use Rattle.output_model.specs.Session.{Places, place_in, places_after, with_cursor}
 use Rattle.command_output.specs.SessionRules.{CanFollow}
 
 -- ---- names as texts

@@ -5,11 +5,11 @@ use Rattle.std.proofs.lemmas.Bool.{leb-true}
 use Rattle.std.proofs.lemmas.Bool.Decides.{nat_tests}
 use Rattle.std.proofs.lemmas.List.{drop_more, length-drop, length-take-le}
 use Rattle.anyk_model.specs.Output.{cut}
-use Rattle.command_output.specs.CursorSet.{CursorSet}
-use Rattle.languages.specs.declared.step.Step.{Step}
-use Rattle.languages.specs.declared.step.Step.TheVariants.{Next}
-use Rattle.verdict.specs.Session.{Places, no_cursors, place_in, places_after}
-use Rattle.verdict.specs.SessionCalls.{calls_among, calls_of_step, calls_of_steps, ends_by_itself, reach_of_step, reach_of_steps}
+use Rattle.cursor_set.specs.CursorSet.{CursorSet}
+use Rattle.session_script.specs.declared.step.Step.{Step}
+use Rattle.session_script.specs.declared.step.Step.TheVariants.{Next}
+use Rattle.output_model.specs.Session.{Places, no_cursors, place_in, places_after}
+use Rattle.output_model.specs.SessionCalls.{calls_among, calls_of_step, calls_of_steps, ends_by_itself, reach_of_step, reach_of_steps}
 use Rattle.command_output.specs.SessionCosts.{IsWithin, Spent, calls_at}
 use Rattle.command_output.proofs.SessionCosts.{spent_places, spent_then, spent_wider, within_spent, within_then}
 

@@ -2,7 +2,7 @@
 use Rattle.std.proofs.Common.{◌≡◌, ◌+◌, ◌<◌, ◌≤◌, ◌∷◌, [], ℕ, zero, suc, List, length, take, ap, add-one, arith}
 use Rattle.std.proofs.lemmas.List.{take_all}
 use Rattle.anyk_model.specs.Table.{Table, table_at}
-use Rattle.verdict.specs.Summary.{rows_in_all}
+use Rattle.output_model.specs.Summary.{rows_in_all}
 
 pub rows_more : (tables : List Table) (i : ℕ) → i < length tables → rows_in_all (take (i + 1) tables) ≡ rows_in_all (take i tables) + length (table_at tables i).rows
 rows_more [] i inside = absurd (omega (arith, inside))

@@ -2,7 +2,7 @@
 use Rattle.std.proofs.Common.{◌≡◌, ◌+◌, ◌-◌, ◌*◌, ◌<◌, ◌≤◌, ◌⊎◌, inl, inr, ℕ, zero, suc, List, Bool, true, false, Some, Result, Ok, Err, OnOk, refl, sym, ap, subst, ◌∙◌, arith}
 use Rattle.std.proofs.lemmas.Bool.{cases_lt}
 use Rattle.std.proofs.lemmas.Nat.{mul-le}
-use Rattle.command_output.specs.CursorSet.{CursorSet, IsKnownAt, Keeps, place_of, seen_of}
+use Rattle.cursor_set.specs.CursorSet.{CursorSet, IsKnownAt, Keeps, place_of, seen_of}
 use Rattle.bound_query.specs.Steps.{steps_for}
 use Rattle.bound_query.proofs.Pacing.{steps_more}
 use Rattle.command_output.specs.SessionCosts.{IsWithin, Paid, Spent, engine_steps}

@@ -1,17 +1,17 @@
 -- A script that is run step by step.
 use Rattle.std.proofs.Common.{◌≡◌, ◌+◌, ◌<◌, ◌≤◌, ℕ, List, [], ◌∷◌, ◌++◌, Bool, Some, None, Result, Ok, Err, OnOk, IfErr, length, drop, get_or, replicate, refl, subst, sym}
 use Rattle.std.specs.Prelude.{slice_set, take}
-use Rattle.command_output.specs.CursorSet.{CursorSet}
+use Rattle.cursor_set.specs.CursorSet.{CursorSet}
 use Rattle.outer_io.specs.declared.fault.PrintFault.{PrintFault}
 use Rattle.outer_io.specs.declared.fault.PrintFault.TheVariants as fault
 use Rattle.outer_io.specs.Printing.{Printed}
 use Rattle.outer_io.specs.SinkState.{SinkState}
-use Rattle.languages.specs.declared.step.Step.{Step}
-use Rattle.languages.specs.declared.step.Step.TheVariants.{Open, Next, Fork, Rewind, Close}
-use Rattle.languages.specs.Script.{KeepsRules}
+use Rattle.session_script.specs.declared.step.Step.{Step}
+use Rattle.session_script.specs.declared.step.Step.TheVariants.{Open, Next, Fork, Rewind, Close}
+use Rattle.session_script.specs.Script.{KeepsRules}
 use Rattle.tdp_core.specs.AnswerView.{AnswerView}
-use Rattle.verdict.specs.Session.{Places, next_text, no_cursors, places_after, step_text, steps_text}
-use Rattle.verdict.specs.SessionCalls.{calls_among, calls_of_step, calls_of_steps, reach_of_step, reach_of_steps}
+use Rattle.output_model.specs.Session.{Places, next_text, no_cursors, places_after, step_text, steps_text}
+use Rattle.output_model.specs.SessionCalls.{calls_among, calls_of_step, calls_of_steps, reach_of_step, reach_of_steps}
 use Rattle.command_output.specs.declared.listing.Listing.{Listing}
 use Rattle.command_output.specs.declared.open_cursors.OpenCursor.{OpenCursor}
 use Rattle.command_output.specs.SessionCosts.{IsWithin, Paid}

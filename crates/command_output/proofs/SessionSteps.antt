@@ -2,13 +2,13 @@
 use Rattle.std.proofs.Common.{◌≡◌, ◌+◌, ◌<◌, ◌≤◌, ℕ, List, [], ◌∷◌, ◌++◌, Option, Some, None, Ok, Err, map, length, drop, get_or, unwrap_or, replicate, sym, ap, subst, ◌∙◌, arith}
 use Rattle.std.specs.Prelude.{take}
 use Rattle.std.proofs.lemmas.List.{drop_all, drop_more, get_or-replicate, length-replicate}
-use Rattle.command_output.specs.CursorSet.{CursorSet}
+use Rattle.cursor_set.specs.CursorSet.{CursorSet}
 use Rattle.outer_io.specs.declared.fault.PrintFault.{PrintFault}
 use Rattle.outer_io.specs.Printing.{Printed}
 use Rattle.outer_io.specs.SinkState.{SinkState}
-use Rattle.languages.specs.declared.step.Step.{Step}
-use Rattle.languages.specs.declared.step.Step.TheVariants.{Next}
-use Rattle.verdict.specs.Session.{Places, next_text, no_cursors, place_in, places_after, step_text, steps_text, with_cursor}
+use Rattle.session_script.specs.declared.step.Step.{Step}
+use Rattle.session_script.specs.declared.step.Step.TheVariants.{Next}
+use Rattle.output_model.specs.Session.{Places, next_text, no_cursors, place_in, places_after, step_text, steps_text, with_cursor}
 use Rattle.command_output.specs.declared.open_cursors.OpenCursor.{OpenCursor}
 use Rattle.command_output.specs.OpenCursors.{IsAt, IsHeld}
 use Rattle.command_output.specs.SessionRules.{CanFollow, CanStep}

@@ -8,7 +8,7 @@ use Rattle.bound_query.specs.Steps.{steps_for}
 use Rattle.bound_query.proofs.Pacing.{steps_more, steps_next}
 use Rattle.anyk_model.specs.TaggedRows.{Tagged}
 use Rattle.anyk_model.specs.Union.{members_in}
-use Rattle.command_output.specs.Merge.{EngineView, IsCalled, MergeView, engine_at}
+use Rattle.union_all.specs.Merge.{EngineView, IsCalled, MergeView, engine_at}
 use Rattle.command_output.specs.UnionSteps.{steps_from, union_steps}
 
 -- ---- members of a branch

@@ -7,10 +7,10 @@ use Rattle.anyk_model.specs.Query.{Query}
 use Rattle.anyk_model.specs.Table.{Table}
 use Rattle.outer_io.specs.SinkState.{SinkState}
 use Rattle.anyk_model.specs.TaggedRows.{Tagged}
-use Rattle.command_output.specs.Merge.{IsCalled, MergeView}
+use Rattle.union_all.specs.Merge.{IsCalled, MergeView}
 use Rattle.outer_io.proofs.Prints.{appends_nothing}
-use Rattle.command_output.specs.Firsts.{tagged_view}
-use Rattle.command_output.specs.declared.tagged.Tagged as stored
+use Rattle.union_all.specs.Firsts.{tagged_view}
+use Rattle.union_all.specs.declared.tagged.Tagged as stored
 use Rattle.command_output.proofs.Given.{HasGiven, given_more}
 use Rattle.command_output.specs.UnionSteps.{AreMembers, IsMember, UnionPaced, union_steps}
 use Rattle.command_output.proofs.UnionCalls.{AreCalled, called_more, none_called, steps_rise}

@@ -5,7 +5,7 @@ use Rattle.std.specs.Prelude.{None}
 use Rattle.anyk_model.specs.Table.{Table}
 use Rattle.anyk_model.specs.Query.{Query}
 use Rattle.tdp_core.specs.AnswerView.{AnswerView}
-use Rattle.verdict.specs.Summary.{member_text, rows_in_all}
+use Rattle.output_model.specs.Summary.{member_text, rows_in_all}
 use Rattle.command_output.specs.declared.ends.Ends.{Ends}
 
 -- the number of answers that were given, and the rows of the first and of the last of them

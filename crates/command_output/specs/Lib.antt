@@ -1,16 +1,7 @@
-pub mod CursorSet
 pub mod Ends
-pub mod Faults
-pub mod FirstSums
-pub mod Firsts
-pub mod Merge
 pub mod OpenCursors
-pub mod RecordWriters
-pub mod Rows
 pub mod SessionCosts
 pub mod SessionListing
 pub mod SessionRules
-pub mod StyleView
 pub mod TakenSteps
 pub mod UnionSteps
-pub mod WrittenRecords

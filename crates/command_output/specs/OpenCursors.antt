@@ -1,8 +1,8 @@
 -- The open cursors by name, and the cursor set that moves them.
 use Rattle.std.specs.Prelude.{◌≡◌, ◌<◌, ℕ, Bool, false, List, Option, Some, None, length, map, option_map, slice_index_or}
 use Rattle.std.specs.Str.{bytes_eq}
-use Rattle.command_output.specs.CursorSet.{CursorSet}
-use Rattle.verdict.specs.Session.{Places}
+use Rattle.cursor_set.specs.CursorSet.{CursorSet}
+use Rattle.output_model.specs.Session.{Places}
 use Rattle.command_output.specs.declared.open_cursors.OpenCursor.{OpenCursor}
 
 -- the cursor is open, and has this name

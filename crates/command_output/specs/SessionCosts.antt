@@ -1,6 +1,6 @@
 -- The cost of calls on a set of cursors.
 use Rattle.std.specs.Prelude.{◌≡◌, ◌+◌, ◌-◌, ◌*◌, ◌≤◌, ℕ, List, Option, None, Some, Result, OnOk, nat_lt, max, if◌then◌else◌}
-use Rattle.command_output.specs.CursorSet.{CursorSet, seen_of}
+use Rattle.cursor_set.specs.CursorSet.{CursorSet, seen_of}
 use Rattle.bound_query.specs.Steps.{steps_for}
 
 -- the greatest number of steps of the next `calls` calls of the engine, in this state of the set

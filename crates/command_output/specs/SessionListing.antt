@@ -1,11 +1,11 @@
 -- What a session lists of the answers of its engine.
 use Rattle.std.specs.Prelude.{ℕ, Bool, List}
 use Rattle.anyk_model.specs.Output.{cut, line_text}
-use Rattle.command_output.specs.StyleView.{style_view}
+use Rattle.answer_print.specs.StyleView.{style_view}
 use Rattle.tdp_core.specs.AnswerView.{AnswerView}
-use Rattle.verdict.specs.Session.{with_name}
-use Rattle.verdict.specs.SessionCalls.{ends_by_itself}
-use Rattle.node_build.specs.WitnessKey.{combinations_in}
+use Rattle.output_model.specs.Session.{with_name}
+use Rattle.output_model.specs.SessionCalls.{ends_by_itself}
+use Rattle.witness_key.specs.WitnessKey.{combinations_in}
 use Rattle.command_output.specs.declared.listing.Listing.{Listing}
 
 -- the combinations that the answers stand for

@@ -1,8 +1,8 @@
 -- Steps that use only open cursors.
 use Rattle.std.specs.Prelude.{◌≡◌, ℕ, List, [], ◌∷◌, None, IsSome}
-use Rattle.languages.specs.declared.step.Step.{Step}
-use Rattle.languages.specs.declared.step.Step.TheVariants.{Open, Next, Fork, Rewind, Close}
-use Rattle.verdict.specs.Session.{Places, places_after}
+use Rattle.session_script.specs.declared.step.Step.{Step}
+use Rattle.session_script.specs.declared.step.Step.TheVariants.{Open, Next, Fork, Rewind, Close}
+use Rattle.output_model.specs.Session.{Places, places_after}
 
 -- the names that the step uses are open, and a name that it opens is not
 abbrev pub CanStep : Places → Step → Type 0

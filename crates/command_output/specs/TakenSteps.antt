@@ -1,12 +1,12 @@
 -- What one step of a script does.
 use Rattle.std.specs.Prelude.{ℕ, Bool, List, Option, Result, OnOk}
-use Rattle.command_output.specs.CursorSet.{CursorSet}
+use Rattle.cursor_set.specs.CursorSet.{CursorSet}
 use Rattle.outer_io.specs.declared.fault.PrintFault.{PrintFault}
 use Rattle.outer_io.specs.Printing.{Printed}
 use Rattle.outer_io.specs.SinkState.{SinkState}
-use Rattle.languages.specs.declared.step.Step.{Step}
-use Rattle.verdict.specs.Session.{Places, places_after, step_text}
-use Rattle.verdict.specs.SessionCalls.{calls_of_step, reach_of_step}
+use Rattle.session_script.specs.declared.step.Step.{Step}
+use Rattle.output_model.specs.Session.{Places, places_after, step_text}
+use Rattle.output_model.specs.SessionCalls.{calls_of_step, reach_of_step}
 use Rattle.command_output.specs.declared.open_cursors.OpenCursor.{OpenCursor}
 use Rattle.command_output.specs.OpenCursors.{IsHeld}
 use Rattle.command_output.specs.SessionCosts.{Paid}

@@ -6,7 +6,7 @@ use Rattle.anyk_model.specs.Table.{Table}
 use Rattle.bound_query.specs.Steps.{steps_for, whole_lines}
 use Rattle.anyk_model.specs.TaggedRows.{Tagged, branch_at}
 use Rattle.anyk_model.specs.Union.{members_in}
-use Rattle.command_output.specs.Merge.{EngineView}
+use Rattle.union_all.specs.Merge.{EngineView}
 
 -- the most steps of the calls of each branch's engine for its members in the list; the first of
 -- these branches has the number b

@@ -5,8 +5,8 @@ ghost use Rattle.bound_query.specs.Steps.{calls_for, steps_for};
 ghost use Rattle.tdp_core.specs.AnswerView.{AnswerView};
 ghost use Rattle.command_output.specs.Ends.{HasEnds};
 
-use ground::{NoMemory, Steps};
 use std::sync::ledger::Ledger;
+use step_counter::{NoMemory, Steps};
 use tdp_core::Ranked;
 
 /// The number of answers, and the rows of the first and of the last of them.

@@ -1,6 +1,6 @@
 //! What the records of a session are made from.
 
-use crate::Style;
+use answer_print::Style;
 use bound_query::Query;
 use std::alloc::Global;
 use table_store::Tables;

@@ -1,23 +1,24 @@
 //! The step `next`: members from a cursor's place.
 ghost use Rattle.std.specs.Prelude.{◌≡◌, ◌≤◌, ◌<◌, ◌+◌, ◌++◌, IfNone, IfOk, IfSome, IsSomeAnd, IsTrue, OnOk, Some, false, codes, drop, length, slice_get, take};
 ghost use Rattle.anyk_model.specs.Output.{cut};
-ghost use Rattle.command_output.specs.CursorSet.{place_of, with_place};
+ghost use Rattle.cursor_set.specs.CursorSet.{place_of, with_place};
 ghost use Rattle.bound_query.specs.WeighedQuery.{Fits};
 ghost use Rattle.outer_io.specs.Printing.{Printed};
 ghost use Rattle.outer_io.specs.SinkState.{state_of};
-ghost use Rattle.rankings.specs.KeyNumbers.{numbers};
-ghost use Rattle.verdict.specs.Session.{next_text};
-ghost use Rattle.verdict.specs.SessionCalls.{calls_among};
-ghost use Rattle.node_build.specs.WitnessKey.{AreCombinations};
+ghost use Rattle.tdp_model.specs.KeyNumbers.{numbers};
+ghost use Rattle.output_model.specs.Session.{next_text};
+ghost use Rattle.output_model.specs.SessionCalls.{calls_among};
+ghost use Rattle.witness_key.specs.WitnessKey.{AreCombinations};
 ghost use Rattle.command_output.specs.SessionCosts.{Paid, calls_at};
 ghost use Rattle.command_output.specs.SessionListing.{ends_in, line_in, members_in};
 
 use crate::listing::Listing;
-use crate::{CursorId, Cursors, RecordWriter, Style, print_answer};
-use ground::{NoMemory, Steps};
+use answer_print::{RecordWriter, Style, print_answer};
+use cursor_set::{CursorId, Cursors};
 use outer_io::{PrintFault, Sink, print};
 use std::alloc::Global;
 use std::sync::ledger::Ledger;
+use step_counter::{NoMemory, Steps};
 use tdp_core::{Answer, Ranked};
 
 /// Prints at most `count` members from the place of the cursor `id`, and the cursor's name alone if

@@ -1,12 +1,12 @@
 //! The open cursors by name, and the steps that open, move and close them.
 ghost use Rattle.std.specs.Prelude.{◌≡◌, ℕ, IfNone, IfSome, IsSome, List, None, OnOk, Some};
-ghost use Rattle.verdict.specs.Session.{Places, places_after, with_cursor};
+ghost use Rattle.output_model.specs.Session.{Places, places_after, with_cursor};
 ghost use Rattle.command_output.specs.OpenCursors.{AreOthers, Found, IsHeld};
 ghost use Rattle.command_output.specs.SessionRules.{CanStep, PrintsNothing};
 
-use crate::{CursorId, Cursors, MAX_OPEN};
-use ground::NoMemory;
-use languages::Step;
+use cursor_set::{CursorId, Cursors, MAX_OPEN};
+use session_script::Step;
+use step_counter::NoMemory;
 use tdp_core::Ranked;
 
 /// An open cursor: its name, and its place in the list, from 0.

@@ -2,19 +2,19 @@
 ghost use Rattle.std.specs.Prelude.{◌≡◌, ◌+◌, ◌++◌, ◌≤◌, IfOk, List, Some, drop, length, map, take, ℕ};
 ghost use Rattle.std.specs.List.{flat_map};
 ghost use Rattle.anyk_model.specs.Output.{cut, header_text, line_text, output_of};
-ghost use Rattle.command_output.specs.StyleView.{style_view};
+ghost use Rattle.answer_print.specs.StyleView.{style_view};
 ghost use Rattle.bound_query.specs.WeighedQuery.{Fits};
-ghost use Rattle.node_build.specs.WitnessKey.{AreCombinations, combinations_in};
+ghost use Rattle.witness_key.specs.WitnessKey.{AreCombinations, combinations_in};
 ghost use Rattle.bound_query.specs.Steps.{Paced, calls_for, steps_for, whole_lines};
 ghost use Rattle.outer_io.specs.Printing.{Printed};
 ghost use Rattle.outer_io.specs.SinkState.{state_of};
 
-use crate::{RecordWriter, Style, print_answer, print_header};
+use answer_print::{RecordWriter, Style, print_answer, print_header};
 use bound_query::Query;
-use ground::Steps;
 use outer_io::{PrintFault, Sink};
 use std::alloc::Global;
 use std::sync::ledger::Ledger;
+use step_counter::Steps;
 use table_store::Tables;
 use tdp_core::Ranked;
 

@@ -1,15 +1,15 @@
 //! A session, one step after another.
 ghost use Rattle.std.specs.Prelude.{◌≡◌, ◌≤◌, ◌+◌, ◌*◌, [], None, OnOk, map, option_map, replicate};
 ghost use Rattle.anyk_model.specs.Output.{cut};
-ghost use Rattle.command_output.specs.StyleView.{style_view};
+ghost use Rattle.answer_print.specs.StyleView.{style_view};
 ghost use Rattle.bound_query.specs.WeighedQuery.{Fits};
 ghost use Rattle.outer_io.specs.Printing.{Printed};
 ghost use Rattle.outer_io.specs.SinkState.{state_of};
-ghost use Rattle.languages.specs.Script.{KeepsRules};
-ghost use Rattle.verdict.specs.Session.{Places, no_cursors, session_text};
-ghost use Rattle.verdict.specs.SessionCalls.{calls_of_steps, ends_by_itself, reach_of_steps};
+ghost use Rattle.session_script.specs.Script.{KeepsRules};
+ghost use Rattle.output_model.specs.Session.{Places, no_cursors, session_text};
+ghost use Rattle.output_model.specs.SessionCalls.{calls_of_steps, ends_by_itself, reach_of_steps};
 ghost use Rattle.bound_query.specs.Steps.{steps_for};
-ghost use Rattle.node_build.specs.WitnessKey.{AreCombinations, combinations_in};
+ghost use Rattle.witness_key.specs.WitnessKey.{AreCombinations, combinations_in};
 ghost use Rattle.command_output.specs.OpenCursors.{IsHeld};
 ghost use Rattle.command_output.specs.SessionRules.{CanStep};
 ghost use Rattle.command_output.specs.SessionCosts.{IsWithin};
@@ -19,13 +19,14 @@ ghost use Rattle.command_output.specs.TakenSteps.{IsTaken};
 use crate::listing::Listing;
 use crate::moving::print_next;
 use crate::open_cursors::{OpenCursor, OpenCursors, cursor_of, move_cursor};
-use crate::{Cursors, MAX_OPEN, RecordWriter, Style, print_header};
+use answer_print::{RecordWriter, Style, print_header};
 use bound_query::Query;
-use ground::Steps;
-use languages::Step;
+use cursor_set::{Cursors, MAX_OPEN};
 use outer_io::{PrintFault, Sink};
+use session_script::Step;
 use std::alloc::Global;
 use std::sync::ledger::Ledger;
+use step_counter::Steps;
 use table_store::Tables;
 use tdp_core::Ranked;
 

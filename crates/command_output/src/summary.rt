@@ -5,16 +5,16 @@ ghost use Rattle.bound_query.specs.WeighedQuery.{Fits};
 ghost use Rattle.outer_io.specs.Printing.{Printed};
 ghost use Rattle.outer_io.specs.SinkState.{state_of};
 ghost use Rattle.bound_query.specs.Steps.{calls_for, steps_for};
-ghost use Rattle.verdict.specs.Summary.{summary_text};
-ghost use Rattle.node_build.specs.WitnessKey.{AreCombinations, combinations_in};
+ghost use Rattle.output_model.specs.Summary.{summary_text};
+ghost use Rattle.witness_key.specs.WitnessKey.{AreCombinations, combinations_in};
 
 use crate::ends::take_ends;
 use crate::summary_text::summary;
 use bound_query::Query;
-use ground::Steps;
 use outer_io::{PrintFault, Sink, print};
 use std::alloc::Global;
 use std::sync::ledger::Ledger;
+use step_counter::Steps;
 use table_store::Tables;
 use tdp_core::Ranked;
 

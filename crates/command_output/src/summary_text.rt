@@ -2,14 +2,14 @@
 ghost use Rattle.std.specs.Prelude.{◌≡◌, ◌++◌, IfOk, IfSome, codes, decimal, length, option_map, string_bytes, take};
 ghost use Rattle.anyk_model.specs.Query.{IsCombination, row_counts};
 ghost use Rattle.bound_query.specs.WeighedQuery.{Fits};
-ghost use Rattle.verdict.specs.Summary.{member_text, rows_in_all};
+ghost use Rattle.output_model.specs.Summary.{member_text, rows_in_all};
 ghost use Rattle.command_output.specs.Ends.{ends_text};
 
 use crate::ends::Ends;
-use crate::key_sum;
+use answer_print::key_sum;
 use bound_query::Query;
-use ground::NoMemory;
 use std::alloc::Global;
+use step_counter::NoMemory;
 use table_store::Tables;
 
 /// The summary of the answers with these ends. `NoMemory` if memory is refused.

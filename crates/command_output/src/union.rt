@@ -2,23 +2,24 @@
 ghost use Rattle.std.specs.Prelude.{◌≡◌, ◌+◌, ◌++◌, ◌≤◌, List, Some, drop, length, map, take, ℕ};
 ghost use Rattle.std.specs.List.{All, flat_map};
 ghost use Rattle.anyk_model.specs.Output.{cut};
-ghost use Rattle.command_output.specs.StyleView.{style_view};
+ghost use Rattle.answer_print.specs.StyleView.{style_view};
 ghost use Rattle.bound_query.specs.WeighedQuery.{Fits};
 ghost use Rattle.bound_query.specs.Steps.{whole_lines};
 ghost use Rattle.outer_io.specs.Printing.{Printed};
 ghost use Rattle.outer_io.specs.SinkState.{state_of};
 ghost use Rattle.anyk_model.specs.UnionOutput.{union_header_text, union_line_text, union_output_of};
-ghost use Rattle.command_output.specs.Firsts.{tagged_view};
+ghost use Rattle.union_all.specs.Firsts.{tagged_view};
 ghost use Rattle.command_output.specs.UnionSteps.{AreMembers, IsMember, UnionPaced, union_steps};
 
-use crate::{Merge, RecordWriter, Style, Tagged, write_header_of, write_line_of};
+use answer_print::{RecordWriter, Style};
 use bound_query::Query;
-use ground::Steps;
 use outer_io::{PrintFault, Sink, print};
 use std::alloc::Global;
 use std::sync::ledger::Ledger;
+use step_counter::Steps;
 use table_store::Tables;
 use tdp_core::Ranked;
+use union_all::{Merge, Tagged, write_header_of, write_line_of};
 
 /// Prints the header, and then the members that the merge has left, as many as the limit allows.
 /// `NoMemory` if memory is refused, and `Write` if a write failed.

@@ -1,6 +1,6 @@
 //! Why the bytes of a file are not a table.
-use ground::NoMemory;
 use std::alloc::{AllocError, AllocFailed};
+use step_counter::NoMemory;
 
 /// Why the bytes of a file are not a table, in the order in which a file is tested. Columns and
 /// rows count from 1.

@@ -6,9 +6,9 @@ ghost use Rattle.csv.specs.Records.{fields_of, text_of};
 ghost use Rattle.csv_tables.specs.Fields.{ends_from};
 
 use csv::ByteRecord;
-use ground::NoMemory;
 use std::alloc::Global;
 use std::marker::Model;
+use step_counter::NoMemory;
 use table_store::{FieldList, start_of};
 
 /// The greatest number of bytes of all fields, so that each place is a `u32`.

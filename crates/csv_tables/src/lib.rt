@@ -19,3 +19,4 @@ mod texts;
 
 pub use fault::TableFault;
 pub use reading::TableReader;
+pub use table_store::Tables;

@@ -9,9 +9,9 @@ ghost use Rattle.table_store.specs.Values.{Extends, lists_of, with_rows};
 use crate::fields::FieldWriter;
 use crate::texts::Texts;
 use csv::ByteRecord;
-use ground::NoMemory;
 use std::alloc::Global;
 use std::marker::Model;
+use step_counter::NoMemory;
 use table_store::{StoredRows, StoredTable};
 
 /// A table that is filled row by row, before it is put among the tables of a query.

@@ -10,9 +10,10 @@ use crate::plain_table::PlainTable;
 use crate::records::Records;
 use crate::texts::Texts;
 use csv::ByteRecord;
-use ground::{Keys, NoMemory};
+use hash_keys::Keys;
 use std::alloc::Global;
 use std::marker::Model;
+use step_counter::NoMemory;
 use table_store::Tables;
 
 /// The greatest number of columns of a table.

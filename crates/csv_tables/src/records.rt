@@ -4,9 +4,9 @@ ghost use Rattle.csv.specs.Records.{fields_of};
 ghost use Rattle.anyk_model.specs.Table.{records_of};
 
 use csv::{ByteRecord, Reader, ReaderBuilder};
-use ground::NoMemory;
 use std::alloc::Global;
 use std::marker::Model;
+use step_counter::NoMemory;
 
 /// The records of a text that are not read yet. After an error there are none.
 #[derive(Drop)]

@@ -5,11 +5,11 @@ ghost use Rattle.std.specs.Cmp.{partial_equiv_from_equiv};
 ghost use Rattle.std.specs.Cmp.Lexicographic.{bytes_decides, nat_list_eq_equiv};
 ghost use Rattle.std.specs.Str.{bytes_eq};
 
-use ground::NoMemory;
 use smallvec::SmallVec;
 use std::alloc::Global;
 use std::hash::{Hash, Hasher};
 use std::marker::Model;
+use step_counter::NoMemory;
 
 /// A text. Up to 16 bytes are kept in place, more on the heap.
 #[derive(Drop)]

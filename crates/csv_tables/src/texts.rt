@@ -3,10 +3,11 @@ ghost use Rattle.std.specs.Prelude.{◌≡◌, ◌<◌, [], IfOk, OnErr, OnOk, l
 ghost use Rattle.table_store.specs.Values.{Extends, IsNumber, StandsFor, text_at, with_field, with_fields, with_text};
 
 use crate::text::Text;
-use ground::{Keys, NoMemory};
+use hash_keys::Keys;
 use indexmap::IndexSet;
 use std::alloc::Global;
 use std::marker::Model;
+use step_counter::NoMemory;
 use table_store::{FIRST_TEXT, FieldList, own_number};
 
 /// The texts of tables: their distinct fields that are not their own numbers, in the order in which

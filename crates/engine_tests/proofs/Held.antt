@@ -6,11 +6,11 @@ use Rattle.std.specs.Prelude.{FitsSigned}
 use Rattle.std.proofs.Math.ListN.{set}
 use Rattle.std.proofs.lemmas.Bool.Decides.{nat_tests}
 use Rattle.std.proofs.lemmas.Int.{ints}
-use Rattle.rankings.specs.KeyTuple.{KeyOf, key_add}
-use Rattle.rankings.specs.KeyNumbers.{sum_of}
-use Rattle.rankings.specs.TreeProblem.{sum_from}
-use Rattle.rankings.proofs.KeyTuples.{slot_of_add}
-use Rattle.rankings.proofs.KeyNumbers.{sum_of_add, sum_of_lists}
+use Rattle.tdp_model.specs.KeyTuple.{KeyOf, key_add}
+use Rattle.tdp_model.specs.KeyNumbers.{sum_of}
+use Rattle.tdp_model.specs.TreeProblem.{sum_from}
+use Rattle.tdp_model.proofs.KeyTuples.{slot_of_add}
+use Rattle.tdp_model.proofs.KeyNumbers.{sum_of_add, sum_of_lists}
 use Rattle.rank_key.specs.Keys.{IsHeld, IsInRange, IsWithin, KeyFits, row_key}
 use Rattle.rank_key.proofs.RowKeys.{row_fits, two_rows_fit}
 use Rattle.tdp_core.specs.WellFormed.{AreHeld}

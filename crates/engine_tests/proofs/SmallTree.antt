@@ -4,10 +4,10 @@ use Rattle.std.specs.List.{concat, range_with_len}
 use Rattle.std.specs.List.Sorted.{IsPermutation}
 use Rattle.std.proofs.lemmas.List.Sorted.{IsPermutation-refl, IsPermutation-swap}
 use Rattle.std.proofs.lemmas.Bool.Decides.{nat_tests}
-use Rattle.rankings.specs.Remains.{AtMost}
-use Rattle.rankings.specs.KeyTuple.{KeyOf, key_below, key_add, key_none}
-use Rattle.rankings.specs.TreeProblem.{sum_from, kid_part, best_by_kids}
-use Rattle.rankings.proofs.KeyTuples.{tuple_keys}
+use Rattle.tdp_model.specs.Remains.{AtMost}
+use Rattle.tdp_model.specs.KeyTuple.{KeyOf, key_below, key_add, key_none}
+use Rattle.tdp_model.specs.TreeProblem.{sum_from, kid_part, best_by_kids}
+use Rattle.tdp_model.proofs.KeyTuples.{tuple_keys}
 use Rattle.rank_key.specs.Keys.{IsHeld, IsWithin, KeyFits, row_key}
 use Rattle.engine_tests.specs.SmallNodes.{small_caps, small_shape, root_node, leaf_node}
 use Rattle.tdp_core.specs.declared.parts.NodeShape.{NodeShape}

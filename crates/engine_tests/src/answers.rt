@@ -3,11 +3,11 @@
 ghost use Rattle.std.specs.Prelude.{◌<◌, length};
 ghost use Rattle.tdp_core.specs.TreeView.{group_count};
 
-use anyk_rec::Streams;
-use ground::{NoMemory, Steps};
 use rank_key::Rank;
 use std::alloc::Allocator;
 use std::sync::ledger::Ledger;
+use step_counter::{NoMemory, Steps};
+use suffix_streams::Streams;
 use tdp_core::Ranked;
 
 /// The rows of all items, if only these four have one.

@@ -1,15 +1,15 @@
 //! Cursors over answers in memory.
 ghost use Rattle.std.specs.Prelude.{◌≡◌, ◌≤◌, ℕ, ◌<◌, [], map, drop};
 ghost use Rattle.std.proofs.Common.{rules};
-ghost use Rattle.rankings.specs.KeyNumbers.{numbers};
+ghost use Rattle.tdp_model.specs.KeyNumbers.{numbers};
 
-use command_output::laws::{Driven, drive};
-use command_output::{CursorFault, CursorId, Cursors, MAX_OPEN};
-use ground::{NoMemory, Steps};
+use cursor_set::laws::{Driven, drive};
+use cursor_set::{CursorFault, CursorId, Cursors, MAX_OPEN};
 use rank_key::{Rank, SumRank};
 use std::alloc::Global;
 use std::marker::Brand;
 use std::sync::ledger::{Blank, Ledger};
+use step_counter::{NoMemory, Steps};
 use tdp_core::{Answer, Ranked};
 
 /// Answers in memory, given in their order. The first `refusals` calls are refused memory.

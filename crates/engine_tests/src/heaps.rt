@@ -1,12 +1,12 @@
 //! Entries leave heaps in order of rank.
 ghost use Rattle.std.specs.Prelude.{◌≡◌, ◌^◌, ◌≤◌, ◌<◌};
 
-use containers::{Entry, HeapOf, heapify};
-use ground::{NoMemory, Steps};
 use rank_key::{LexRank, PackedRank, Rank, SumRank};
 use std::alloc::Global;
 use std::marker::Brand;
 use std::sync::ledger::{Blank, Ledger};
+use step_counter::{NoMemory, Steps};
+use take2_heap::{Entry, HeapOf, heapify};
 
 /// What an entry was made of: its first sum and its row number.
 type Made = (u32, u16);

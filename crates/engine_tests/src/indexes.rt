@@ -1,11 +1,12 @@
 //! Indexes of links: links by a table and by hashing, and lists of values pair by pair.
 ghost use Rattle.std.specs.Prelude.{◌≡◌, ◌<◌, length, OnOk};
 
-use ground::{Keys, NoMemory, Steps};
-use node_build::{DirectIndex, HashedIndex, ListNumber, PairIndex};
+use hash_keys::Keys;
+use link_index::{DirectIndex, HashedIndex, ListNumber, PairIndex};
 use std::alloc::Global;
 use std::marker::Brand;
 use std::sync::ledger::{Blank, Ledger};
+use step_counter::{NoMemory, Steps};
 
 /// Whether a table that has to grow and a hash give two links the same numbers, and find no third
 /// one.

@@ -1,12 +1,12 @@
 //! Ranks with one sum and with eight, and packed ones.
 ghost use Rattle.std.specs.Prelude.{◌≡◌, ◌≤◌, ◌<◌};
 
-use ground::Steps;
 use rank_key::{LexRank, PackedRank, Rank, SumRank, bits};
 use std::marker::Brand;
 use std::process::Abort;
 use std::sync::ledger::{Blank, Ledger};
 use std::test::Fail;
+use step_counter::Steps;
 
 /// Fails the test unless the first key is before the second, and the second not before the first.
 fn expect_before<R: Rank, L: Ledger>(rt: &impl Abort, a: R, b: R, steps: &mut Steps<L>) {

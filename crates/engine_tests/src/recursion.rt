@@ -6,13 +6,14 @@ ghost use Rattle.tdp_core.specs.WellFormed.{IsTieFreeTree};
 
 use crate::answers::{gives_all, links_two};
 use crate::small_tree::{ANSWERS, small_tree};
-use anyk_rec::{Rec, Streams};
+use anyk_rec::Rec;
 use bumpalo::Bump;
-use ground::{NoMemory, Steps};
 use rank_key::SumRank;
 use std::alloc::{Allocator, Global};
 use std::marker::Brand;
 use std::sync::ledger::{Blank, Ledger};
+use step_counter::{NoMemory, Steps};
+use suffix_streams::Streams;
 use tdp_core::Tree;
 
 /// What finds the answers.

@@ -4,10 +4,10 @@ ghost use Rattle.engine_tests.specs.SmallNodes.{small_shape, root_node, leaf_nod
 ghost use Rattle.tdp_core.specs.TreeView.{node_view, child_count, group_count};
 ghost use Rattle.tdp_core.specs.WellFormed.{IsTieFreeTree};
 
-use ground::{NoMemory, Steps};
 use rank_key::Rank;
 use std::alloc::Global;
 use std::sync::ledger::Ledger;
+use step_counter::{NoMemory, Steps};
 use tdp_core::{Groups, NamedGroups, NodeParts, NodeRow, NodeRows, NodeShape, Tree};
 
 /// The rows of the small tree's answers, in their order.

@@ -2,11 +2,11 @@
 ghost use Rattle.std.specs.Prelude.{◌≡◌, ℕ, ◌<◌, ◌≤◌, length, slice_index, EachIndex, OnOk};
 
 use bumpalo::Bump;
-use containers::{EntryId, Store};
-use ground::{NoMemory, Steps};
 use std::alloc::{Allocator, Global};
 use std::marker::Brand;
 use std::sync::ledger::{Blank, Ledger};
+use step_counter::{NoMemory, Steps};
+use stream_store::{EntryId, Store};
 
 /// Pushes the numbers below `count`, and keeps the names of their entries.
 fn fill<A: Allocator + Clone, L: Ledger>(

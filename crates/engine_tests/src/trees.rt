@@ -4,11 +4,11 @@ ghost use Rattle.tdp_core.specs.RawView.{row_total, shape_children};
 ghost use Rattle.tdp_core.specs.TreeView.{node_view, child_count, group_count, rows};
 
 use crate::small_tree::small_tree;
-use ground::{NoMemory, Steps};
 use rank_key::{PackedRank, Rank, SumRank};
 use std::alloc::Global;
 use std::marker::Brand;
 use std::sync::ledger::{Blank, Ledger};
+use step_counter::{NoMemory, Steps};
 use tdp_core::{Groups, NodeRow, NodeShape, RawTree, Tree};
 
 /// Appends a row whose sums are 0.

@@ -1,8 +1,8 @@
 -- Ear removal is confluent: in whichever order ears are removed, one atom is left exactly where a join tree exists.
 use Rattle.std.proofs.Common.{◌≡◌, ℕ, zero, suc, ◌+◌, ◌-◌, ◌<◌, ◌≤◌, ◌↔◌, List, slice_index, sym, subst, arith}
-use Rattle.join_tree.specs.Ears.{IsEar}
-use Rattle.join_tree.specs.Graph.{Hypergraph, HasVar}
-use Rattle.join_tree.specs.JoinTrees.{HasJoinTree}
+use Rattle.hyper_graph.specs.Ears.{IsEar}
+use Rattle.hyper_graph.specs.Graph.{Hypergraph, HasVar}
+use Rattle.hyper_graph.specs.JoinTrees.{HasJoinTree}
 use Rattle.join_tree.specs.Removal.{IsLive, IsRemoval, IsAnyRemoval}
 use Rattle.join_tree.proofs.Exchange.{Without, Empties, Empties-same}
 use Rattle.join_tree.proofs.FromRemoval.{Nothing, nothing_ear, nothing_empties, one_if_empties}

@@ -1,10 +1,10 @@
 -- What ear removal leaves: a join tree where one atom is left, and no join tree where more are.
 use Rattle.std.proofs.Common.{◌≡◌, ◌≢◌, ℕ, zero, suc, ◌+◌, ◌-◌, ◌<◌, ◌≤◌, ◌⊎◌, List, length, slice_index, refl, sym, ◌∙◌, ap, subst, inl, inr, arith}
 use Rattle.std.proofs.lemmas.Bool.{cases_eq}
-use Rattle.join_tree.specs.Ears.{Covers, IsEar}
-use Rattle.join_tree.specs.Graph.{Hypergraph, HasVar, IsIn, IsLiveIn}
-use Rattle.join_tree.specs.JoinTrees.{IsJoinTree, HasJoinTree}
-use Rattle.join_tree.proofs.Paths.{connected_from_running}
+use Rattle.hyper_graph.specs.Ears.{Covers, IsEar}
+use Rattle.hyper_graph.specs.Graph.{Hypergraph, HasVar, IsIn, IsLiveIn}
+use Rattle.hyper_graph.specs.JoinTrees.{IsJoinTree, HasJoinTree}
+use Rattle.hyper_graph.proofs.Paths.{connected_from_running}
 use Rattle.join_tree.specs.Removal.{IsLive, IsRun, IsRemoval, HasOne, IsTreeOf}
 use Rattle.join_tree.proofs.Exchange.{Without, Empties, Empties-same, Covers-same}
 use Rattle.join_tree.proofs.Runs.{IsEar-same, core_live}

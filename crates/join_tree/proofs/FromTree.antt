@@ -1,10 +1,10 @@
 -- Where a join tree exists, ear removal ends with one atom.
 use Rattle.std.proofs.Common.{◌≡◌, ◌≢◌, ℕ, zero, suc, ◌+◌, ◌<◌, ◌≤◌, ◌↔◌, ◌⊎◌, List, length, slice_index, refl, sym, ◌∙◌, ap, subst, inl, inr, arith}
 use Rattle.std.proofs.lemmas.Bool.{cases_eq}
-use Rattle.join_tree.specs.Ears.{Covers, IsEar}
-use Rattle.join_tree.specs.Graph.{Hypergraph, HasVar}
-use Rattle.join_tree.specs.JoinTrees.{IsJoinTree}
-use Rattle.join_tree.proofs.Routes.{running_from_connected}
+use Rattle.hyper_graph.specs.Ears.{Covers, IsEar}
+use Rattle.hyper_graph.specs.Graph.{Hypergraph, HasVar}
+use Rattle.hyper_graph.specs.JoinTrees.{IsJoinTree}
+use Rattle.hyper_graph.proofs.Routes.{running_from_connected}
 use Rattle.join_tree.specs.Removal.{IsLive}
 use Rattle.join_tree.proofs.Exchange.{Without, Empties, Empties-same, remove_first}
 

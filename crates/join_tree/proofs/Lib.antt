@@ -1,12 +1,7 @@
-pub mod Agreement
 pub mod AnyOrder
-pub mod Bits
 pub mod Exchange
 pub mod FromRemoval
 pub mod FromTree
-pub mod Graphs
 pub mod Hanging
-pub mod Paths
 pub mod Renumbering
-pub mod Routes
 pub mod Runs

@@ -1,7 +1,7 @@
 -- Ear removal: which ears are removed in which order, and what is left.
 use Rattle.std.specs.Prelude.{◌≡◌, ◌≢◌, ◌↔◌, ℕ, ◌-◌, ◌<◌, ◌≤◌, List, slice_index}
-use Rattle.join_tree.specs.Ears.{CoversFirst, IsEar}
-use Rattle.join_tree.specs.Graph.{Hypergraph, HasVar, IsIn}
+use Rattle.hyper_graph.specs.Ears.{CoversFirst, IsEar}
+use Rattle.hyper_graph.specs.Graph.{Hypergraph, HasVar, IsIn}
 
 -- the atoms that live after the first k removals
 abbrev pub IsLive : ℕ → List ℕ → ℕ → ℕ → Type 0

@@ -1,13 +1,13 @@
 //! Ear removal.
 
 ghost use Rattle.std.specs.Prelude.{◌≡◌, ◌↔◌, ℕ, ◌+◌, ◌<◌, List, MatchOption};
-ghost use Rattle.join_tree.specs.Ears.{CoversFirst, IsEar};
-ghost use Rattle.join_tree.specs.Graph.{Hypergraph, HasVar, IsLiveIn};
-ghost use Rattle.join_tree.specs.JoinTrees.{HasJoinTree};
+ghost use Rattle.hyper_graph.specs.Ears.{CoversFirst, IsEar};
+ghost use Rattle.hyper_graph.specs.Graph.{Hypergraph, HasVar, IsLiveIn};
+ghost use Rattle.hyper_graph.specs.JoinTrees.{HasJoinTree};
 ghost use Rattle.join_tree.specs.Removal.{HasOne, IsAnyRemoval, IsRemoval, IsStep};
 
 use crate::outcome::Ears;
-use crate::{Graph, all_below, contains, without};
+use hyper_graph::{Graph, all_below, contains, without};
 
 /// The least atom that covers `ear`, if `ear` is a live ear.
 fn parent_of(graph: &Graph, live: u16, ear: u32) -> Option<u32>

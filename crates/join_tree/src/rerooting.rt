@@ -1,8 +1,8 @@
 //! Another root for a join tree.
 
 ghost use Rattle.std.specs.Prelude.{◌≡◌, ℕ, ◌+◌, ◌<◌, ◌≤◌, length, slice_index, take};
-ghost use Rattle.join_tree.specs.Graph.{Hypergraph};
-ghost use Rattle.join_tree.specs.JoinTrees.{IsJoinTree};
+ghost use Rattle.hyper_graph.specs.Graph.{Hypergraph};
+ghost use Rattle.hyper_graph.specs.JoinTrees.{IsJoinTree};
 ghost use Rattle.join_tree.specs.Rerooting.{IsTree, HasAtom, IsSameTree, IsRenumbered, IsRaised, old_node, new_node, new_parent};
 
 use crate::tree::JoinTree;

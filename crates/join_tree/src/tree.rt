@@ -1,13 +1,13 @@
 //! The join tree that ear removal gives.
 
 ghost use Rattle.std.specs.Prelude.{◌≡◌, ℕ, ◌+◌, ◌<◌, ◌≤◌, length, take, MatchOption, IfSome};
-ghost use Rattle.join_tree.specs.Graph.{Hypergraph, IsIn};
-ghost use Rattle.join_tree.specs.JoinTrees.{IsJoinTree, HasJoinTree};
+ghost use Rattle.hyper_graph.specs.Graph.{Hypergraph, IsIn};
+ghost use Rattle.hyper_graph.specs.JoinTrees.{IsJoinTree, HasJoinTree};
 ghost use Rattle.join_tree.specs.Rerooting.{IsTree};
 ghost use Rattle.join_tree.specs.Removal.{HasOne, IsRemoval, IsTreeOf};
 
 use crate::outcome::Ears;
-use crate::{least, without};
+use hyper_graph::{least, without};
 
 /// A join tree. Its nodes are numbered from 0, parents first, and node 0 is its own parent.
 #[derive(Clone, Copy, PartialEq, Eq)]

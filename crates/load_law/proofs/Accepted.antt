@@ -6,18 +6,18 @@ use Rattle.csv.specs.Reading.{strip_bom}
 use Rattle.csv.specs.Writing.{fields_text, is_blank}
 use Rattle.outer_io.specs.Files.{Files}
 use Rattle.anyk_model.specs.Table.{Fields, Flaw, Table, flaw_of, table_of}
-use Rattle.outer_io.specs.Input.{draw, load_query, table_files, table_text}
-use Rattle.outer_io.proofs.Short.{files_short}
+use Rattle.make_input.specs.Input.{draw, load_query, table_files, table_text}
+use Rattle.make_input.proofs.Short.{files_short}
 use Rattle.query_bind.specs.declared.fault.BindFault.{BindFault}
-use Rattle.outer_io.specs.Reason as reason
-use Rattle.outer_io.specs.Reason.{Reason, status_of}
+use Rattle.refusals.specs.Reason as reason
+use Rattle.refusals.specs.Reason.{Reason, status_of}
 use Rattle.verdict.specs.Faults.{of_bind, of_flaw}
 use Rattle.verdict.specs.AcceptedInput.{Found, found_of}
 use Rattle.verdict.specs.Loading.{Loaded, bound_in, first_uses, most_bytes, no_certificate, short_enough, sound_table}
 use Rattle.verdict.specs.Loading.{tables_in, with_steps}
 use Rattle.verdict.specs.MadeFiles.{made_files}
 use Rattle.verdict.specs.Outcome.{IsReason}
-use Rattle.languages.specs.Script.{unless}
+use Rattle.session_script.specs.Script.{unless}
 use Rattle.verdict.specs.Stages.{followed, then_by}
 use Rattle.verdict.specs.Verdict.{IsLoaded, IsVerdict}
 use Rattle.verdict.specs.Words.{Asked, Command, built, load, no_command}

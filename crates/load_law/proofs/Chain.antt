@@ -3,7 +3,7 @@ use Rattle.std.proofs.Common.{◌≡◌, ◌≢◌, ◌⊎◌, ◌↔◌, ◌==�
 use Rattle.std.proofs.lemmas.Bool.{eq-eqb}
 use Rattle.anyk_model.specs.Query.{Column, Equality, of_column, of_constant}
 use Rattle.rankings.specs.Order.{IsMember}
-use Rattle.join_tree.specs.Graph.{HasVar}
+use Rattle.hyper_graph.specs.Graph.{HasVar}
 use Rattle.bound_query.specs.Classes.{AreVariables, ColumnBefore, HasVariable, IsFixedTo, IsLeast, IsShared, Linked, same, forth, variable_at}
 use Rattle.query_bind.specs.Labels.{IsLabelling, replaced}
 use Rattle.query_bind.proofs.Labels.{labels_join, labels_none}

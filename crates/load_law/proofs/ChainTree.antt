@@ -2,10 +2,10 @@
 use Rattle.std.proofs.Common.{◌≡◌, ◌≢◌, ◌⊎◌, ◌<◌, ◌≤◌, ◌^◌, ◌-◌, ◌+◌, ℕ, zero, suc, List, [], ◌∷◌, slice_index, refl, sym, subst, ◌∙◌, inl, inr, arith}
 use Rattle.std.proofs.lemmas.Bool.{false≢true}
 use Rattle.std.proofs.lemmas.List.Elements.{All-cons, All-nil}
-use Rattle.join_tree.specs.Graph.{Hypergraph, HasVar, IsGraph}
-use Rattle.join_tree.specs.JoinTrees.{IsJoinTree}
-use Rattle.join_tree.proofs.Bits.{in_all_below}
-use Rattle.join_tree.proofs.Graphs.{has_atom, has_within}
+use Rattle.hyper_graph.specs.Graph.{Hypergraph, HasVar, IsGraph}
+use Rattle.hyper_graph.specs.JoinTrees.{IsJoinTree}
+use Rattle.hyper_graph.proofs.Bits.{in_all_below}
+use Rattle.hyper_graph.proofs.Graphs.{has_atom, has_within}
 use Rattle.join_tree.specs.Removal.{HasOne, IsLive, IsRemoval, IsRun, IsStep, IsTreeOf}
 use Rattle.join_tree.proofs.FromRemoval.{removal_done, tree_from_removal}
 

@@ -1,7 +1,7 @@
 -- The query of `load`, parsed by computation.
 use Rattle.std.proofs.Common.{ℕ, List, [], ◌∷◌, Some, false, refl}
 use Rattle.std.specs.Prelude.{codes}
-use Rattle.outer_io.specs.Input.{load_query}
+use Rattle.make_input.specs.Input.{load_query}
 use Rattle.query_select.specs.declared.select.ColumnRef.{ColumnRef}
 use Rattle.query_select.specs.declared.select.SelectList.TheVariants.{Columns}
 use Rattle.query_select.specs.declared.select.ItemRef.{ItemRef}
@@ -9,9 +9,9 @@ use Rattle.query_select.specs.declared.select.Side.TheVariants.{Column}
 use Rattle.query_select.specs.declared.select.Equality.{Equality}
 use Rattle.query_select.specs.declared.select.Term.{Term}
 use Rattle.query_select.specs.declared.select.Select.{Select}
-use Rattle.languages.specs.Parse.{IsParsed}
-use Rattle.languages.proofs.Literals.{parsed_as}
-use Rattle.languages.proofs.OnLiterals.{query_grammar_on_literals}
+use Rattle.query_parse.specs.Parse.{IsParsed}
+use Rattle.query_parse.proofs.Literals.{parsed_as}
+use Rattle.query_parse.proofs.OnLiterals.{query_grammar_on_literals}
 
 -- a column of an item, at this offset
 abbrev pub column_of : List ℕ → List ℕ → ℕ → ColumnRef

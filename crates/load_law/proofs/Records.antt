@@ -15,7 +15,7 @@ use Rattle.csv.proofs.RoundTrip as csv_text
 use Rattle.csv.proofs.RoundTrip.{read-write}
 use Rattle.anyk_model.specs.Table.{Fields, flaw_of, header_flaw, most_rows, records_of, rows_flaw}
 use Rattle.query_bind.proofs.Found.{all_append}
-use Rattle.outer_io.specs.Input.{draw, row_text, rows_text, table_text}
+use Rattle.make_input.specs.Input.{draw, row_text, rows_text, table_text}
 
 -- the fields of a made row, from the two draws after x
 abbrev pub made_row : ℕ → ℕ → Fields

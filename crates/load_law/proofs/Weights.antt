@@ -8,7 +8,7 @@ use Rattle.std.proofs.lemmas.Bool.{lt-ltb, ne_eqb}
 use Rattle.std.proofs.lemmas.Bool.Decides.{nat_tests}
 use Rattle.std.proofs.lemmas.Fmt.{decimal_is_IsNumeral, length-decimal-le}
 use Rattle.std.proofs.lemmas.Str.Parse.{IsNumeralModel, digit_from_value, numerals_by_value, tells_all_ascii_digits}
-use Rattle.outer_io.specs.Input.{draw}
+use Rattle.make_input.specs.Input.{draw}
 use Rattle.anyk_model.specs.Table.{Fields}
 use Rattle.anyk_model.specs.Weight.{are_digits, fitting, magnitude, weight_of}
 use Rattle.bound_query.specs.Weights.{greatest, size_of}

@@ -4,7 +4,7 @@ use Rattle.std.specs.List.{sum_by}
 use Rattle.std.proofs.lemmas.Bool.{cases_lt}
 use Rattle.std.proofs.lemmas.List.{get_or-replicate, get_or_past, length-replicate}
 use Rattle.std.proofs.lemmas.List.Sums.{sum_by-cons}
-use Rattle.rankings.specs.KeyTuple.{KeyOf}
+use Rattle.tdp_model.specs.KeyTuple.{KeyOf}
 use Rattle.tdp_core.specs.declared.parts.NodeShape.{NodeShape}
 use Rattle.tdp_core.specs.RawView.{RawView, RawRowView, row_total}
 use Rattle.join_tree.specs.declared.tree.JoinTree.{JoinTree}
@@ -12,7 +12,7 @@ use Rattle.anyk_model.specs.Table.{Table}
 use Rattle.bound_query.specs.WeighedQuery.{BoundQuery}
 use Rattle.node_build.specs.PartialTrees.{AreFilled}
 use Rattle.node_build.specs.Shapes.{AreShapesOf}
-use Rattle.node_build.specs.Pairs.{AreNumbers}
+use Rattle.link_index.specs.Pairs.{AreNumbers}
 
 none_at : (A : Type 0) (n q : ℕ) → (let none : List A = [] in get_or (replicate n none) q none ≡ none)
 none_at A n q = let none : List A = [] in elim (cases_lt q n) [

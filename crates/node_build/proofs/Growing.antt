@@ -6,13 +6,13 @@ use Rattle.std.proofs.lemmas.Bool.{cases_eq, cases_lt}
 use Rattle.std.proofs.lemmas.List.{get_or-set_other, get_or-set_same, get_or_append_left, get_or_push, length-set}
 use Rattle.std.proofs.lemmas.List.Sums.{sum_by-cons, sum_by_more}
 use Rattle.std.proofs.lemmas.Option.{get_or_from_slice_get, slice_get_read, slice_get_within}
-use Rattle.rankings.specs.KeyTuple.{KeyOf}
+use Rattle.tdp_model.specs.KeyTuple.{KeyOf}
 use Rattle.tdp_core.specs.RawView.{RawView, RawRowView, row_total, rows_at, with_row}
 use Rattle.join_tree.specs.declared.tree.JoinTree.{JoinTree}
 use Rattle.anyk_model.specs.Table.{Table}
 use Rattle.bound_query.specs.WeighedQuery.{BoundQuery}
 use Rattle.node_build.specs.PartialTrees.{AreFilled, HasOnlyMore}
-use Rattle.node_build.specs.Pairs.{AreMore}
+use Rattle.link_index.specs.Pairs.{AreMore}
 use Rattle.node_build.specs.Links.{HasRowsOf, IsRowOf}
 use Rattle.node_build.proofs.Numbering.{link_kept}
 

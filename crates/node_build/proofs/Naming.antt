@@ -9,7 +9,7 @@ use Rattle.anyk_model.specs.Table.{Table, table_at}
 use Rattle.bound_query.specs.Items.{item_at}
 use Rattle.bound_query.specs.WeighedQuery.{BoundQuery, Fits}
 use Rattle.node_build.specs.Columns.{HaveColumns}
-use Rattle.node_build.specs.Pairs.{AreMore}
+use Rattle.link_index.specs.Pairs.{AreMore}
 use Rattle.node_build.specs.Links.{IsLink, NamesLinks, values_at}
 use Rattle.node_build.specs.Nodes.{item_of, parent_of}
 use Rattle.node_build.specs.Rows.{lists_of}

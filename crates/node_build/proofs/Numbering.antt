@@ -1,7 +1,7 @@
 -- The numbers of lists that are made of numbered pairs.
 use Rattle.std.proofs.Common.{◌≡◌, ◌↔◌, ℕ, List, [], ◌∷◌, ◌++◌, length, get_or, refl, sym, ap, subst, ◌∙◌, arith}
-use Rattle.node_build.specs.Pairs.{AreMore, AreNumbers, IsNumbered}
-use Rattle.node_build.proofs.PairNumbering.{same_pair}
+use Rattle.link_index.specs.Pairs.{AreMore, AreNumbers, IsNumbered}
+use Rattle.link_index.proofs.PairNumbering.{same_pair}
 use Rattle.node_build.specs.Links.{IsLink, IsListNumber}
 
 abbrev Pair : Type 0

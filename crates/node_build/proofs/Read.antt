@@ -5,7 +5,7 @@ use Rattle.std.proofs.lemmas.Bool.{cases_order}
 use Rattle.std.proofs.lemmas.List.{get_or-map, length-map, ext_get_or}
 use Rattle.std.proofs.lemmas.List.Sums.{sum-map}
 use Rattle.std.proofs.lemmas.Option.{slice_get-get_or}
-use Rattle.rankings.specs.KeyTuple.{KeyOf, key_none}
+use Rattle.tdp_model.specs.KeyTuple.{KeyOf, key_none}
 use Rattle.rank_key.specs.Keys.{row_key}
 use Rattle.tdp_core.specs.RawView.{RawView, RawRowView, child_link, own_link, raw_len, raw_number, raw_rank, row_total, rows_at, shape_child_place, shape_parent}
 use Rattle.tdp_core.specs.Solutions.{IsTieFreeRaw}

@@ -1,7 +1,7 @@
 -- The shape of a query, from its join tree and the rows of its nodes.
 use Rattle.std.proofs.Common.{◌≡◌, ◌<◌, ◌≤◌, ℕ, List, [], ◌∷◌, map, take, length, slice_index, slice_index_or, Ok, Err, refl, sym, ap, ◌∙◌, subst, arith}
 use Rattle.std.proofs.lemmas.List.{get_or-map, get_or-take, length-map}
-use Rattle.rankings.specs.KeyTuple.{KeyOf}
+use Rattle.tdp_model.specs.KeyTuple.{KeyOf}
 use Rattle.tdp_core.specs.RawView.{RawView, row_total, rows_at}
 use Rattle.join_tree.specs.declared.tree.JoinTree.{JoinTree}
 use Rattle.anyk_model.specs.Table.{Table}
@@ -9,7 +9,7 @@ use Rattle.anyk_model.specs.Query.{Query}
 use Rattle.bound_query.specs.Parts.{sum_of_all}
 use Rattle.bound_query.specs.WeighedQuery.{BoundQuery}
 use Rattle.bound_query.specs.Shape.{HasNodeRows, HasShape, IsShape, Shape, too_many_rows}
-use Rattle.rankings.specs.NodeRows.{most_node_rows}
+use Rattle.tdp_model.specs.NodeRows.{most_node_rows}
 use Rattle.bound_query.specs.JoinTreeView.{HasStoredTree}
 use Rattle.bound_query.proofs.NodeSums.{sum_of_lengths}
 use Rattle.node_build.specs.Nodes.{AreNodeRows, AreRowsOfNodes, IsBuilt, IsJoinTreeOf, item_of}

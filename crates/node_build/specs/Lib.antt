@@ -1,10 +1,6 @@
 pub mod Columns
-pub mod Laws
-pub mod LinkTable
 pub mod Links
 pub mod Nodes
-pub mod Pairs
 pub mod PartialTrees
 pub mod Rows
 pub mod Shapes
-pub mod WitnessKey

@@ -1,13 +1,13 @@
 -- Links: one number for the values that a row has in some columns.
 use Rattle.std.specs.Prelude.{◌≡◌, ◌<◌, ◌-◌, ℕ, List, [], ◌∷◌, map, length, slice_index, slice_index_or, slice_get, Some}
 use Rattle.rank_key.specs.Keys.{row_key}
-use Rattle.rankings.specs.KeyTuple.{KeyOf}
+use Rattle.tdp_model.specs.KeyTuple.{KeyOf}
 use Rattle.tdp_core.specs.TreeView.{kids_below}
 use Rattle.tdp_core.specs.RawView.{RawRowView}
 use Rattle.join_tree.specs.declared.tree.JoinTree.{JoinTree}
 use Rattle.anyk_model.specs.Table.{Table, field_at}
 use Rattle.table_store.specs.Values.{number_of}
-use Rattle.node_build.specs.Pairs.{IsNumbered}
+use Rattle.link_index.specs.Pairs.{IsNumbered}
 use Rattle.bound_query.specs.WeighedQuery.{BoundQuery}
 use Rattle.bound_query.specs.Weights.{table_in}
 use Rattle.node_build.specs.Nodes.{item_of, parent_of, row_parts}

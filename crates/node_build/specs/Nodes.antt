@@ -2,10 +2,10 @@
 use Rattle.std.specs.Prelude.{◌≡◌, ◌↔◌, ◌⊎◌, ◌<◌, ◌≤◌, ℕ, ℤ, nat_lt, cond, List, [], map, length, slice_index, slice_index_or, take}
 use Rattle.std.specs.List.{sum_by}
 use Rattle.rankings.specs.Order.{IsMember, IsAscending}
-use Rattle.join_tree.specs.Graph.{Hypergraph}
-use Rattle.join_tree.specs.JoinTrees.{IsJoinTree}
+use Rattle.hyper_graph.specs.Graph.{Hypergraph}
+use Rattle.hyper_graph.specs.JoinTrees.{IsJoinTree}
 use Rattle.join_tree.specs.declared.tree.JoinTree.{JoinTree}
-use Rattle.rankings.specs.KeyTuple.{KeyOf}
+use Rattle.tdp_model.specs.KeyTuple.{KeyOf}
 use Rattle.rank_key.specs.Keys.{row_key}
 use Rattle.tdp_core.specs.RawView.{RawView, child_link, own_link, raw_len, raw_number, raw_rank, rows_at, shape_cap, shape_child_place, shape_item, shape_parent}
 use Rattle.anyk_model.specs.Table.{Table}

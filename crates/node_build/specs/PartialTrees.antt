@@ -1,13 +1,13 @@
 -- A raw tree that is filled node by node.
 use Rattle.std.specs.Prelude.{◌≡◌, ◌≢◌, ◌<◌, ◌≤◌, ◌+◌, ℕ, List, [], length, slice_index_or, take}
 use Rattle.std.specs.List.{sum_by}
-use Rattle.rankings.specs.KeyTuple.{KeyOf}
+use Rattle.tdp_model.specs.KeyTuple.{KeyOf}
 use Rattle.tdp_core.specs.RawView.{RawView, row_total, rows_at}
 use Rattle.join_tree.specs.declared.tree.JoinTree.{JoinTree}
 use Rattle.anyk_model.specs.Table.{Table}
 use Rattle.bound_query.specs.WeighedQuery.{BoundQuery}
 use Rattle.node_build.specs.Columns.{HaveColumns}
-use Rattle.node_build.specs.Pairs.{AreNumbers}
+use Rattle.link_index.specs.Pairs.{AreNumbers}
 use Rattle.node_build.specs.Links.{HasRowsOf}
 
 -- node v has n rows more, and the other nodes have the same rows as before

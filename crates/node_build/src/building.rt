@@ -1,6 +1,6 @@
 //! Building the raw tree of a query.
 ghost use Rattle.std.specs.Prelude.{◌≡◌, ◌<◌, ◌≤◌, ◌+◌, ◌*◌, ◌^◌, length, map, sum, IfErr, IfOk};
-ghost use Rattle.rankings.specs.NodeRows.{most_node_rows};
+ghost use Rattle.tdp_model.specs.NodeRows.{most_node_rows};
 ghost use Rattle.tdp_core.specs.RawView.{row_total};
 ghost use Rattle.tdp_core.specs.Solutions.{IsTieFreeRaw};
 ghost use Rattle.anyk_model.specs.Query.{row_counts};
@@ -12,11 +12,11 @@ use crate::built::{BuildFault, Built};
 use crate::filling::filled_tree;
 use crate::rows::{counts_of, rows_of_nodes};
 use bound_query::Query;
-use ground::Steps;
 use join_tree::JoinTree;
 use rank_key::Rank;
 use std::alloc::Global;
 use std::sync::ledger::Ledger;
+use step_counter::Steps;
 use table_store::Tables;
 
 /// The sum of some numbers.

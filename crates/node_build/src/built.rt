@@ -1,7 +1,7 @@
 //! The result of building.
 
-use ground::NoMemory;
 use rank_key::Rank;
+use step_counter::NoMemory;
 use tdp_core::RawTree;
 
 /// The raw tree of a query.

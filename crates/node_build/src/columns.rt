@@ -9,9 +9,9 @@ ghost use Rattle.node_build.specs.Nodes.{IsJoinTreeOf};
 ghost use Rattle.node_build.specs.Rows.{lists_of};
 
 use bound_query::Query;
-use ground::NoMemory;
 use join_tree::JoinTree;
 use std::alloc::Global;
+use step_counter::NoMemory;
 
 /// For each node after the first, the columns of its item, and for each of these the column of the
 /// same variable in its parent's item.

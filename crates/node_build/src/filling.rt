@@ -1,24 +1,24 @@
 //! Filling the raw tree, one node after another.
 ghost use Rattle.std.specs.Prelude.{◌≡◌, ◌<◌, ◌≤◌, ◌+◌, ◌*◌, length, IfOk, OnOk};
-ghost use Rattle.rankings.specs.NodeRows.{most_node_rows};
+ghost use Rattle.tdp_model.specs.NodeRows.{most_node_rows};
 ghost use Rattle.std.specs.List.{sum_by};
-ghost use Rattle.node_build.specs.Pairs.{AreNumbers};
+ghost use Rattle.link_index.specs.Pairs.{AreNumbers};
 ghost use Rattle.node_build.specs.Columns.{HaveColumns};
 ghost use Rattle.node_build.specs.PartialTrees.{AreFilled, IsFilledTree};
 ghost use Rattle.node_build.specs.Nodes.{AreReady};
 ghost use Rattle.node_build.specs.Rows.{HaveRows, lists_of};
 ghost use Rattle.node_build.specs.Shapes.{AreShapesOf};
 
-use crate::PairIndex;
 use crate::columns::{Columns, columns_of};
 use crate::node::add_rows;
 use crate::shapes::shapes_of;
 use bound_query::Query;
-use ground::{NoMemory, Steps};
 use join_tree::JoinTree;
+use link_index::PairIndex;
 use rank_key::Rank;
 use std::alloc::Global;
 use std::sync::ledger::Ledger;
+use step_counter::{NoMemory, Steps};
 use table_store::Tables;
 use tdp_core::RawTree;
 

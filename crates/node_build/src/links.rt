@@ -2,12 +2,12 @@
 //! if the values are.
 ghost use Rattle.std.specs.Prelude.{◌≡◌, ◌<◌, ◌≤◌, ◌+◌, ℕ, length, slice_index, IfOk, OnOk};
 ghost use Rattle.anyk_model.specs.Table.{table_at};
-ghost use Rattle.node_build.specs.Pairs.{AreMore};
+ghost use Rattle.link_index.specs.Pairs.{AreMore};
 ghost use Rattle.node_build.specs.Links.{IsLink, IsListNumber, values_in};
 
-use crate::{ListNumber, PairIndex};
-use ground::{NoMemory, Steps};
+use link_index::{ListNumber, PairIndex};
 use std::sync::ledger::Ledger;
+use step_counter::{NoMemory, Steps};
 use table_store::Tables;
 
 /// The number at a node of a list of values: those of `first`, and those that a row has in some

@@ -1,6 +1,6 @@
 //! The rows of one node.
 ghost use Rattle.std.specs.Prelude.{◌≡◌, ◌<◌, ◌≤◌, ◌+◌, ◌*◌, ℕ, [], length, OnOk};
-ghost use Rattle.rankings.specs.NodeRows.{most_node_rows};
+ghost use Rattle.tdp_model.specs.NodeRows.{most_node_rows};
 ghost use Rattle.rankings.specs.Order.{IsMember};
 ghost use Rattle.tdp_core.specs.RawView.{RawRowView, row_total, rows_at, with_row};
 ghost use Rattle.tdp_core.specs.TreeView.{kids_below};
@@ -8,22 +8,22 @@ ghost use Rattle.bound_query.specs.WeighedQuery.{Fits};
 ghost use Rattle.bound_query.specs.Weights.{table_in};
 ghost use Rattle.node_build.specs.Columns.{HaveColumns};
 ghost use Rattle.node_build.specs.PartialTrees.{HasOnlyMore};
-ghost use Rattle.node_build.specs.Pairs.{AreMore};
+ghost use Rattle.link_index.specs.Pairs.{AreMore};
 ghost use Rattle.node_build.specs.Links.{HasRowsOf, IsRowOf, NamesLinks};
 ghost use Rattle.node_build.specs.Nodes.{AreReady, IsJoinTreeOf, IsRowAt, item_of, parent_of};
 ghost use Rattle.node_build.specs.Rows.{lists_of};
 ghost use Rattle.node_build.specs.Shapes.{AreShapesOf};
 
-use crate::PairIndex;
 use crate::columns::Columns;
 use crate::links::link;
 use crate::shapes::rank_of;
 use bound_query::Query;
-use ground::{NoMemory, Steps};
 use join_tree::JoinTree;
+use link_index::PairIndex;
 use rank_key::Rank;
 use std::alloc::Global;
 use std::sync::ledger::Ledger;
+use step_counter::{NoMemory, Steps};
 use table_store::Tables;
 use tdp_core::{NodeRow, RawTree};
 

@@ -6,9 +6,9 @@ ghost use Rattle.node_build.specs.Nodes.{AreNodeRows, IsJoinTreeOf};
 ghost use Rattle.node_build.specs.Rows.{HaveRows, lists_of};
 
 use bound_query::Query;
-use ground::NoMemory;
 use join_tree::JoinTree;
 use std::alloc::Global;
+use step_counter::NoMemory;
 use table_store::Tables;
 
 /// The rows of an item that pass, in ascending order.

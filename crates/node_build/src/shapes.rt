@@ -8,10 +8,10 @@ ghost use Rattle.node_build.specs.Nodes.{AreReady, IsJoinTreeOf, IsRowAt, item_o
 ghost use Rattle.node_build.specs.Shapes.{AreShapesOf};
 
 use bound_query::Query;
-use ground::NoMemory;
 use join_tree::JoinTree;
 use rank_key::Rank;
 use std::alloc::Global;
+use step_counter::NoMemory;
 use table_store::Tables;
 use tdp_core::NodeShape;
 

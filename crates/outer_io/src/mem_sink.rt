@@ -7,9 +7,9 @@ ghost use Rattle.outer_io.specs.Counts.{saturating, Rose};
 ghost use Rattle.outer_io.specs.Fakes.{after_write, answer_to};
 
 use crate::{Sink, WriteFailed};
-use ground::NoMemory;
 use std::alloc::Global;
 use std::marker::Model;
+use step_counter::NoMemory;
 
 /// A sink in memory with room for a given number of bytes. It takes at most `most` bytes in a call,
 /// and counts its calls from 1: it fails at those whose numbers are in `failing`, and takes nothing

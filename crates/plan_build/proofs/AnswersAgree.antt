@@ -1,10 +1,10 @@
 -- The answers as which keys are seen are those of the witnesses with these keys.
 use Rattle.std.proofs.Common.{◌≡◌, ◌∙◌, [], ◌∷◌, ℕ, List, map, refl, ap}
-use Rattle.rankings.specs.KeyTuple.{KeyOf}
+use Rattle.tdp_model.specs.KeyTuple.{KeyOf}
 use Rattle.tdp_core.specs.AnswerView.{answer_of, answers_of}
 use Rattle.anyk_model.specs.Table.{Table}
 use Rattle.anyk_model.specs.Query.{Query}
-use Rattle.node_build.specs.WitnessKey.{answers_of_ranking, witness_key}
+use Rattle.witness_key.specs.WitnessKey.{answers_of_ranking, witness_key}
 
 -- the answers of the ranking of witnesses, by their keys
 pub answers_agree : (d : ℕ) (query : Query) (tables : List Table) (ranking : List (List ℕ)) (ks : List (KeyOf d 16)) → ks ≡ map (witness_key d query tables) ranking

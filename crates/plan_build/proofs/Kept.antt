@@ -1,12 +1,12 @@
 -- The number of rows that stay in a reduction.
 use Rattle.std.proofs.Common.{◌≡◌, ℕ, ◌+◌, ◌<◌, ◌≤◌, List, length, slice_index, Some, sym, ap, ◌∙◌, arith}
 use Rattle.std.proofs.lemmas.List.{get_or_default, length-map}
-use Rattle.rankings.specs.KeyTuple.{KeyOf}
-use Rattle.rankings.specs.TreeProblem.{sum_from}
+use Rattle.tdp_model.specs.KeyTuple.{KeyOf}
+use Rattle.tdp_model.specs.TreeProblem.{sum_from}
 use Rattle.tdp_core.specs.RawView.{RawView, raw_len, raw_row_at, row_total}
 use Rattle.tdp_core.specs.TreeView.{NodeView, node_at, rows}
 use Rattle.bound_query.proofs.NodeSums.{lengths_in_all, sum_fewer}
-use Rattle.plan_build.specs.ReducedTrees.{IsReduced}
+use Rattle.semi_join.specs.ReducedTrees.{IsReduced}
 use Rattle.plan_build.proofs.Sizes.{few_below}
 
 module _ {R : Type 0} (d : ℕ) (key : R → KeyOf d 16) (raw : RawView R) (parts : List (NodeView R)) (reduced : IsReduced d key raw parts) where

@@ -4,10 +4,10 @@ use Rattle.std.proofs.lemmas.Bool.{cases_eq, cases_lt, cases_order}
 use Rattle.std.proofs.lemmas.Grind.{get_or_default_zero}
 use Rattle.rankings.specs.Order.{BelowAll, IsAscending, IsMember}
 use Rattle.rankings.proofs.Members.{contains_member, member_contains}
-use Rattle.rankings.specs.Below.{is_below}
-use Rattle.rankings.specs.Regions.{place_of}
-use Rattle.rankings.proofs.Descent.{below_less, below_parent}
-use Rattle.rankings.proofs.Division.{get_place, place_get, place_le}
+use Rattle.tdp_model.specs.Below.{is_below}
+use Rattle.tdp_model.specs.Regions.{place_of}
+use Rattle.tdp_model.proofs.Descent.{below_less, below_parent}
+use Rattle.tdp_model.proofs.Division.{get_place, place_get, place_le}
 use Rattle.tdp_core.specs.Solutions.{Extends}
 
 -- ---- ascending numbers

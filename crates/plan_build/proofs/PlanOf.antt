@@ -1,10 +1,10 @@
 -- The solved tree has the query's witnesses as its solutions.
 use Rattle.std.proofs.Common.{◌≡◌, ℕ, ◌<◌, ◌≤◌, List, map, length, slice_index, slice_index_or, sym, ap, ◌∙◌, subst, arith}
 use Rattle.std.proofs.lemmas.List.{length-map}
-use Rattle.rankings.specs.KeyTuple.{KeyOf, key_add, key_below, key_none}
-use Rattle.rankings.specs.TreeProblem.{sum_from}
-use Rattle.rankings.proofs.KeyTuples.{tuple_keys}
-use Rattle.rankings.proofs.Sums.{sum_same}
+use Rattle.tdp_model.specs.KeyTuple.{KeyOf, key_add, key_below, key_none}
+use Rattle.tdp_model.specs.TreeProblem.{sum_from}
+use Rattle.tdp_model.proofs.KeyTuples.{tuple_keys}
+use Rattle.tdp_model.proofs.Sums.{sum_same}
 use Rattle.tdp_core.specs.RawView.{RawView, raw_rank}
 use Rattle.tdp_core.specs.TreeView.{NodeView, parent, rank}
 use Rattle.tdp_core.specs.Solutions.{IsRawSolution, IsTreeRanking, IsTreeSolution, raw_solution_key, solution_key}
@@ -12,10 +12,10 @@ use Rattle.tdp_core.specs.WellFormed.{IsFormed, IsTieFreeTree}
 use Rattle.anyk_model.specs.Table.{Table}
 use Rattle.anyk_model.specs.Query.{Query, IsWitness}
 use Rattle.anyk_model.specs.Ranking.{ranking_of}
-use Rattle.node_build.specs.WitnessKey.{witness_key}
-use Rattle.node_build.proofs.Rankings.{rankings_agree_lem}
-use Rattle.plan_build.specs.ReducedTrees.{IsReduced}
-use Rattle.plan_build.specs.SolvedTrees.{IsSolved}
+use Rattle.witness_key.specs.WitnessKey.{witness_key}
+use Rattle.witness_key.proofs.Rankings.{rankings_agree_lem}
+use Rattle.semi_join.specs.ReducedTrees.{IsReduced}
+use Rattle.tree_dp.specs.SolvedTrees.{IsSolved}
 use Rattle.plan_build.specs.Plan.{HasWitnesses}
 use Rattle.plan_build.proofs.TreeSolutions.{has_solution, solution_has, solutions_once}
 

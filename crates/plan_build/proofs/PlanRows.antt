@@ -8,8 +8,8 @@ use Rattle.std.proofs.lemmas.List.Sorted.{Contains-permutation, IsPermutation-sy
 use Rattle.std.proofs.lemmas.Grind.{get_or_default_zero}
 use Rattle.rankings.specs.Order.{IsMember}
 use Rattle.join_tree.specs.declared.tree.JoinTree.{JoinTree}
-use Rattle.rankings.specs.KeyTuple.{KeyOf, key_none}
-use Rattle.rankings.specs.Regions.{place_of}
+use Rattle.tdp_model.specs.KeyTuple.{KeyOf, key_none}
+use Rattle.tdp_model.specs.Regions.{place_of}
 use Rattle.tdp_core.specs.RawView.{RawView, child_link, own_link, raw_len, raw_number, raw_rank, rows_at, shape_child_place, shape_parent}
 use Rattle.tdp_core.specs.TreeView.{NodeView, group, group_number, item, members, node_at, number, parent, rank, rows}
 use Rattle.tdp_core.specs.Solutions.{Extends, RawExtends, RawLinked}
@@ -20,11 +20,11 @@ use Rattle.bound_query.specs.Classes.{Passes}
 use Rattle.bound_query.specs.WeighedQuery.{BoundQuery}
 use Rattle.rank_key.specs.Keys.{row_key}
 use Rattle.node_build.specs.Nodes.{IsBuilt, RowsAgree, RowsAlike, item_of, parent_of, row_parts}
-use Rattle.plan_build.specs.ReducedTrees.{IsReduced, ShareGroup}
-use Rattle.plan_build.proofs.NodeRows.{row_field, rows_count}
-use Rattle.plan_build.proofs.SameShapes.{count_same, parent_same, shape_same}
-use Rattle.plan_build.specs.SolvedTrees.{IsReordered, IsSolved}
-use Rattle.plan_build.proofs.ReorderedNodes.{group_number_same}
+use Rattle.semi_join.specs.ReducedTrees.{IsReduced, ShareGroup}
+use Rattle.semi_join.proofs.NodeRows.{row_field, rows_count}
+use Rattle.semi_join.proofs.SameShapes.{count_same, parent_same, shape_same}
+use Rattle.tree_dp.specs.SolvedTrees.{IsReordered, IsSolved}
+use Rattle.tree_dp.proofs.ReorderedNodes.{group_number_same}
 use Rattle.plan_build.specs.Plan.{HasReducedRows, RowPasses, RowsJoined, numbers}
 use Rattle.plan_build.proofs.Places.{Rises, extends_in, extends_out, member_place, place_member, rises_at, rises_of}
 

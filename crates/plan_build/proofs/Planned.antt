@@ -1,8 +1,8 @@
 -- The plan of a query, from what building, reducing and solving give.
 use Rattle.std.proofs.Common.{◌≡◌, ℕ, ◌+◌, ◌<◌, ◌≤◌, List, length, map, get_or, slice_index, Err, refl, sym, ap, ◌∙◌, subst, arith}
 use Rattle.std.proofs.lemmas.List.{ext_get_or, get_or-map, length-map}
-use Rattle.rankings.specs.KeyTuple.{KeyOf}
-use Rattle.rankings.specs.TreeProblem.{sum_from}
+use Rattle.tdp_model.specs.KeyTuple.{KeyOf}
+use Rattle.tdp_model.specs.TreeProblem.{sum_from}
 use Rattle.tdp_core.specs.RawView.{RawView, row_total, shape_at}
 use Rattle.tdp_core.specs.TreeView.{NodeView, item, node_at, parent, rows}
 use Rattle.tdp_core.specs.Solutions.{IsTieFreeRaw}
@@ -18,8 +18,8 @@ use Rattle.bound_query.specs.JoinTreeView.{HasItems, HasStoredTree}
 use Rattle.node_build.specs.Nodes.{IsBuilt, IsJoinTreeOf, PassesBudget, item_of, parent_of}
 use Rattle.node_build.proofs.ShapeOf.{flaw_if_many, join_tree_of, numbers_in_all, numbers_of, rows_of_built, same_lengths, shape_of_rows}
 use Rattle.bound_query.proofs.NodeSums.{sum_fewer, sum_of_lengths}
-use Rattle.plan_build.specs.ReducedTrees.{IsReduced}
-use Rattle.plan_build.specs.SolvedTrees.{IsSolved}
+use Rattle.semi_join.specs.ReducedTrees.{IsReduced}
+use Rattle.tree_dp.specs.SolvedTrees.{IsSolved}
 use Rattle.plan_build.specs.Plan.{IsPlanFor, shape_view}
 use Rattle.plan_build.proofs.Kept.{kept_in_all}
 use Rattle.plan_build.proofs.PlanOf.{AreWitnesses, has_witnesses, ranking_agrees}

@@ -12,7 +12,7 @@ use Rattle.bound_query.specs.Parts.{sum_of_all}
 use Rattle.bound_query.specs.WeighedQuery.{BoundQuery}
 use Rattle.node_build.specs.Nodes.{AreNodeRows, AreRowsOfNodes, IsJoinTreeOf, item_of}
 use Rattle.plan_build.proofs.Witnesses.{items_ordered}
-use Rattle.node_build.proofs.WitnessSums.{Chosen, IsOrderOf, choose, total_reordered, total_same}
+use Rattle.witness_key.proofs.WitnessSums.{Chosen, IsOrderOf, choose, total_reordered, total_same}
 
 -- ---- sums
 

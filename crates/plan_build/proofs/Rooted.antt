@@ -1,11 +1,11 @@
 -- A plan with the nodes of its join tree, and one with those of the same tree under another root.
 use Rattle.std.proofs.Common.{◌≡◌, ℕ, ◌<◌, List, length, take, slice_index, Option, None, Some, Result, Ok, Err, IfOk, sym, ap, ◌∙◌, subst, inl, inr, arith}
 use Rattle.std.proofs.lemmas.List.{ext_get_or, get_or-map, get_or-take, length-map, length-take-le}
-use Rattle.rankings.specs.KeyTuple.{KeyOf}
+use Rattle.tdp_model.specs.KeyTuple.{KeyOf}
 use Rattle.tdp_core.specs.TreeView.{item, parent}
-use Rattle.join_tree.specs.Graph.{Hypergraph}
-use Rattle.join_tree.specs.Trees.{IsLinked}
-use Rattle.join_tree.specs.JoinTrees.{IsJoinTree}
+use Rattle.hyper_graph.specs.Graph.{Hypergraph}
+use Rattle.hyper_graph.specs.Trees.{IsLinked}
+use Rattle.hyper_graph.specs.JoinTrees.{IsJoinTree}
 use Rattle.join_tree.specs.Rerooting.{AreLinked, HasAtom, IsSameTree}
 use Rattle.join_tree.specs.declared.tree.JoinTree.{JoinTree}
 use Rattle.anyk_model.specs.Table.{Table}

@@ -3,13 +3,13 @@ use Rattle.std.proofs.Common.{◌≡◌, ℕ, zero, suc, ◌*◌, ◌<◌, List,
 use Rattle.std.specs.List.{Contains, range_with_len}
 use Rattle.std.proofs.lemmas.List.{get_or-take, get_or_default, length-take-le}
 use Rattle.std.proofs.lemmas.List.FromFn.{get_or-map-range_with_len, length-map-range_with_len}
-use Rattle.rankings.specs.KeyTuple.{KeyOf, key_add, key_below, key_none, slot_of}
-use Rattle.rankings.specs.Regions.{completes, is_empty, place_of, stands}
-use Rattle.rankings.specs.TreeProblem.{SolutionHas, rows_after, rows_key, sum_from}
-use Rattle.rankings.proofs.Division.{get_place, place_le, stands_place, stands_yes, times_pos}
-use Rattle.rankings.proofs.Sums.{sum_same}
-use Rattle.rankings.proofs.KeyTuples.{tuple_keys}
-use Rattle.rankings.proofs.Ties.{completes_length, solutions_apart}
+use Rattle.tdp_model.specs.KeyTuple.{KeyOf, key_add, key_below, key_none, slot_of}
+use Rattle.tdp_model.specs.Regions.{completes, is_empty, place_of, stands}
+use Rattle.tdp_model.specs.TreeProblem.{SolutionHas, rows_after, rows_key, sum_from}
+use Rattle.tdp_model.proofs.Division.{get_place, place_le, stands_place, stands_yes, times_pos}
+use Rattle.tdp_model.proofs.Sums.{sum_same}
+use Rattle.tdp_model.proofs.KeyTuples.{tuple_keys}
+use Rattle.tdp_model.proofs.Ties.{completes_length, solutions_apart}
 use Rattle.tdp_core.specs.TreeView.{NodeView, group, item, number, parent, rank}
 use Rattle.tdp_core.specs.Solutions.{IsTreeSolution, solution_key}
 use Rattle.tdp_core.specs.WellFormed.{IsFormed, IsTieFreeTree}

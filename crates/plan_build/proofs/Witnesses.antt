@@ -5,8 +5,8 @@ use Rattle.std.proofs.lemmas.Grind.{get_or_default_zero}
 use Rattle.std.proofs.lemmas.List.{get_or-take, length-map}
 use Rattle.rankings.proofs.Members.{contains_member, member_contains}
 use Rattle.join_tree.specs.declared.tree.JoinTree.{JoinTree}
-use Rattle.rankings.specs.KeyTuple.{KeyOf, key_add, key_none}
-use Rattle.rankings.specs.TreeProblem.{sum_from}
+use Rattle.tdp_model.specs.KeyTuple.{KeyOf, key_add, key_none}
+use Rattle.tdp_model.specs.TreeProblem.{sum_from}
 use Rattle.tdp_core.specs.RawView.{RawView, child_link, own_link, raw_len, raw_number, raw_rank, rows_at, shape_child_place}
 use Rattle.tdp_core.specs.Solutions.{IsRawSolution, raw_solution_key}
 use Rattle.rank_key.specs.Keys.{row_key}
@@ -17,11 +17,11 @@ use Rattle.bound_query.specs.WeighedQuery.{BoundQuery, Fits}
 use Rattle.bound_query.proofs.Least.{least_iff}
 use Rattle.bound_query.proofs.Witness.{witness_iff}
 use Rattle.node_build.specs.Nodes.{IsBuilt, IsJoinTreeOf, RowsAgree, item_of, parent_of, row_parts}
-use Rattle.node_build.specs.WitnessKey.{witness_key}
-use Rattle.node_build.proofs.TreeWitnesses.{links_witness}
-use Rattle.node_build.proofs.WitnessKeys.{keys_add}
-use Rattle.node_build.proofs.WitnessRows.{combination_of_each, each_of_combination, length_of_combination}
-use Rattle.node_build.proofs.WitnessSums.{IsOrderOf, choose}
+use Rattle.witness_key.specs.WitnessKey.{witness_key}
+use Rattle.witness_key.proofs.TreeWitnesses.{links_witness}
+use Rattle.witness_key.proofs.WitnessKeys.{keys_add}
+use Rattle.witness_key.proofs.WitnessRows.{combination_of_each, each_of_combination, length_of_combination}
+use Rattle.witness_key.proofs.WitnessSums.{IsOrderOf, choose}
 
 -- # The tree
 

@@ -2,9 +2,9 @@
 use Rattle.std.specs.Prelude.{◌≡◌, List, Err}
 use Rattle.anyk_model.specs.Query.{Query}
 use Rattle.anyk_model.specs.Table.{Table}
-use Rattle.join_tree.specs.Items.{items_of}
+use Rattle.hyper_graph.specs.Items.{items_of}
 use Rattle.bound_query.specs.Shape.{IsShape, cyclic, too_many_rows}
-use Rattle.rankings.specs.NodeRows.{most_node_rows}
+use Rattle.tdp_model.specs.NodeRows.{most_node_rows}
 use Rattle.plan_build.specs.declared.fault.PlanFault.{PlanFault}
 use Rattle.plan_build.specs.declared.fault.PlanFault.TheVariants as fault
 

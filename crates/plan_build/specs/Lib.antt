@@ -1,14 +1,5 @@
-pub mod BestRanking
 pub mod Faults
-pub mod Firsts
-pub mod GroupedTrees
 pub mod Making
-pub mod Orders
 pub mod Plan
 pub mod Plans
-pub mod Progress
 pub mod RankedPlan
-pub mod ReducedTrees
-pub mod Reduction
-pub mod RootHeap
-pub mod SolvedTrees

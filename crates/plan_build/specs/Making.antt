@@ -1,7 +1,7 @@
 -- What the steps of making a plan ask for, and what they hand on.
 use Rattle.std.specs.Prelude.{◌≡◌, ◌<◌, ◌≤◌, ℕ, List, length, map}
-use Rattle.rankings.specs.KeyTuple.{KeyOf}
-use Rattle.rankings.specs.NodeRows.{most_node_rows}
+use Rattle.tdp_model.specs.KeyTuple.{KeyOf}
+use Rattle.tdp_model.specs.NodeRows.{most_node_rows}
 use Rattle.tdp_core.specs.RawView.{IsRawFormed, RawView, row_total}
 use Rattle.tdp_core.specs.Solutions.{IsTieFreeRaw}
 use Rattle.tdp_core.specs.TreeView.{item, parent}

@@ -1,7 +1,7 @@
 -- The plan of a query: the tree problem whose solutions are the query's witnesses.
 use Rattle.std.specs.Prelude.{◌≡◌, ◌↔◌, ◌⊎◌, ℕ, ◌<◌, ◌≤◌, List, Contains, map, length, slice_index, take, Ok, Option, None, Some}
 use Rattle.rankings.specs.Order.{IsAscending, IsMember}
-use Rattle.rankings.specs.KeyTuple.{KeyOf}
+use Rattle.tdp_model.specs.KeyTuple.{KeyOf}
 use Rattle.tdp_core.specs.TreeView.{NodeView, group, item, node_at, number, parent, rank, row_count, rows}
 use Rattle.tdp_core.specs.Solutions.{Extends, IsTreeRanking, IsTreeSolution, solution_key}
 use Rattle.tdp_core.specs.WellFormed.{IsTieFreeTree}
@@ -18,9 +18,9 @@ use Rattle.join_tree.specs.declared.tree.JoinTree.{JoinTree}
 use Rattle.bound_query.specs.Shape.{IsShape, Shape}
 use Rattle.bound_query.specs.JoinTreeView.{HasItems}
 use Rattle.node_build.specs.Nodes.{IsJoinTreeOf, RowsAgree, RowsAlike}
-use Rattle.plan_build.specs.ReducedTrees.{ShareGroup}
+use Rattle.semi_join.specs.ReducedTrees.{ShareGroup}
 use Rattle.bound_query.specs.Report.{total_rows}
-use Rattle.node_build.specs.WitnessKey.{witness_key}
+use Rattle.witness_key.specs.WitnessKey.{witness_key}
 
 -- a solved tree, its join tree, the number of rows of each node before the reduction, and the
 -- number of rows of the tables of all items and of the nodes together

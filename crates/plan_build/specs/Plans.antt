@@ -5,7 +5,7 @@ use Rattle.anyk_model.specs.Query.{Query, row_counts}
 use Rattle.anyk_model.specs.Table.{Table}
 use Rattle.bound_query.specs.Parts.{sum_of_all}
 use Rattle.bound_query.specs.WeighedQuery.{BoundQuery}
-use Rattle.rankings.specs.KeyTuple.{KeyOf}
+use Rattle.tdp_model.specs.KeyTuple.{KeyOf}
 use Rattle.plan_build.specs.Plan.{IsPlanOf, PlanView}
 
 -- the plan of each query in order

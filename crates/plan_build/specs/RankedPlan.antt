@@ -1,8 +1,8 @@
 -- The plan of a query, with the ranks that its order needs.
 use Rattle.std.specs.Prelude.{◌+◌, ◌*◌, ◌^◌, ◌≤◌, ℕ, List, [], ◌∷◌, Option, length}
 use Rattle.std.specs.List.{AllByRecursion}
-use Rattle.rankings.specs.KeyTuple.{KeyOf}
-use Rattle.rankings.specs.KeyNumbers.{key_of_lists}
+use Rattle.tdp_model.specs.KeyTuple.{KeyOf}
+use Rattle.tdp_model.specs.KeyNumbers.{key_of_lists}
 use Rattle.rank_key.specs.declared.fixed_rank.FixedRank.{FixedRank}
 use Rattle.rank_key.specs.declared.packed.PackedRank.{PackedRank}
 use Rattle.rank_key.specs.Packed.{packed_key}

@@ -1,6 +1,6 @@
 //! Why a query has no plan.
 
-use ground::NoMemory;
+use step_counter::NoMemory;
 
 /// Why a query has no plan.
 #[derive(Clone, Copy, PartialEq, Eq)]

@@ -4,8 +4,8 @@ ghost use Rattle.std.specs.Prelude.{◌≡◌, ℕ, List, map};
 ghost use Rattle.anyk_model.specs.Query.{Query};
 ghost use Rattle.anyk_model.specs.Table.{Table};
 ghost use Rattle.tdp_core.specs.AnswerView.{answers_of};
-ghost use Rattle.rankings.specs.KeyTuple.{KeyOf};
-ghost use Rattle.node_build.specs.WitnessKey.{answers_of_ranking, witness_key};
+ghost use Rattle.tdp_model.specs.KeyTuple.{KeyOf};
+ghost use Rattle.witness_key.specs.WitnessKey.{answers_of_ranking, witness_key};
 
 /// If the keys that an engine gives are those of a list of witnesses, its answers are the answers
 /// of this list.

@@ -14,17 +14,18 @@ ghost use Rattle.plan_build.specs.Faults.{TellsFlaw};
 
 use crate::fault::PlanFault;
 use crate::node_rows::in_order;
-use crate::{reduce, solve};
 use bound_query::{Query, ShapeFault, tree_shape};
-use ground::Steps;
 use join_tree::{JoinTree, reroot};
 use node_build::{BuildFault, Built, build};
 use rank_key::Rank;
+use semi_join::reduce;
 use std::alloc::Global;
 use std::marker::Model;
 use std::sync::ledger::Ledger;
+use step_counter::Steps;
 use table_store::Tables;
 use tdp_core::Tree;
+use tree_dp::solve;
 
 /// The greatest number of rows of all nodes of a join tree together.
 const MAX_NODE_ROWS: u64 = 4_194_304;

@@ -12,10 +12,10 @@ ghost use Rattle.plan_build.specs.RankedPlan.{HasLeastRoom, HasRoom, IsRankedPla
 use crate::fault::PlanFault;
 use crate::plan::{Plan, prepare, prepare_at};
 use bound_query::Query;
-use ground::Steps;
 use rank_key::{LexRank, MiddleSumRank, PackedRank, Rank, SmallLexRank, SumRank};
 use std::alloc::Global;
 use std::sync::ledger::Ledger;
+use step_counter::Steps;
 use table_store::Tables;
 
 /// The sums of packed ranks are below this in absolute value.

@@ -7,11 +7,11 @@ ghost use Rattle.plan_build.specs.Plan.{IsPlanFor, shape_of, shape_view};
 
 use crate::plan::Plan;
 use bound_query::Query;
-use ground::NoMemory;
 use join_tree::JoinTree;
 use query_select::name_text;
 use rank_key::Rank;
 use std::alloc::Global;
+use step_counter::NoMemory;
 use table_store::Tables;
 
 /// The report of the join tree of a query's plan. Each node, in order, has a line with its number

@@ -1,8 +1,8 @@
 -- The tree that the tests build: three nodes, each below the one before.
 use Rattle.std.proofs.Common.{◌≡◌, ℕ, zero, suc, ◌+◌, ◌^◌, ◌<◌, ◌≤◌, cond, nat_lt, List, [], ◌∷◌, get_or, refl, sym, ◌∙◌, arith}
 use Rattle.std.proofs.lemmas.Bool.Decides.{nat_tests}
-use Rattle.rankings.specs.KeyTuple.{KeyOf}
-use Rattle.rankings.specs.TreeProblem.{sum_from}
+use Rattle.tdp_model.specs.KeyTuple.{KeyOf}
+use Rattle.tdp_model.specs.TreeProblem.{sum_from}
 use Rattle.rank_key.specs.Keys.{IsHeld, IsWithin}
 use Rattle.tdp_core.specs.declared.parts.NodeShape.{NodeShape}
 use Rattle.tdp_core.specs.RawView.{AreShapes, AreShapesHeld, shape_item, shape_parent, shape_cap, shape_children}

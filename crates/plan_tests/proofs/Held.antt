@@ -1,8 +1,8 @@
 -- Ranks hold what the tests ask of them: the keys of three nodes with small caps, and the sums of small tables.
 use Rattle.std.proofs.Common.{◌≡◌, ℕ, ◌+◌, ◌-◌, ◌^◌, ◌≤◌, cond, nat_eq, List, ap, arith}
 use Rattle.std.proofs.lemmas.Bool.Decides.{nat_tests}
-use Rattle.rankings.specs.KeyTuple.{KeyOf}
-use Rattle.rankings.specs.TreeProblem.{sum_from}
+use Rattle.tdp_model.specs.KeyTuple.{KeyOf}
+use Rattle.tdp_model.specs.TreeProblem.{sum_from}
 use Rattle.rank_key.specs.Keys.{IsHeld, IsWithin}
 use Rattle.tdp_core.specs.WellFormed.{AreHeld}
 use Rattle.anyk_model.specs.Table.{Table}

@@ -4,8 +4,8 @@ use Rattle.std.proofs.Math.ListN.{set}
 use Rattle.std.proofs.lemmas.Bool.{cases_eq}
 use Rattle.std.proofs.lemmas.Bool.Decides.{nat_tests}
 use Rattle.std.proofs.lemmas.List.{map-append, get_or_append_left, get_or_push, get_or-set_same, get_or-set_other, length-map, length-set}
-use Rattle.rankings.specs.KeyTuple.{KeyOf}
-use Rattle.rankings.specs.TreeProblem.{sum_from}
+use Rattle.tdp_model.specs.KeyTuple.{KeyOf}
+use Rattle.tdp_model.specs.TreeProblem.{sum_from}
 use Rattle.rank_key.specs.Keys.{IsHeld, IsWithin}
 use Rattle.tdp_core.specs.RawView.{RawView, RawRowView, AreShapes, AreShapesHeld, raw_len, rows_at, with_row, shape_item, shape_parent, shape_cap, shape_children}
 use Rattle.tdp_core.specs.TreeView.{kids_below}

@@ -6,14 +6,14 @@ use crate::fixtures::{TWO, plan_of};
 use anyk_part::Part;
 use anyk_rec::Rec;
 use bumpalo::Bump;
-use command_output::laws::{Driven, drive};
-use command_output::{CursorFault, Cursors};
-use ground::{NoMemory, Steps};
+use cursor_set::laws::{Driven, drive};
+use cursor_set::{CursorFault, Cursors};
 use plan_build::Plan;
 use rank_key::{Rank, SumRank};
 use std::alloc::Global;
 use std::marker::Brand;
 use std::sync::ledger::{Blank, Ledger};
+use step_counter::{NoMemory, Steps};
 use tdp_core::{Ranked, Tree};
 
 const WHOLE: Driven = Driven {

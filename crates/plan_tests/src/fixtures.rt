@@ -6,14 +6,14 @@ ghost use Rattle.tdp_core.specs.WellFormed.{IsTieFreeTree};
 
 use bound_query::Query;
 use csv_tables::{TableFault, TableReader};
-use ground::Steps;
-use languages::parse;
 use plan_build::{Plan, prepare, prepare_at};
 use query_bind::bind;
+use query_parse::parse;
 use query_select::Select;
 use rank_key::Rank;
 use std::alloc::Global;
 use std::sync::ledger::Ledger;
+use step_counter::Steps;
 use table_store::Tables;
 use tdp_core::Answer;
 

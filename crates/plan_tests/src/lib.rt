@@ -16,7 +16,7 @@ mod plans;
 #[cfg(test)]
 mod reduction;
 #[cfg(test)]
-mod refusals;
+mod refusal_cases;
 #[cfg(test)]
 mod reports;
 #[cfg(test)]

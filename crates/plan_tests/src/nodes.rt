@@ -7,13 +7,13 @@ ghost use Rattle.node_build.specs.Nodes.{IsJoinTreeOf};
 use crate::fixtures::{TWO, query_of, read_two};
 use bound_query::{Query, tree_shape};
 use csv_tables::TableReader;
-use ground::Steps;
 use join_tree::JoinTree;
 use node_build::{BuildFault, Built, build};
 use rank_key::{LexRank, Rank};
 use std::alloc::Global;
 use std::marker::Brand;
 use std::sync::ledger::{Blank, Ledger};
+use step_counter::Steps;
 use table_store::Tables;
 use tdp_core::RawTree;
 

@@ -6,14 +6,15 @@ ghost use Rattle.tdp_core.specs.WellFormed.{IsTieFreeTree};
 use crate::fixtures::{TWO, plan_of, query_of, read_two};
 use bound_query::Query;
 use csv_tables::TableReader;
-use ground::Steps;
-use plan_build::{Plan, PlanFault, first, prepare, prepare_at};
+use plan_build::{Plan, PlanFault, prepare, prepare_at};
 use rank_key::{Rank, SumRank};
 use std::alloc::Global;
 use std::marker::Brand;
 use std::sync::ledger::{Blank, Ledger};
+use step_counter::Steps;
 use table_store::Tables;
 use tdp_core::Tree;
+use tree_dp::first;
 
 /// Whether a rank has the sum 3: a key with the sum 3 and without rows is less than it, and a key
 /// with the sum 4 is greater.

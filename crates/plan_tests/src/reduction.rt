@@ -3,12 +3,12 @@ ghost use Rattle.std.specs.Prelude.{◌≡◌, ℕ, ◌+◌, ◌^◌, ◌<◌, �
 ghost use Rattle.plan_tests.specs.ChainTrees.{IsChain, chain_children};
 ghost use Rattle.tdp_core.specs.RawView.{row_total};
 
-use ground::{NoMemory, Steps};
-use plan_build::{Reduced, reduce};
 use rank_key::{Rank, SumRank};
+use semi_join::{Reduced, reduce};
 use std::alloc::Global;
 use std::marker::Brand;
 use std::sync::ledger::{Blank, Ledger};
+use step_counter::{NoMemory, Steps};
 use tdp_core::{NodeParts, NodeRow, NodeShape, RawTree};
 
 /// A tree without rows: three nodes, each below the one before.

@@ -8,12 +8,12 @@ ghost use Rattle.plan_build.specs.RankedPlan.{IsRankedPlan};
 use crate::fixtures::{TWO, query_of, read_two};
 use bound_query::Query;
 use csv_tables::TableReader;
-use ground::Steps;
 use plan_build::{Plan, RankedPlan, prepare_ranked, report};
 use rank_key::Rank;
 use std::alloc::Global;
 use std::marker::Brand;
 use std::sync::ledger::{Blank, Ledger};
+use step_counter::Steps;
 use table_store::Tables;
 
 /// Whether the plan's report is the expected one.

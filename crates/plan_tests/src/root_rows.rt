@@ -8,12 +8,13 @@ ghost use Rattle.plan_tests.specs.SampleTrees.{IsSample};
 use crate::fixtures::{Files, TWO, plan_at, plan_of};
 use crate::solving::{add, branching, tree_of};
 use crate::witnesses::{OF_FOUR_ITEMS, gives_all};
-use ground::{NoMemory, Steps};
-use plan_build::{BestPer, Plan};
+use best_per::BestPer;
+use plan_build::Plan;
 use rank_key::{LexRank, Rank, SumRank};
 use std::alloc::Global;
 use std::marker::Brand;
 use std::sync::ledger::{Blank, Ledger};
+use step_counter::{NoMemory, Steps};
 use tdp_core::{RawTree, Tree};
 
 /// Whether the best answers of the root's rows have these rows, and no other comes.

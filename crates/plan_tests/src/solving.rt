@@ -4,13 +4,14 @@ ghost use Rattle.tdp_core.specs.RawView.{row_total};
 ghost use Rattle.tdp_core.specs.WellFormed.{IsTieFreeTree};
 ghost use Rattle.plan_tests.specs.SampleTrees.{IsSample, sample_children};
 
-use ground::{NoMemory, Steps};
-use plan_build::{first, reduce, solve};
 use rank_key::{Rank, SumRank};
+use semi_join::reduce;
 use std::alloc::Global;
 use std::marker::Brand;
 use std::sync::ledger::{Blank, Ledger};
+use step_counter::{NoMemory, Steps};
 use tdp_core::{NodeRow, NodeShape, RawTree, Tree};
+use tree_dp::{first, solve};
 
 /// A root with two children, without rows.
 pub(crate) fn branching<R: Rank>(alloc: Global) -> Result<RawTree<R>, NoMemory>

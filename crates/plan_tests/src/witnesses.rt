@@ -7,12 +7,12 @@ use crate::fixtures::{Files, TWO, has_rows, plan_of};
 use anyk_part::Part;
 use anyk_rec::Rec;
 use bumpalo::Bump;
-use ground::{NoMemory, Steps};
 use plan_build::Plan;
 use rank_key::{LexRank, Rank, SumRank};
 use std::alloc::Global;
 use std::marker::Brand;
 use std::sync::ledger::{Blank, Ledger};
+use step_counter::{NoMemory, Steps};
 use tdp_core::{Ranked, Tree};
 
 /// Whether the first items have these rows in the answers, and no other comes.

@@ -3,11 +3,11 @@ ghost use Rattle.std.specs.Prelude.{◌≡◌, ◌<◌, IfOk};
 ghost use Rattle.outer_io.specs.Entries.{entry_of};
 
 use anyk_top::run_words;
-use ground::Steps;
 use outer_io::{MemFile, MemShelf, MemSink, have_distinct_names};
 use std::alloc::{AllocError, Global};
 use std::marker::Brand;
 use std::sync::ledger::{Blank, Ledger};
+use step_counter::Steps;
 
 /// A table whose column `b` is joined.
 pub(super) const LEFT: &str = "a,b,w\n1,x,3\n2,y,1\n3,x,1\n";

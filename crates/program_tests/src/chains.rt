@@ -1,7 +1,7 @@
 //! Four generated tables in a row, whose join is too large to be formed and sorted. Their answers
 //! were found without the program, from the least sums of what follows each value.
 use super::cases::{Case, holds, named, over};
-use outer_io::{LOAD_QUERY, tables_of};
+use make_input::{LOAD_QUERY, tables_of};
 use std::alloc::{AllocError, Global};
 
 const ANSWERS: &str =

@@ -22,7 +22,7 @@ mod plans;
 #[cfg(test)]
 mod proofs;
 #[cfg(test)]
-mod refusals;
+mod refusal_cases;
 #[cfg(test)]
 mod sessions;
 #[cfg(test)]

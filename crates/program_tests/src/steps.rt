@@ -6,11 +6,11 @@ ghost use Rattle.row_law.specs.UnionRow.{union_files};
 
 use super::cases::{LEFT, RIGHT, file, sink_of};
 use anyk_top::run_words;
-use ground::Steps;
 use outer_io::MemShelf;
 use std::alloc::{AllocError, Global};
 use std::marker::Brand;
 use std::sync::ledger::{Blank, Ledger};
+use step_counter::Steps;
 
 const THREE_BEST: &str = "select R.a, S.c from R, S where R.b = S.b order by R.w + S.w limit 3";
 

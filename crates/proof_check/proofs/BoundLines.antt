@@ -5,7 +5,7 @@ use Rattle.std.specs.List.{filter, range_with_len}
 use Rattle.std.proofs.lemmas.Bool.{cases_eq, cases_lt}
 use Rattle.std.proofs.lemmas.Bool.Decides.{Decides-eqb, nat_tests}
 use Rattle.std.proofs.lemmas.List.Elements.{filter-append}
-use Rattle.rankings.proofs.Sums.{get_end, get_front, length_end}
+use Rattle.tdp_model.proofs.Sums.{get_end, get_front, length_end}
 use Rattle.proof_model.specs.Certificate.{Certificate}
 use Rattle.proof_check.specs.Lines.{line_node, lines_of}
 

@@ -1,7 +1,7 @@
 -- What a read of a node's bounds gives: the numbers and the ranks that the definitions name.
 use Rattle.std.proofs.Common.{◌≡◌, ℕ, ◌<◌, List, [], Option, None, length, map, get_or, slice_index_or, sym, ap, ◌∙◌}
 use Rattle.std.proofs.lemmas.List.{get_or-map, get_or_read}
-use Rattle.rankings.specs.KeyTuple.{KeyOf, key_none}
+use Rattle.tdp_model.specs.KeyTuple.{KeyOf, key_none}
 use Rattle.proof_check.specs.BoundedRows.{BoundedView, bound_ranks, named_bound, own_bound, rank_of_bound}
 use Rattle.proof_check.specs.declared.bounded.NodeBounds.{NodeBounds}
 

@@ -3,10 +3,10 @@ use Rattle.std.proofs.Common.{◌≡◌, ℕ, ◌<◌, None, Some, List, length,
 use Rattle.std.proofs.Common.{subst, ◌∙◌, inl, inr, arith}
 use Rattle.join_tree.specs.Rerooting.{IsTree}
 use Rattle.join_tree.specs.declared.tree.JoinTree.{JoinTree}
-use Rattle.rankings.specs.KeyTuple.{KeyOf, key_add, key_below, key_none}
-use Rattle.rankings.specs.TreeProblem.{sum_from}
-use Rattle.rankings.proofs.KeyTuples.{tuple_keys}
-use Rattle.rankings.proofs.Sums.{sum_same}
+use Rattle.tdp_model.specs.KeyTuple.{KeyOf, key_add, key_below, key_none}
+use Rattle.tdp_model.specs.TreeProblem.{sum_from}
+use Rattle.tdp_model.proofs.KeyTuples.{tuple_keys}
+use Rattle.tdp_model.proofs.Sums.{sum_same}
 use Rattle.rank_key.specs.Keys.{KeyFits}
 use Rattle.tdp_core.specs.RawView.{IsRawFormed, raw_len}
 use Rattle.proof_model.specs.QueryProblem.{problem_in}

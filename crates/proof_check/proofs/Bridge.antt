@@ -7,10 +7,10 @@ use Rattle.anyk_model.specs.Table.{Table}
 use Rattle.anyk_model.specs.Query.{Query}
 use Rattle.join_tree.specs.Rerooting.{IsTree}
 use Rattle.join_tree.specs.declared.tree.JoinTree.{JoinTree}
-use Rattle.rankings.specs.KeyTuple.{KeyOf, key_add, key_none}
-use Rattle.rankings.specs.TreeProblem.{sum_from}
-use Rattle.rankings.proofs.Keys.{ascending_below}
-use Rattle.rankings.proofs.Sums.{sum_same}
+use Rattle.tdp_model.specs.KeyTuple.{KeyOf, key_add, key_none}
+use Rattle.tdp_model.specs.TreeProblem.{sum_from}
+use Rattle.tdp_model.proofs.Keys.{ascending_below}
+use Rattle.tdp_model.proofs.Sums.{sum_same}
 use Rattle.tdp_core.specs.RawView.{raw_len, raw_number, raw_rank, rows_at}
 use Rattle.proof_model.specs.Certificate.{Certificate}
 use Rattle.proof_model.specs.Problem.{Problem}

@@ -5,11 +5,11 @@ use Rattle.std.proofs.Common.{refl, sym, ap, subst, ◌∙◌, inl, inr}
 use Rattle.anyk_model.specs.Table.{Table}
 use Rattle.anyk_model.specs.Query.{Query}
 use Rattle.join_tree.specs.declared.tree.JoinTree.{JoinTree}
-use Rattle.rankings.specs.KeyNumbers.{key_less}
-use Rattle.rankings.specs.KeyTuple.{KeyOf, key_below}
-use Rattle.rankings.specs.Remains.{AtMost}
-use Rattle.rankings.proofs.KeyNumbers.{not_less_at_most, at_most_not_less}
-use Rattle.rankings.proofs.KeyTuples.{tuple_keys}
+use Rattle.tdp_model.specs.KeyNumbers.{key_less}
+use Rattle.tdp_model.specs.KeyTuple.{KeyOf, key_below}
+use Rattle.tdp_model.specs.Remains.{AtMost}
+use Rattle.tdp_model.proofs.KeyNumbers.{not_less_at_most, at_most_not_less}
+use Rattle.tdp_model.proofs.KeyTuples.{tuple_keys}
 use Rattle.tdp_core.specs.RawView.{raw_len, raw_number}
 use Rattle.proof_model.specs.Certificate.{Certificate}
 use Rattle.proof_model.specs.Problem.{Problem}

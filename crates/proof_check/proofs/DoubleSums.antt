@@ -1,8 +1,8 @@
 -- Sums of sums of keys, of which each place has at most one term.
 use Rattle.std.proofs.Common.{◌≡◌, ◌⊎◌, ℕ, zero, suc, ◌+◌, ◌<◌, ◌≤◌, refl, sym, ap, subst, ◌∙◌, inl, inr, arith}
-use Rattle.rankings.specs.KeyLaws.{IsKeys}
-use Rattle.rankings.specs.TreeProblem.{sum_from}
-use Rattle.rankings.proofs.Sums.{none_add, sum_add}
+use Rattle.tdp_model.specs.KeyLaws.{IsKeys}
+use Rattle.tdp_model.specs.TreeProblem.{sum_from}
+use Rattle.tdp_model.proofs.Sums.{none_add, sum_add}
 use Rattle.proof_model.proofs.Sums.{sum_none}
 
 module _ {K : Type 0} (Below : K → K → Type 0) (add : K → K → K) (none : K) (keys : IsKeys K Below add none) where

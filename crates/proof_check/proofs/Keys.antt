@@ -1,6 +1,6 @@
 -- What is known of the key of an open choice before its last row is chosen.
 use Rattle.std.proofs.Common.{ℕ, suc, cond, nat_le}
-use Rattle.rankings.specs.TreeProblem.{sum_from}
+use Rattle.tdp_model.specs.TreeProblem.{sum_from}
 use Rattle.proof_model.specs.Certificate.{Certificate}
 use Rattle.proof_model.specs.Problem.{Problem}
 use Rattle.proof_model.specs.Valid.{bound_key}

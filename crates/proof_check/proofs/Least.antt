@@ -4,10 +4,10 @@ use Rattle.std.proofs.Common.{◌∙◌, inl, inr, arith}
 use Rattle.std.proofs.Math.ListN.{set}
 use Rattle.std.proofs.lemmas.Bool.{cases_eq, cases_lt}
 use Rattle.std.proofs.lemmas.List.{get_or-set_other, get_or-set_same}
-use Rattle.rankings.specs.KeyTuple.{KeyOf, key_below}
-use Rattle.rankings.specs.Remains.{AtMost}
-use Rattle.rankings.proofs.Keys.{at_most_trans}
-use Rattle.rankings.proofs.KeyTuples.{tuple_keys}
+use Rattle.tdp_model.specs.KeyTuple.{KeyOf, key_below}
+use Rattle.tdp_model.specs.Remains.{AtMost}
+use Rattle.tdp_model.proofs.Keys.{at_most_trans}
+use Rattle.tdp_model.proofs.KeyTuples.{tuple_keys}
 use Rattle.proof_check.specs.declared.branches.Branch.{Branch}
 use Rattle.proof_check.specs.Levels.{AreLeast, IsLesser}
 

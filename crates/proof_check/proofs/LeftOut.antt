@@ -1,7 +1,7 @@
 -- Sums of numbers over nodes, with one node more and with terms left out.
 use Rattle.std.proofs.Common.{◌≡◌, ℕ, zero, suc, ◌+◌, ◌*◌, ◌<◌, ◌≤◌, Bool, true, false, cond, ap, ◌∙◌, inl, inr, arith}
 use Rattle.std.proofs.lemmas.Bool.{cases_eq}
-use Rattle.rankings.specs.TreeProblem.{sum_from}
+use Rattle.tdp_model.specs.TreeProblem.{sum_from}
 
 -- one node more
 last_term : (f : ℕ → ℕ) (n q r : ℕ) → r ≡ q + n → sum_from ◌+◌ 0 f (suc n) q ≡ sum_from ◌+◌ 0 f n q + f r

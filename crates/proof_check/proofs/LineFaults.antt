@@ -9,9 +9,9 @@ use Rattle.std.proofs.lemmas.List.{get_or-map, get_or-set_same, get_or-set_other
 use Rattle.anyk_model.specs.Table.{Table}
 use Rattle.anyk_model.specs.Query.{Query}
 use Rattle.join_tree.specs.declared.tree.JoinTree.{JoinTree}
-use Rattle.rankings.specs.Below.{is_below}
-use Rattle.rankings.specs.KeyTuple.{KeyOf}
-use Rattle.rankings.proofs.Sums.{get_end, get_front, length_end}
+use Rattle.tdp_model.specs.Below.{is_below}
+use Rattle.tdp_model.specs.KeyTuple.{KeyOf}
+use Rattle.tdp_model.proofs.Sums.{get_end, get_front, length_end}
 use Rattle.tdp_core.specs.RawView.{AreShapes, IsRawFormed, RawView, own_link, raw_len, raw_number}
 use Rattle.tdp_core.proofs.RawReads.{length_within}
 use Rattle.proof_model.specs.Certificate.{BoundLine, Certificate}

@@ -5,13 +5,13 @@ use Rattle.std.proofs.lemmas.Bool.{cases_eq, cases_lt}
 use Rattle.anyk_model.specs.Table.{Table}
 use Rattle.anyk_model.specs.Query.{Query}
 use Rattle.join_tree.specs.declared.tree.JoinTree.{JoinTree}
-use Rattle.rankings.specs.Below.{is_below}
-use Rattle.rankings.specs.KeyTuple.{KeyOf, key_below, key_add, key_none}
-use Rattle.rankings.specs.TreeProblem.{sum_from, kid_key}
-use Rattle.rankings.proofs.Descent.{below_less, kids_apart}
-use Rattle.rankings.proofs.KeyTuples.{tuple_keys}
-use Rattle.rankings.proofs.SubtreeTies.{kid_yes, kid_no}
-use Rattle.rankings.proofs.Sums.{sum_last, sum_same}
+use Rattle.tdp_model.specs.Below.{is_below}
+use Rattle.tdp_model.specs.KeyTuple.{KeyOf, key_below, key_add, key_none}
+use Rattle.tdp_model.specs.TreeProblem.{sum_from, kid_key}
+use Rattle.tdp_model.proofs.Descent.{below_less, kids_apart}
+use Rattle.tdp_model.proofs.KeyTuples.{tuple_keys}
+use Rattle.tdp_model.proofs.SubtreeTies.{kid_yes, kid_no}
+use Rattle.tdp_model.proofs.Sums.{sum_last, sum_same}
 use Rattle.rank_key.specs.Keys.{KeyFits}
 use Rattle.tdp_core.specs.RawView.{IsRawFormed, raw_len, raw_rank}
 use Rattle.proof_model.specs.Certificate.{Certificate}

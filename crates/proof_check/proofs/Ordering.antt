@@ -6,9 +6,9 @@ use Rattle.std.proofs.lemmas.Bool.{cases_eq}
 use Rattle.anyk_model.specs.Table.{Table}
 use Rattle.anyk_model.specs.Query.{Query}
 use Rattle.join_tree.specs.declared.tree.JoinTree.{JoinTree}
-use Rattle.rankings.specs.KeyNumbers.{key_less}
-use Rattle.rankings.specs.KeyTuple.{KeyOf}
-use Rattle.rankings.proofs.KeyNumbers.{key_less_below, below_key_less}
+use Rattle.tdp_model.specs.KeyNumbers.{key_less}
+use Rattle.tdp_model.specs.KeyTuple.{KeyOf}
+use Rattle.tdp_model.proofs.KeyNumbers.{key_less_below, below_key_less}
 use Rattle.proof_model.specs.Certificate.{Certificate}
 use Rattle.proof_model.specs.Problem.{Problem}
 use Rattle.proof_model.specs.QueryProblem.{problem_in}

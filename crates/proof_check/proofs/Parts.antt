@@ -4,7 +4,7 @@ use Rattle.std.proofs.Common.{sym, subst, ◌∙◌, inl, inr, arith}
 use Rattle.std.proofs.lemmas.Bool.{cases_lt}
 use Rattle.join_tree.specs.Rerooting.{IsTree}
 use Rattle.join_tree.specs.declared.tree.JoinTree.{JoinTree}
-use Rattle.rankings.specs.KeyTuple.{KeyOf, key_none}
+use Rattle.tdp_model.specs.KeyTuple.{KeyOf, key_none}
 use Rattle.tdp_core.specs.RawView.{raw_len, raw_rank}
 use Rattle.proof_model.proofs.Choices.{pick_gt, pick_le}
 use Rattle.proof_model.specs.QueryProblem.{problem_in}

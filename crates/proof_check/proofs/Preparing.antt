@@ -1,7 +1,7 @@
 -- What the rows of a node satisfy before they are put into groups.
 use Rattle.std.proofs.Common.{◌≡◌, ◌⊎◌, ℕ, ◌<◌, ◌≤◌, None, Some, List, length, slice_index, slice_index_or, sym, subst, inl, inr, arith}
 use Rattle.join_tree.specs.declared.tree.JoinTree.{JoinTree}
-use Rattle.rankings.specs.KeyTuple.{KeyOf}
+use Rattle.tdp_model.specs.KeyTuple.{KeyOf}
 use Rattle.proof_check.specs.BoundedRows.{BoundedView, bound_ranks}
 use Rattle.proof_check.specs.RowPlaces.{place_at}
 use Rattle.proof_check.proofs.Nodes.{all_nodes}

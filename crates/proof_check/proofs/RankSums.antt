@@ -8,14 +8,14 @@ use Rattle.std.proofs.lemmas.List.Elements.{All-head, All-tail}
 use Rattle.anyk_model.specs.Table.{Table}
 use Rattle.anyk_model.specs.Query.{Query}
 use Rattle.join_tree.specs.declared.tree.JoinTree.{JoinTree}
-use Rattle.rankings.specs.Below.{is_below}
-use Rattle.rankings.specs.KeyTuple.{KeyOf, key_add, key_below, key_none, slot_of}
-use Rattle.rankings.specs.KeyNumbers.{sum_of}
-use Rattle.rankings.specs.TreeProblem.{sum_from}
-use Rattle.rankings.proofs.KeyNumbers.{sum_of_add, sum_of_none}
-use Rattle.rankings.proofs.KeyTuples.{slot_of_add, slot_of_none, tuple_keys}
-use Rattle.rankings.proofs.Ranges as ranges
-use Rattle.rankings.proofs.Sums.{sum_last, sum_same}
+use Rattle.tdp_model.specs.Below.{is_below}
+use Rattle.tdp_model.specs.KeyTuple.{KeyOf, key_add, key_below, key_none, slot_of}
+use Rattle.tdp_model.specs.KeyNumbers.{sum_of}
+use Rattle.tdp_model.specs.TreeProblem.{sum_from}
+use Rattle.tdp_model.proofs.KeyNumbers.{sum_of_add, sum_of_none}
+use Rattle.tdp_model.proofs.KeyTuples.{slot_of_add, slot_of_none, tuple_keys}
+use Rattle.tdp_model.proofs.Ranges as ranges
+use Rattle.tdp_model.proofs.Sums.{sum_last, sum_same}
 use Rattle.rank_key.specs.Keys.{KeyFits}
 use Rattle.tdp_core.specs.declared.parts.NodeShape.{NodeShape}
 use Rattle.tdp_core.specs.RawView.{AreShapes, IsRawFormed, RawView, RawRowView, RawRowFits, raw_len, raw_rank, rows_at}

@@ -4,7 +4,7 @@ use Rattle.std.proofs.Common.{refl, sym, ap, ◌∙◌, subst, inl, inr, arith}
 use Rattle.std.specs.Prelude.{Option, None, Some}
 use Rattle.std.proofs.lemmas.List.{take-map}
 use Rattle.rankings.specs.Order.{IsMember}
-use Rattle.rankings.specs.KeyTuple.{KeyOf}
+use Rattle.tdp_model.specs.KeyTuple.{KeyOf}
 use Rattle.anyk_model.specs.Table.{Table}
 use Rattle.anyk_model.specs.Query.{IsWitness, Query}
 use Rattle.anyk_model.specs.Output.{cut}
@@ -12,8 +12,8 @@ use Rattle.anyk_model.specs.Ranking.{ranking_of}
 use Rattle.anyk_model.proofs.Exists.{ranking_is}
 use Rattle.bound_query.specs.Inside.{IsWithin}
 use Rattle.bound_query.specs.Shape.{HasTree}
-use Rattle.node_build.specs.WitnessKey.{witness_key}
-use Rattle.node_build.proofs.Rankings.{keys_tell_witnesses_lem, witness_length}
+use Rattle.witness_key.specs.WitnessKey.{witness_key}
+use Rattle.witness_key.proofs.Rankings.{keys_tell_witnesses_lem, witness_length}
 use Rattle.proof_model.specs.Certificate.{AnswerLine, Certificate}
 use Rattle.proof_model.specs.FirstAnswers.{answer_keys}
 use Rattle.proof_model.specs.Problem.{Problem, IsSolutionAt, key_at}

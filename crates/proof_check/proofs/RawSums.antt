@@ -1,8 +1,8 @@
 -- Sums of sums of the ranks of a raw tree's rows, of which each node has at most one term, fit a rank.
 use Rattle.std.proofs.Common.{◌≡◌, ◌⊎◌, ℕ, ◌+◌, ◌<◌, ◌≤◌, length, sym, subst, inl, inr, arith}
-use Rattle.rankings.specs.KeyTuple.{KeyOf, key_below, key_add, key_none}
-use Rattle.rankings.specs.TreeProblem.{sum_from}
-use Rattle.rankings.proofs.KeyTuples.{tuple_keys}
+use Rattle.tdp_model.specs.KeyTuple.{KeyOf, key_below, key_add, key_none}
+use Rattle.tdp_model.specs.TreeProblem.{sum_from}
+use Rattle.tdp_model.proofs.KeyTuples.{tuple_keys}
 use Rattle.rank_key.specs.Keys.{KeyFits}
 use Rattle.tdp_core.specs.RawView.{RawView, IsRawFormed}
 use Rattle.proof_check.proofs.RankSums.{IsRawPart, parts_fit}

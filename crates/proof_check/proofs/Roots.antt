@@ -1,8 +1,8 @@
 -- All nodes are below the root, and a first option decides a choice.
 use Rattle.std.proofs.Common.{◌≡◌, ℕ, zero, suc, ◌<◌, ◌≤◌, Option, None, Some, MatchOption, ◌∙◌, inl, inr, refl, arith}
 use Rattle.std.proofs.lemmas.Bool.{cases_eq}
-use Rattle.rankings.specs.Below.{is_below}
-use Rattle.rankings.proofs.Descent.{below_itself, below_parent}
+use Rattle.tdp_model.specs.Below.{is_below}
+use Rattle.tdp_model.proofs.Descent.{below_itself, below_parent}
 
 pub below_root : (m : ℕ) (parent : ℕ → ℕ) → ((q : ℕ) → 0 < q → q < m → parent q < q) → (f q : ℕ) → q ≤ f → q < m
     → is_below parent 0 q ≡ 1

@@ -2,21 +2,21 @@
 use Rattle.std.proofs.Common.{◌≡◌, ℕ, ◌<◌, cond, nat_eq, List, length, map, get_or, slice_index}
 use Rattle.std.proofs.Common.{sym, ap, ◌∙◌, subst, inl, inr, arith}
 use Rattle.std.proofs.lemmas.Bool.{cases_eq}
-use Rattle.rankings.specs.Below.{is_below}
-use Rattle.rankings.specs.KeyTuple.{KeyOf, key_add, key_below, key_none}
-use Rattle.rankings.proofs.KeyTuples.{tuple_keys}
-use Rattle.rankings.proofs.Sums.{sum_same}
+use Rattle.tdp_model.specs.Below.{is_below}
+use Rattle.tdp_model.specs.KeyTuple.{KeyOf, key_add, key_below, key_none}
+use Rattle.tdp_model.proofs.KeyTuples.{tuple_keys}
+use Rattle.tdp_model.proofs.Sums.{sum_same}
 use Rattle.rankings.specs.Order.{IsRanking}
 use Rattle.anyk_model.specs.Table.{Table}
 use Rattle.anyk_model.specs.Query.{IsWitness, Query}
 use Rattle.anyk_model.specs.Ranking.{ranking_of}
 use Rattle.bound_query.specs.Inside.{IsWithin}
 use Rattle.bound_query.specs.Shape.{HasTree}
-use Rattle.node_build.specs.WitnessKey.{witness_key}
-use Rattle.node_build.proofs.Rankings.{keys_of_ranking}
-use Rattle.node_build.specs.Laws.{item_key}
-use Rattle.node_build.proofs.TreeWitnesses.{links_iff, nodes_add}
-use Rattle.node_build.proofs.WitnessRows.{combination_of_each, each_of_combination, length_of_combination}
+use Rattle.witness_key.specs.WitnessKey.{witness_key}
+use Rattle.witness_key.proofs.Rankings.{keys_of_ranking}
+use Rattle.witness_key.specs.Laws.{item_key}
+use Rattle.witness_key.proofs.TreeWitnesses.{links_iff, nodes_add}
+use Rattle.witness_key.proofs.WitnessRows.{combination_of_each, each_of_combination, length_of_combination}
 use Rattle.proof_model.specs.FirstAnswers.{IsSolutionKey}
 use Rattle.proof_model.specs.Laws.{IsProblem}
 use Rattle.proof_model.specs.Problem.{Problem, IsSolutionAt, key_at, place_in, row_in, size}

@@ -5,9 +5,9 @@ use Rattle.std.proofs.Math.ListN.{set}
 use Rattle.std.proofs.lemmas.Bool.{cases_eq, cases_lt}
 use Rattle.std.proofs.lemmas.Bool.Decides.{nat_tests}
 use Rattle.std.proofs.lemmas.List.{get_or-set_same, get_or-set_other, get_or-replicate, length-map, length-replicate}
-use Rattle.rankings.specs.TreeProblem.{sum_from}
-use Rattle.rankings.proofs.Descent.{below_itself, below_less, below_once, below_parent}
-use Rattle.rankings.proofs.Keys.{ascending_below}
+use Rattle.tdp_model.specs.TreeProblem.{sum_from}
+use Rattle.tdp_model.proofs.Descent.{below_itself, below_less, below_once, below_parent}
+use Rattle.tdp_model.proofs.Keys.{ascending_below}
 use Rattle.tdp_core.specs.RawView.{AreShapes, RawView, raw_len, raw_number, rows_at, shape_item, shape_parent}
 use Rattle.proof_check.specs.Subtrees.{AreAscending, AreBelow, raw_below, raw_place, raw_size}
 use Rattle.proof_check.proofs.LeftOut.{sum_less, sum_more}

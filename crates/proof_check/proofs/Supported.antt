@@ -2,10 +2,10 @@
 use Rattle.std.proofs.Common.{◌≡◌, ◌⊎◌, ℕ, zero, suc, ◌<◌, cond, nat_eq, refl, sym, ap, ◌∙◌}
 use Rattle.std.proofs.Common.{List, subst, inl, inr, arith}
 use Rattle.std.proofs.lemmas.Bool.{cases_lt, cases_eq}
-use Rattle.rankings.specs.Below.{is_below}
-use Rattle.rankings.specs.TreeProblem.{sum_from}
-use Rattle.rankings.proofs.Descent.{below_less}
-use Rattle.rankings.proofs.Sums.{none_add, sum_add, sum_last}
+use Rattle.tdp_model.specs.Below.{is_below}
+use Rattle.tdp_model.specs.TreeProblem.{sum_from}
+use Rattle.tdp_model.proofs.Descent.{below_less}
+use Rattle.tdp_model.proofs.Sums.{none_add, sum_add, sum_last}
 use Rattle.proof_model.specs.Problem.{Problem, IsSolutionAt, key_at, row_in}
 use Rattle.proof_model.specs.Laws.{IsProblem}
 use Rattle.proof_model.proofs.Sums.{pick_eq, pick_ne, sum_none, sum_one}

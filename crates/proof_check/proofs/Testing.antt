@@ -3,7 +3,7 @@ use Rattle.std.proofs.Common.{◌≡◌, ℕ, ◌<◌, Option, None, Some, List,
 use Rattle.std.proofs.Common.{refl, sym, ap, subst, ◌∙◌, arith}
 use Rattle.std.specs.Option.{MatchOption}
 use Rattle.join_tree.specs.declared.tree.JoinTree.{JoinTree}
-use Rattle.rankings.specs.KeyTuple.{KeyOf, key_add}
+use Rattle.tdp_model.specs.KeyTuple.{KeyOf, key_add}
 use Rattle.tdp_core.specs.RawView.{raw_len}
 use Rattle.proof_check.specs.BoundedRows.{BoundedView, bound_ranks}
 use Rattle.proof_check.specs.declared.branches.Branch.{Branch}

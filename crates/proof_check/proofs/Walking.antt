@@ -6,7 +6,7 @@ use Rattle.std.proofs.lemmas.List.{get_or_append_left, get_or_push}
 use Rattle.std.proofs.lemmas.List.Elements.{All-get_or}
 use Rattle.std.proofs.lemmas.Option.{get_or_from_slice_get, slice_get_within}
 use Rattle.join_tree.specs.declared.tree.JoinTree.{JoinTree}
-use Rattle.rankings.specs.KeyTuple.{KeyOf, key_add}
+use Rattle.tdp_model.specs.KeyTuple.{KeyOf, key_add}
 use Rattle.tdp_core.specs.RawView.{raw_len}
 use Rattle.proof_check.specs.BoundedRows.{BoundedView}
 use Rattle.proof_check.proofs.Nodes.{all_nodes}

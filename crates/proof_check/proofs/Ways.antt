@@ -2,10 +2,10 @@
 use Rattle.std.proofs.Common.{◌≡◌, ℕ, suc, ◌+◌, ◌-◌, ◌<◌, ◌≤◌, cond, nat_eq, nat_le, sym}
 use Rattle.std.proofs.Common.{ap, ◌∙◌, inl, inr, arith}
 use Rattle.std.proofs.lemmas.Bool.{cases_lt, cases_eq}
-use Rattle.rankings.specs.Below.{is_below}
-use Rattle.rankings.specs.TreeProblem.{sum_from, kid_key}
-use Rattle.rankings.proofs.Descent.{below_less}
-use Rattle.rankings.proofs.Sums.{none_add, sum_same, sum_add}
+use Rattle.tdp_model.specs.Below.{is_below}
+use Rattle.tdp_model.specs.TreeProblem.{sum_from, kid_key}
+use Rattle.tdp_model.proofs.Descent.{below_less}
+use Rattle.tdp_model.proofs.Sums.{none_add, sum_same, sum_add}
 use Rattle.proof_model.specs.Certificate.{Certificate}
 use Rattle.proof_model.specs.Problem.{Problem, IsSolutionAt}
 use Rattle.proof_model.specs.Laws.{IsProblem}

@@ -4,8 +4,8 @@ use Rattle.std.proofs.Common.{refl, sym, ap, ◌∙◌, subst, inl, inr, arith}
 use Rattle.std.specs.Prelude.{Option, None, Some}
 use Rattle.std.proofs.lemmas.Bool.{cases_lt}
 use Rattle.std.proofs.lemmas.List.{get_or-map, length-map}
-use Rattle.rankings.specs.KeyTuple.{KeyOf, slot_of}
-use Rattle.rankings.specs.Remains.{AtMost}
+use Rattle.tdp_model.specs.KeyTuple.{KeyOf, slot_of}
+use Rattle.tdp_model.specs.Remains.{AtMost}
 use Rattle.anyk_model.specs.Table.{Table}
 use Rattle.anyk_model.specs.Query.{IsWitness, Query}
 use Rattle.anyk_model.specs.Output.{cut}
@@ -15,8 +15,8 @@ use Rattle.anyk_model.specs.ListOrder.{before_irrefl}
 use Rattle.bound_query.specs.Inside.{IsWithin}
 use Rattle.bound_query.specs.Shape.{HasTree}
 use Rattle.bound_query.specs.Steps.{reaches}
-use Rattle.node_build.specs.WitnessKey.{witness_key}
-use Rattle.node_build.proofs.Rankings.{orders_agree, witness_length}
+use Rattle.witness_key.specs.WitnessKey.{witness_key}
+use Rattle.witness_key.proofs.Rankings.{orders_agree, witness_length}
 use Rattle.proof_model.specs.Certificate.{AnswerLine, Certificate}
 use Rattle.proof_model.specs.Full.{IsFull}
 use Rattle.proof_model.specs.Laws.{IsProblem, IsSubtree, subtree_key}

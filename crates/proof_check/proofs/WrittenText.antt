@@ -2,8 +2,8 @@
 use Rattle.std.proofs.Common.{◌≡◌, ℕ, suc, ◌+◌, ◌<◌, not, List, [], ◌∷◌, length, get_or, slice_index, Ok}
 use Rattle.std.proofs.Common.{sym, ap, ◌∙◌, subst, inl, inr, arith}
 use Rattle.std.proofs.lemmas.Bool.{cases_eq}
-use Rattle.rankings.specs.Below.{is_below}
-use Rattle.rankings.specs.KeyTuple.{KeyOf}
+use Rattle.tdp_model.specs.Below.{is_below}
+use Rattle.tdp_model.specs.KeyTuple.{KeyOf}
 use Rattle.anyk_model.specs.Table.{Table}
 use Rattle.anyk_model.specs.Query.{Query}
 use Rattle.anyk_model.specs.Output.{cut}

@@ -5,7 +5,7 @@ use Rattle.anyk_model.specs.Table.{Table}
 use Rattle.anyk_model.specs.Query.{Query}
 use Rattle.join_tree.specs.declared.tree.JoinTree.{JoinTree}
 use Rattle.bound_query.specs.Shape.{IsShape, Shape}
-use Rattle.rankings.specs.KeyTuple.{KeyOf, key_none}
+use Rattle.tdp_model.specs.KeyTuple.{KeyOf, key_none}
 use Rattle.tdp_core.specs.RawView.{RawView, child_link, own_link, raw_len, raw_number, raw_rank, rows_at}
 use Rattle.tdp_core.specs.RawView.{shape_child_place, shape_item, shape_parent}
 use Rattle.proof_model.specs.Certificate.{Certificate}

@@ -6,7 +6,7 @@ use Rattle.anyk_model.specs.Output.{cut}
 use Rattle.anyk_model.specs.Ranking.{ranking_of}
 use Rattle.bound_query.specs.Inside.{IsWithin}
 use Rattle.bound_query.specs.Shape.{HasTree}
-use Rattle.node_build.specs.WitnessKey.{witness_key}
+use Rattle.witness_key.specs.WitnessKey.{witness_key}
 use Rattle.proof_model.specs.Certificate.{AnswerLine, Certificate}
 use Rattle.proof_model.specs.Reading.{proof_of}
 use Rattle.proof_model.specs.Parts.{HaveFewRows}

@@ -5,10 +5,10 @@ use Rattle.std.specs.Prelude.{MatchOption, ◌≤◌, map}
 use Rattle.join_tree.specs.Rerooting.{IsTree}
 use Rattle.join_tree.specs.declared.tree.JoinTree.{JoinTree}
 use Rattle.rank_key.specs.Keys.{KeyFits}
-use Rattle.rankings.specs.KeyTuple.{KeyOf, key_add, key_below, key_none}
-use Rattle.rankings.specs.KeyNumbers.{key_less}
-use Rattle.rankings.specs.Remains.{AtMost}
-use Rattle.rankings.specs.TreeProblem.{sum_from}
+use Rattle.tdp_model.specs.KeyTuple.{KeyOf, key_add, key_below, key_none}
+use Rattle.tdp_model.specs.KeyNumbers.{key_less}
+use Rattle.tdp_model.specs.Remains.{AtMost}
+use Rattle.tdp_model.specs.TreeProblem.{sum_from}
 use Rattle.tdp_core.specs.RawView.{IsRawFormed, raw_len, raw_number, raw_rank}
 use Rattle.proof_check.specs.BoundedRows.{BoundedView, bound_ranks, named_bound, own_bound, rank_of_bound}
 use Rattle.proof_check.specs.Lows.{IsBoundedTree, IsLow, OfEach}

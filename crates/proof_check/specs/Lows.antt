@@ -3,8 +3,8 @@ use Rattle.std.specs.Prelude.{◌≡◌, ℕ, ◌-◌, ◌<◌, ◌≤◌, suc, 
 use Rattle.anyk_model.specs.Table.{Table}
 use Rattle.anyk_model.specs.Query.{Query}
 use Rattle.join_tree.specs.declared.tree.JoinTree.{JoinTree}
-use Rattle.rankings.specs.KeyTuple.{KeyOf}
-use Rattle.rankings.specs.TreeProblem.{sum_from, kid_key}
+use Rattle.tdp_model.specs.KeyTuple.{KeyOf}
+use Rattle.tdp_model.specs.TreeProblem.{sum_from, kid_key}
 use Rattle.proof_model.specs.Certificate.{Certificate}
 use Rattle.proof_model.specs.Problem.{Problem}
 use Rattle.proof_model.specs.QueryProblem.{problem_in}

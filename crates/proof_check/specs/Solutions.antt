@@ -3,7 +3,7 @@ use Rattle.std.specs.Prelude.{◌≡◌, ◌⊎◌, ℕ, ◌+◌, ◌-◌, ◌<�
 use Rattle.anyk_model.specs.Table.{Table}
 use Rattle.anyk_model.specs.Query.{Query}
 use Rattle.join_tree.specs.declared.tree.JoinTree.{JoinTree}
-use Rattle.rankings.specs.KeyTuple.{KeyOf}
+use Rattle.tdp_model.specs.KeyTuple.{KeyOf}
 use Rattle.tdp_core.specs.RawView.{RawView}
 use Rattle.proof_model.specs.Certificate.{Certificate}
 use Rattle.proof_model.specs.declared.fault.ProofFault.{ProofFault}

@@ -1,8 +1,8 @@
 -- The subtrees of a raw tree's nodes, and rows for the nodes of one, told by their places.
 use Rattle.std.specs.Prelude.{◌≡◌, ℕ, ◌+◌, ◌*◌, ◌<◌, cond, nat_lt, List, length, map, slice_index}
 use Rattle.rankings.specs.Order.{IsAscending}
-use Rattle.rankings.specs.Below.{is_below}
-use Rattle.rankings.specs.TreeProblem.{sum_from}
+use Rattle.tdp_model.specs.Below.{is_below}
+use Rattle.tdp_model.specs.TreeProblem.{sum_from}
 use Rattle.tdp_core.specs.RawView.{RawView, child_link, own_link, raw_len, raw_number, rows_at}
 use Rattle.tdp_core.specs.RawView.{shape_child_place, shape_item, shape_parent}
 

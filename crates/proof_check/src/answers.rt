@@ -14,12 +14,12 @@ use crate::covering::first_weak;
 use crate::order::last_rank;
 use crate::solutions::answer_places;
 use bound_query::Query;
-use ground::Steps;
 use join_tree::JoinTree;
 use proof_model::{Proof, ProofFault};
 use rank_key::Rank;
 use std::alloc::Global;
 use std::sync::ledger::Ledger;
+use step_counter::Steps;
 use table_store::Tables;
 
 /// The answers of a certificate.

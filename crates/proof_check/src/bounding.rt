@@ -11,13 +11,13 @@ ghost use Rattle.proof_check.specs.BoundedRows.{IsBounded};
 use crate::bounded::BoundedTree;
 use crate::bounds::with_bounds;
 use bound_query::Query;
-use ground::Steps;
 use join_tree::JoinTree;
 use node_build::{BuildFault, build};
 use proof_model::{Proof, ProofFault};
 use rank_key::Rank;
 use std::alloc::Global;
 use std::sync::ledger::Ledger;
+use step_counter::Steps;
 use table_store::Tables;
 
 /// The greatest number of rows of all nodes of a join tree together.

@@ -10,12 +10,12 @@ use crate::groups::line_groups;
 use crate::lines::{PlacedLines, placed_lines};
 use crate::names::name_all;
 use bound_query::Query;
-use ground::Steps;
 use join_tree::JoinTree;
 use proof_model::{Proof, ProofFault};
 use rank_key::Rank;
 use std::alloc::Global;
 use std::sync::ledger::Ledger;
+use step_counter::Steps;
 use table_store::Tables;
 use tdp_core::RawTree;
 

@@ -7,10 +7,10 @@ ghost use Rattle.proof_check.specs.Levels.{IsBase, IsBranch, IsGroupOf, IsNoBran
 
 use crate::bounded::BoundedTree;
 use crate::covering::named_rank;
-use ground::Steps;
 use join_tree::JoinTree;
 use rank_key::Rank;
 use std::sync::ledger::Ledger;
+use step_counter::Steps;
 
 /// Where a beginning may be left: at the group of some bound.
 #[derive(Clone, Copy)]

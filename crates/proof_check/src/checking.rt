@@ -17,12 +17,12 @@ use crate::bounded::BoundedTree;
 use crate::bounding::bounded_tree;
 use crate::choices::check_choices;
 use bound_query::Query;
-use ground::Steps;
 use join_tree::JoinTree;
 use proof_model::{Listed, Proof, ProofFault};
 use rank_key::Rank;
 use std::alloc::Global;
 use std::sync::ledger::Ledger;
+use step_counter::Steps;
 use table_store::Tables;
 
 /// The answers of a certificate: for each the row of each item, from 1, and 0 past the last item.

@@ -17,12 +17,12 @@ use crate::leaving::leaves_after;
 use crate::prefixes::Prefixes;
 use crate::taken::TakenRows;
 use bound_query::Query;
-use ground::{NoMemory, Steps};
 use join_tree::JoinTree;
 use proof_model::{Proof, ProofFault};
 use rank_key::Rank;
 use std::alloc::Global;
 use std::sync::ledger::Ledger;
+use step_counter::{NoMemory, Steps};
 use table_store::Tables;
 
 /// Tests that each way to leave the answers comes after the last one, and that there is none if the

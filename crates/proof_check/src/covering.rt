@@ -13,10 +13,10 @@ ghost use Rattle.proof_check.specs.Coverage.{AllCovered, HasWeakRow, IsFirstWeak
 ghost use Rattle.proof_check.specs.Lows.{IsBoundedTree, IsLow, OfEach};
 
 use crate::bounded::BoundedTree;
-use ground::Steps;
 use join_tree::JoinTree;
 use rank_key::Rank;
 use std::sync::ledger::Ledger;
+use step_counter::Steps;
 
 /// The first node with a row that is not covered: its own group has no bound, or one that is
 /// greater than the rank of the row with the bounds that it names. Nodes count from 0.

@@ -1,6 +1,6 @@
 //! The groups of bound lines, each found by its link.
 ghost use Rattle.std.specs.Prelude.{◌≡◌, ◌≢◌, ◌≤◌, ◌<◌, ◌++◌, ◌∷◌, ℕ, List, [], length, replicate, slice_index, true, false, IfErr, IfOk};
-ghost use Rattle.rankings.specs.NodeRows.{most_node_rows};
+ghost use Rattle.tdp_model.specs.NodeRows.{most_node_rows};
 ghost use Rattle.anyk_model.specs.Table.{Table};
 ghost use Rattle.anyk_model.specs.Query.{Query as SelectQuery};
 ghost use Rattle.join_tree.specs.declared.tree.JoinTree.{JoinTree};
@@ -10,12 +10,13 @@ ghost use Rattle.proof_check.specs.BoundedRows.{HasProblemRows};
 ghost use Rattle.proof_check.specs.Faults.{TellsBoundTwice};
 ghost use Rattle.proof_check.specs.Lines.{AreLineGroups, ArePlacedLines, HasPlacedLines, group_link};
 
-use ground::{Keys, NoMemory, Steps};
-use node_build::HashedIndex;
+use hash_keys::Keys;
+use link_index::HashedIndex;
 use proof_model::{Proof, ProofFault};
 use rank_key::Rank;
 use std::alloc::{AllocError, Global};
 use std::sync::ledger::Ledger;
+use step_counter::{NoMemory, Steps};
 use tdp_core::RawTree;
 
 /// The link by which the group of a row of a node is found: the row's own link, and at the root 0,

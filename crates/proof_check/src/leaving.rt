@@ -1,9 +1,9 @@
 //! The ways to leave the answers at one node.
 ghost use Rattle.std.specs.Prelude.{◌≡◌, ◌≤◌, ◌<◌, ℕ, List, [], Option, None, Some, true, false};
-ghost use Rattle.rankings.specs.NodeRows.{most_node_rows};
+ghost use Rattle.tdp_model.specs.NodeRows.{most_node_rows};
 ghost use Rattle.std.specs.Prelude.{IfOk, OnOk, length, map, option_map, unwrap_or};
 ghost use Rattle.std.specs.Prelude.{slice_index, slice_index_or, slice_set, vec_len};
-ghost use Rattle.rankings.specs.KeyTuple.{KeyOf};
+ghost use Rattle.tdp_model.specs.KeyTuple.{KeyOf};
 ghost use Rattle.tdp_core.specs.RawView.{raw_len};
 ghost use Rattle.proof_check.specs.BoundedRows.{bound_ranks};
 ghost use Rattle.proof_check.specs.Levels.{AreBranches, AreGroups, AreLeast, AreLists, CanLeave, FitsGroup, FitSums};
@@ -14,11 +14,11 @@ use crate::bounded::BoundedTree;
 use crate::branches::{Branch, bound_count, branch_of};
 use crate::offers::{Offer, first_open, is_past, offers_of};
 use crate::taken::TakenRows;
-use ground::{NoMemory, Steps};
 use join_tree::JoinTree;
 use rank_key::Rank;
 use std::alloc::Global;
 use std::sync::ledger::Ledger;
+use step_counter::{NoMemory, Steps};
 use tdp_core::Groups;
 
 /// Whether each way to leave the answers at a node comes after the last one, or there is none if

@@ -13,11 +13,11 @@ ghost use Rattle.proof_check.specs.Places.{ArePlacesOf};
 
 use crate::bounded::NodeBounds;
 use crate::places::{rank_of_places, solution_places};
-use ground::Steps;
 use proof_model::{Bound, Proof, ProofFault};
 use rank_key::Rank;
 use std::alloc::{AllocError, Global};
 use std::sync::ledger::Ledger;
+use step_counter::Steps;
 use tdp_core::RawTree;
 
 /// The lines of a certificate as rows of a tree.

@@ -1,17 +1,17 @@
 //! The numbers of bounds, row by row.
 ghost use Rattle.std.specs.Prelude.{◌≡◌, ◌≤◌, ◌<◌, ℕ, List, [], length, map, nat_eq, position, slice_index_or, IfOk, OnOk, Some};
-ghost use Rattle.rankings.specs.NodeRows.{most_node_rows};
+ghost use Rattle.tdp_model.specs.NodeRows.{most_node_rows};
 ghost use Rattle.tdp_core.specs.RawView.{raw_len, shape_children};
 ghost use Rattle.proof_check.specs.Lines.{AreNamed, AreNumbers, row_link};
 
 use crate::bounded::NodeBounds;
 use crate::groups::group_link;
 use crate::subtree::child_place;
-use ground::Steps;
-use node_build::HashedIndex;
+use link_index::HashedIndex;
 use rank_key::Rank;
 use std::alloc::{AllocError, Global};
 use std::sync::ledger::Ledger;
+use step_counter::Steps;
 use tdp_core::RawTree;
 
 /// The number of the group with this link, if it is there.

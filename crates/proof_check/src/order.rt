@@ -3,7 +3,7 @@ ghost use Rattle.std.specs.Prelude.{◌≡◌, ◌≤◌, ◌<◌, true, None, S
 ghost use Rattle.anyk_model.specs.Table.{Table};
 ghost use Rattle.anyk_model.specs.Query.{Query as SelectQuery};
 ghost use Rattle.join_tree.specs.declared.tree.JoinTree.{JoinTree};
-ghost use Rattle.rankings.specs.KeyNumbers.{key_less};
+ghost use Rattle.tdp_model.specs.KeyNumbers.{key_less};
 ghost use Rattle.proof_model.specs.ProofView.{proof_view};
 ghost use Rattle.proof_model.specs.QueryProblem.{problem_in};
 ghost use Rattle.proof_check.specs.BoundedRows.{HasProblemRows};
@@ -11,10 +11,10 @@ ghost use Rattle.proof_check.specs.RowPlaces.{IsLastKey};
 ghost use Rattle.proof_check.specs.Solutions.{AreAnswers, AreOrdered, HasAnswers, TellsBehind};
 
 use crate::places::rank_of_places;
-use ground::Steps;
 use proof_model::{Proof, ProofFault};
 use rank_key::Rank;
 use std::sync::ledger::Ledger;
+use step_counter::Steps;
 use tdp_core::RawTree;
 
 /// The rank of the last answer, if there is one. `Order` exactly if an answer is not after the one

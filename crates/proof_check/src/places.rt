@@ -12,9 +12,9 @@ ghost use Rattle.proof_check.specs.Subtrees.{HasLinkOf};
 
 use crate::searching::row_place;
 use crate::subtree::{child_place, item_place, size, subtree};
-use ground::Steps;
 use rank_key::Rank;
 use std::sync::ledger::Ledger;
+use step_counter::Steps;
 use tdp_core::RawTree;
 
 /// Whether a row of a node has the link that a row of the node's parent names. Both are told by

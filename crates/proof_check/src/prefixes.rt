@@ -4,8 +4,8 @@ ghost use Rattle.proof_check.specs.Levels.{ArePrefixes, IsPairAt, IsTaken};
 ghost use Rattle.proof_check.specs.Adding.{IsAdding};
 
 use crate::taken::TakenRows;
-use ground::NoMemory;
 use std::alloc::Global;
+use step_counter::NoMemory;
 
 /// The beginnings of the answers up to some node, each once. They are numbered from 0.
 #[derive(Drop)]

@@ -2,10 +2,11 @@
 ghost use Rattle.std.specs.Prelude.{◌≡◌, ◌↔◌, ◌<◌, ℕ, [], ◌∷◌, ◌++◌, if◌then◌else◌, length, IfOk, IsTrue};
 ghost use Rattle.proof_check.specs.Levels.{IsPairAt};
 
-use ground::{Keys, NoMemory};
+use hash_keys::Keys;
 use indexmap::IndexSet;
 use std::alloc::Global;
 use std::marker::Model;
+use step_counter::NoMemory;
 
 /// Pairs of a beginning's number and a row that follows it in an answer. Contracts see them as a
 /// list.

@@ -2,11 +2,11 @@
 use Rattle.std.proofs.Common.{◌≡◌, ℕ, zero, suc, ◌-◌, ◌<◌, ◌≤◌, cond, nat_eq, Bool, true, false, refl, sym, ap, ◌∙◌}
 use Rattle.std.proofs.Common.{subst, inl, inr, arith, Option, length}
 use Rattle.std.proofs.lemmas.Bool.{cases_lt, cases_eq}
-use Rattle.rankings.specs.Below.{is_below}
-use Rattle.rankings.specs.Remains.{AtMost}
-use Rattle.rankings.specs.TreeProblem.{sum_from, kid_key}
-use Rattle.rankings.proofs.Descent.{below_less, below_once, below_parent}
-use Rattle.rankings.proofs.Sums.{sum_same}
+use Rattle.tdp_model.specs.Below.{is_below}
+use Rattle.tdp_model.specs.Remains.{AtMost}
+use Rattle.tdp_model.specs.TreeProblem.{sum_from, kid_key}
+use Rattle.tdp_model.proofs.Descent.{below_less, below_once, below_parent}
+use Rattle.tdp_model.proofs.Sums.{sum_same}
 use Rattle.proof_model.specs.Certificate.{Certificate}
 use Rattle.proof_model.specs.Problem.{Problem, row_in}
 use Rattle.proof_model.specs.Laws.{IsProblem, IsSubtree, subtree_key}

@@ -2,9 +2,9 @@
 use Rattle.std.proofs.Common.{◌≡◌, ℕ, zero, suc, ◌-◌, ◌<◌, ◌≤◌, cond, nat_eq, nat_le, refl, sym, ap, ◌∙◌, subst, inl}
 use Rattle.std.proofs.Common.{inr, arith}
 use Rattle.std.proofs.lemmas.Bool.{cases_lt, cases_eq}
-use Rattle.rankings.specs.Below.{is_below}
-use Rattle.rankings.proofs.Descent.{below_itself, below_less, below_parent}
-use Rattle.rankings.proofs.Sums.{sum_same}
+use Rattle.tdp_model.specs.Below.{is_below}
+use Rattle.tdp_model.proofs.Descent.{below_itself, below_less, below_parent}
+use Rattle.tdp_model.proofs.Sums.{sum_same}
 use Rattle.proof_model.specs.Problem.{Problem}
 use Rattle.proof_model.specs.Laws.{IsProblem, IsSubtree, subtree_key}
 use Rattle.proof_model.proofs.Sums.{pick_ne}

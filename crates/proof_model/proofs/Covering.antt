@@ -2,12 +2,12 @@
 use Rattle.std.proofs.Common.{◌≡◌, ℕ, zero, suc, ◌+◌, ◌-◌, ◌<◌, ◌≤◌, cond, nat_eq, refl, sym, ◌∙◌, subst, inl, inr}
 use Rattle.std.proofs.Common.{arith, Option}
 use Rattle.std.proofs.lemmas.Bool.{cases_lt, cases_eq}
-use Rattle.rankings.specs.Below.{is_below}
-use Rattle.rankings.specs.Remains.{AtMost}
-use Rattle.rankings.specs.TreeProblem.{sum_from, kid_key}
-use Rattle.rankings.proofs.Descent.{below_itself, child_below}
-use Rattle.rankings.proofs.Keys.{add_at_most, at_most_trans}
-use Rattle.rankings.proofs.LeastKeys.{sum_at_most}
+use Rattle.tdp_model.specs.Below.{is_below}
+use Rattle.tdp_model.specs.Remains.{AtMost}
+use Rattle.tdp_model.specs.TreeProblem.{sum_from, kid_key}
+use Rattle.tdp_model.proofs.Descent.{below_itself, child_below}
+use Rattle.tdp_model.proofs.Keys.{add_at_most, at_most_trans}
+use Rattle.tdp_model.proofs.LeastKeys.{sum_at_most}
 use Rattle.proof_model.specs.Certificate.{Certificate}
 use Rattle.proof_model.specs.Problem.{Problem}
 use Rattle.proof_model.specs.Laws.{IsProblem, IsSubtree, subtree_key}

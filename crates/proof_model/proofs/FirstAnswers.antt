@@ -6,9 +6,9 @@ use Rattle.std.specs.Prelude.{Option, None, Some}
 use Rattle.std.proofs.lemmas.List.{length-map, take_all}
 use Rattle.rankings.specs.Order.{BelowAll, IsAscending, IsMember, IsRanking}
 use Rattle.anyk_model.specs.Output.{cut}
-use Rattle.rankings.specs.Below.{is_below}
-use Rattle.rankings.specs.Remains.{AtMost}
-use Rattle.rankings.proofs.Sums.{sum_same}
+use Rattle.tdp_model.specs.Below.{is_below}
+use Rattle.tdp_model.specs.Remains.{AtMost}
+use Rattle.tdp_model.proofs.Sums.{sum_same}
 use Rattle.proof_model.specs.Certificate.{AnswerLine, Certificate}
 use Rattle.proof_model.specs.FirstAnswers.{IsSolutionKey, answer_keys}
 use Rattle.proof_model.specs.Problem.{Problem, key_at, row_in}

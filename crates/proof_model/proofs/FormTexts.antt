@@ -13,8 +13,8 @@ use Rattle.std.proofs.lemmas.List.Splits.{slice_split_at, slice_split_none, leng
 use Rattle.std.proofs.lemmas.List.Splits.{join_with_byte-slice_split}
 use Rattle.std.proofs.lemmas.List.Sums.{AllPass-from_list_all}
 use Rattle.std.proofs.lemmas.Slice.Eq.{bytes_eq-Decides}
-use Rattle.ground.specs.Parts.{parts}
-use Rattle.ground.proofs.Cuts.{lines_cut}
+use Rattle.text_lines.specs.Parts.{parts}
+use Rattle.text_lines.proofs.Cuts.{lines_cut}
 use Rattle.proof_model.specs.Forms.{LineForm, bound, answer, last, bound_line, answer_line, numbers_line, numbers_of}
 use Rattle.proof_model.specs.Forms.{line_of, line_of_parts}
 use Rattle.proof_model.specs.NumberedProofs.{IsShort, AreRows}

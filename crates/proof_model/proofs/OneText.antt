@@ -5,9 +5,9 @@ use Rattle.std.specs.List.{flat_map}
 use Rattle.std.proofs.lemmas.List.Folds.{flat_map-map}
 use Rattle.rankings.specs.Order.{BelowAll, IsAscending, IsMember}
 use Rattle.rankings.proofs.Unique.{ascending_unique_lem}
-use Rattle.rankings.specs.KeyTuple.{slot_of}
-use Rattle.rankings.specs.Remains.{AtMost}
-use Rattle.rankings.specs.TreeProblem.{IsTieFree}
+use Rattle.tdp_model.specs.KeyTuple.{slot_of}
+use Rattle.tdp_model.specs.Remains.{AtMost}
+use Rattle.tdp_model.specs.TreeProblem.{IsTieFree}
 use Rattle.anyk_model.specs.Table.{Table}
 use Rattle.anyk_model.specs.Query.{Query}
 use Rattle.anyk_model.specs.Output.{cut}

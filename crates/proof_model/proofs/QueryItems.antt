@@ -6,10 +6,10 @@ use Rattle.std.proofs.Math.ListN.{set}
 use Rattle.std.proofs.lemmas.Bool.{cases_lt}
 use Rattle.std.proofs.lemmas.Grind.{get_or-set_at}
 use Rattle.std.proofs.lemmas.List.{get_or-set_other, get_or-replicate}
-use Rattle.rankings.specs.KeyTuple.{KeyOf, key_add, key_none, slot_of}
-use Rattle.rankings.specs.TreeProblem.{IsTieFree}
-use Rattle.rankings.proofs.KeyNumbers.{slot_of_lists}
-use Rattle.rankings.proofs.KeyTuples.{slot_of_add, slot_of_none}
+use Rattle.tdp_model.specs.KeyTuple.{KeyOf, key_add, key_none, slot_of}
+use Rattle.tdp_model.specs.TreeProblem.{IsTieFree}
+use Rattle.tdp_model.proofs.KeyNumbers.{slot_of_lists}
+use Rattle.tdp_model.proofs.KeyTuples.{slot_of_add, slot_of_none}
 use Rattle.anyk_model.specs.Table.{Table}
 use Rattle.anyk_model.specs.Query.{Query}
 use Rattle.bound_query.specs.Weights.{part_of}

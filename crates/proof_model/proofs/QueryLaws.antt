@@ -1,7 +1,7 @@
 -- The tree problem of a query is one, and a valid certificate has no flaw.
 use Rattle.std.proofs.Common.{◌≡◌, ℕ, ◌+◌, ◌-◌, ◌<◌, List, length, slice_index, refl, sym, ◌∙◌, subst, inl, inr, arith}
 use Rattle.std.proofs.Common.{Option}
-use Rattle.rankings.proofs.KeyTuples.{tuple_keys}
+use Rattle.tdp_model.proofs.KeyTuples.{tuple_keys}
 use Rattle.anyk_model.specs.Table.{Table}
 use Rattle.anyk_model.specs.Query.{Query}
 use Rattle.proof_model.specs.Certificate.{Certificate}

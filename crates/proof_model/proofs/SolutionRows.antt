@@ -3,11 +3,11 @@ use Rattle.std.proofs.Common.{◌≡◌, ◌≢◌, ℕ, zero, suc, ◌<◌, ◌
 use Rattle.std.proofs.Common.{refl, sym, ap, ◌∙◌, subst, inl, inr, arith}
 use Rattle.std.proofs.lemmas.Bool.{cases_eq, cases_lt}
 use Rattle.std.proofs.lemmas.Grind.{same_number_lists}
-use Rattle.rankings.specs.Below.{is_below}
-use Rattle.rankings.specs.TreeProblem.{IsTieFree}
-use Rattle.rankings.proofs.Descent.{below_itself, below_less, below_once, below_parent}
-use Rattle.rankings.proofs.Sums.{sum_same}
-use Rattle.rankings.proofs.Ties.{slot_at}
+use Rattle.tdp_model.specs.Below.{is_below}
+use Rattle.tdp_model.specs.TreeProblem.{IsTieFree}
+use Rattle.tdp_model.proofs.Descent.{below_itself, below_less, below_once, below_parent}
+use Rattle.tdp_model.proofs.Sums.{sum_same}
+use Rattle.tdp_model.proofs.Ties.{slot_at}
 use Rattle.proof_model.specs.Problem.{Problem, IsSolutionAt, key_at, place_in, row_in, size}
 use Rattle.proof_model.specs.Laws.{IsProblem, IsSubtree, subtree_key}
 use Rattle.proof_model.proofs.ItemPlaces.{place_each, place_inside, place_tells}

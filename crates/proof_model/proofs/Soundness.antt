@@ -2,11 +2,11 @@
 use Rattle.std.proofs.Common.{◌≡◌, ◌⊎◌, ℕ, zero, suc, ◌-◌, ◌<◌, ◌≤◌, cond, nat_le, Bool, true, false, refl, sym, ◌∙◌}
 use Rattle.std.proofs.Common.{subst, inl, inr, arith, Option, length}
 use Rattle.std.proofs.lemmas.Bool.{cases_lt, cases_eq}
-use Rattle.rankings.specs.Below.{is_below}
-use Rattle.rankings.specs.Remains.{AtMost}
-use Rattle.rankings.specs.TreeProblem.{sum_from}
-use Rattle.rankings.proofs.Descent.{below_itself, below_parent}
-use Rattle.rankings.proofs.LeastKeys.{sum_at_most}
+use Rattle.tdp_model.specs.Below.{is_below}
+use Rattle.tdp_model.specs.Remains.{AtMost}
+use Rattle.tdp_model.specs.TreeProblem.{sum_from}
+use Rattle.tdp_model.proofs.Descent.{below_itself, below_parent}
+use Rattle.tdp_model.proofs.LeastKeys.{sum_at_most}
 use Rattle.proof_model.specs.Certificate.{Certificate}
 use Rattle.proof_model.specs.Problem.{Problem}
 use Rattle.proof_model.specs.Laws.{IsProblem, IsSubtree, subtree_key}

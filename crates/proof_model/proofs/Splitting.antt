@@ -2,13 +2,13 @@
 use Rattle.std.proofs.Common.{◌≡◌, ◌≢◌, ℕ, zero, suc, ◌+◌, ◌-◌, ◌<◌, ◌≤◌, cond, nat_eq, refl, sym, ap, ◌∙◌, inl, inr}
 use Rattle.std.proofs.Common.{arith}
 use Rattle.std.proofs.lemmas.Bool.{cases_lt, cases_eq}
-use Rattle.rankings.specs.KeyLaws.{IsKeys}
-use Rattle.rankings.specs.Below.{is_below}
-use Rattle.rankings.specs.TreeProblem.{sum_from, kid_key}
-use Rattle.rankings.proofs.Subtrees.{same, same_at, same_not}
-use Rattle.rankings.proofs.Descent.{below_itself, below_less, below_parent, below_once, kids_with, kids_with_once}
-use Rattle.rankings.proofs.Descent.{kid_counted, kid_uncounted}
-use Rattle.rankings.proofs.Sums.{none_add, sum_same, sum_add}
+use Rattle.tdp_model.specs.KeyLaws.{IsKeys}
+use Rattle.tdp_model.specs.Below.{is_below}
+use Rattle.tdp_model.specs.TreeProblem.{sum_from, kid_key}
+use Rattle.tdp_model.proofs.Subtrees.{same, same_at, same_not}
+use Rattle.tdp_model.proofs.Descent.{below_itself, below_less, below_parent, below_once, kids_with, kids_with_once}
+use Rattle.tdp_model.proofs.Descent.{kid_counted, kid_uncounted}
+use Rattle.tdp_model.proofs.Sums.{none_add, sum_same, sum_add}
 use Rattle.proof_model.proofs.Sums.{pick_eq, pick_ne, sum_none, sum_one}
 
 module _ (m : ℕ) (parent : ℕ → ℕ) (first : (q : ℕ) → 0 < q → q < m → parent q < q) where

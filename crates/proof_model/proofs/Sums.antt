@@ -2,9 +2,9 @@
 use Rattle.std.proofs.Common.{◌≡◌, ◌≢◌, ℕ, zero, suc, ◌+◌, ◌<◌, ◌≤◌, cond, nat_eq, refl, sym, ap, ◌∙◌, inl, inr, arith}
 use Rattle.std.proofs.lemmas.Bool.Decides.{nat_tests}
 use Rattle.std.proofs.lemmas.Bool.{cases_eq}
-use Rattle.rankings.specs.KeyLaws.{IsKeys}
-use Rattle.rankings.specs.TreeProblem.{sum_from}
-use Rattle.rankings.proofs.Sums.{none_add}
+use Rattle.tdp_model.specs.KeyLaws.{IsKeys}
+use Rattle.tdp_model.specs.TreeProblem.{sum_from}
+use Rattle.tdp_model.proofs.Sums.{none_add}
 
 pub pick_eq : {K : Type 0} (x y : ℕ) (a b : K) → x ≡ y → cond (nat_eq x y) a b ≡ a
 pick_eq x y a b e = grind (arith, nat_tests)

@@ -10,12 +10,12 @@ use Rattle.std.proofs.lemmas.Bool.Decides.{Decides-eqb}
 use Rattle.std.proofs.lemmas.Grind.{get_or-set_at}
 use Rattle.std.proofs.lemmas.Int.{fits_signed_from_abs}
 use Rattle.std.proofs.lemmas.List.{get_or-map, get_or-set_other, get_or-replicate}
-use Rattle.rankings.specs.KeyTuple.{KeyOf, key_add, key_none, slot_of}
-use Rattle.rankings.specs.KeyNumbers.{sum_of}
-use Rattle.rankings.specs.TreeProblem.{sum_from}
-use Rattle.rankings.proofs.KeyNumbers.{sum_of_add, sum_of_lists, sum_of_none, slot_of_lists}
-use Rattle.rankings.proofs.KeyTuples.{slot_of_add, slot_of_none}
-use Rattle.rankings.proofs.Ranges as ranges
+use Rattle.tdp_model.specs.KeyTuple.{KeyOf, key_add, key_none, slot_of}
+use Rattle.tdp_model.specs.KeyNumbers.{sum_of}
+use Rattle.tdp_model.specs.TreeProblem.{sum_from}
+use Rattle.tdp_model.proofs.KeyNumbers.{sum_of_add, sum_of_lists, sum_of_none, slot_of_lists}
+use Rattle.tdp_model.proofs.KeyTuples.{slot_of_add, slot_of_none}
+use Rattle.tdp_model.proofs.Ranges as ranges
 use Rattle.rank_key.specs.Keys.{IsInRange}
 use Rattle.anyk_model.specs.Table.{Table, most_rows, table_at}
 use Rattle.anyk_model.specs.Query.{OrderKey}

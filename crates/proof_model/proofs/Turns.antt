@@ -5,7 +5,7 @@ use Rattle.std.specs.Str.{bytes_eq}
 use Rattle.std.specs.Str.Lines.{lines}
 use Rattle.std.proofs.lemmas.Bool.{cond-true}
 use Rattle.std.proofs.lemmas.List.Splits.{length-slice_split}
-use Rattle.ground.specs.Parts.{parts}
+use Rattle.text_lines.specs.Parts.{parts}
 use Rattle.proof_model.specs.declared.fault.ProofFault.{ProofFault}
 use Rattle.proof_model.specs.declared.fault.ProofFault.TheVariants.{BadHeader, BadLine}
 use Rattle.proof_model.specs.Certificate.{Certificate}

@@ -2,11 +2,11 @@
 use Rattle.std.proofs.Common.{◌≡◌, ◌↔◌, ℕ, zero, suc, ◌≤◌, ℤ, pos, ◌+ℤ◌, ◌<ℤ◌, Bool, true, false, cond, List, [], ◌∷◌, length}
 use Rattle.std.proofs.Common.{refl, sym, ap, subst, ◌∙◌, inl, inr, arith}
 use Rattle.std.proofs.lemmas.Int.{ints}
-use Rattle.rankings.specs.KeyTuple.{KeyOf, key_add, key_none, key_below}
-use Rattle.rankings.specs.KeyNumbers.{key_of_lists}
-use Rattle.rankings.specs.Remains.{AtMost}
-use Rattle.rankings.specs.TreeProblem.{sum_from}
-use Rattle.rankings.proofs.KeyTuples.{tuple_keys}
+use Rattle.tdp_model.specs.KeyTuple.{KeyOf, key_add, key_none, key_below}
+use Rattle.tdp_model.specs.KeyNumbers.{key_of_lists}
+use Rattle.tdp_model.specs.Remains.{AtMost}
+use Rattle.tdp_model.specs.TreeProblem.{sum_from}
+use Rattle.tdp_model.proofs.KeyTuples.{tuple_keys}
 use Rattle.proof_model.specs.Wide.{wide}
 
 zero_sum : pos 0 ≡ pos 0 +ℤ pos 0

@@ -1,6 +1,6 @@
 -- The faults that are told of a certificate.
 use Rattle.std.specs.Prelude.{◌≡◌, suc, List, Ok, Err}
-use Rattle.rankings.specs.NodeRows.{most_node_rows}
+use Rattle.tdp_model.specs.NodeRows.{most_node_rows}
 use Rattle.anyk_model.specs.Table.{Table}
 use Rattle.anyk_model.specs.Query.{Query}
 use Rattle.join_tree.specs.declared.tree.JoinTree.{JoinTree}

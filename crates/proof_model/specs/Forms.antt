@@ -6,7 +6,7 @@ use Rattle.std.specs.List.{list_all}
 use Rattle.std.specs.Str.{bytes_eq}
 use Rattle.std.specs.Str.Parse.{digits_value}
 use Rattle.std.specs.Char.{is_ascii_digit}
-use Rattle.ground.specs.Parts.{parts}
+use Rattle.text_lines.specs.Parts.{parts}
 
 -- 1 to 7 digits, of which the first is 0 in `0` alone
 abbrev pub is_number : List ℕ → Bool

@@ -1,7 +1,7 @@
 -- Certificates that leave nothing out: each group with a solution has its least bound, and the
 -- answers are the first solutions.
 use Rattle.std.specs.Prelude.{◌≡◌, ℕ, ◌+◌, ◌-◌, ◌<◌, suc, false, Option, length}
-use Rattle.rankings.specs.Remains.{AtMost}
+use Rattle.tdp_model.specs.Remains.{AtMost}
 use Rattle.proof_model.specs.Certificate.{Certificate}
 use Rattle.proof_model.specs.Problem.{Problem, IsSolutionAt}
 use Rattle.proof_model.specs.Laws.{IsSubtree, subtree_key}

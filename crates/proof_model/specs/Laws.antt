@@ -1,8 +1,8 @@
 -- The laws of keys and groups in a tree problem, and its solutions as functions of the nodes.
 use Rattle.std.specs.Prelude.{ℕ, ◌<◌, cond, nat_eq}
-use Rattle.rankings.specs.Below.{is_below}
-use Rattle.rankings.specs.KeyLaws.{IsKeys}
-use Rattle.rankings.specs.TreeProblem.{sum_from}
+use Rattle.tdp_model.specs.Below.{is_below}
+use Rattle.tdp_model.specs.KeyLaws.{IsKeys}
+use Rattle.tdp_model.specs.TreeProblem.{sum_from}
 use Rattle.proof_model.specs.Problem.{Problem}
 
 -- keys add up and are ordered, parents come first, and the rows that fit below one row are one

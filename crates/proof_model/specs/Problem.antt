@@ -1,8 +1,8 @@
 -- A tree problem whose rows are told by their numbers.
 use Rattle.std.specs.Prelude.{◌≡◌, ℕ, ◌+◌, ◌*◌, ◌<◌, cond, nat_eq, nat_lt}
 use Rattle.std.specs.Prelude.{List, length, slice_index}
-use Rattle.rankings.specs.Below.{is_below}
-use Rattle.rankings.specs.TreeProblem.{sum_from}
+use Rattle.tdp_model.specs.Below.{is_below}
+use Rattle.tdp_model.specs.TreeProblem.{sum_from}
 
 -- nodes with parents first, each with an item, and rows with keys
 pub record Problem (K : Type 0) : Type 1 where

@@ -1,8 +1,8 @@
 -- Valid certificates.
 use Rattle.std.specs.Prelude.{◌≡◌, ◌≢◌, ◌⊎◌, ℕ, ◌-◌, ◌+◌, ◌<◌, ◌≤◌, suc, cond, nat_le, Bool, true, false}
 use Rattle.std.specs.Prelude.{Option, None, Some, [], length, slice_index_or}
-use Rattle.rankings.specs.Remains.{AtMost}
-use Rattle.rankings.specs.TreeProblem.{sum_from, kid_key}
+use Rattle.tdp_model.specs.Remains.{AtMost}
+use Rattle.tdp_model.specs.TreeProblem.{sum_from, kid_key}
 use Rattle.proof_model.specs.Certificate.{BoundLine, AnswerLine, Certificate}
 use Rattle.proof_model.specs.Problem.{Problem, row_in, key_at, IsSolutionAt}
 

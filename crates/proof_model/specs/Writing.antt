@@ -1,7 +1,7 @@
 -- A certificate as it is written.
 use Rattle.std.specs.Prelude.{ℕ, Bool, if◌then◌else◌, List, ◌++◌, codes, decimal}
 use Rattle.std.specs.List.{flat_map}
-pub use Rattle.ground.specs.SpacedNumbers.{spaced}
+pub use Rattle.text_lines.specs.SpacedNumbers.{spaced}
 use Rattle.proof_model.specs.Certificate.{BoundLine, AnswerLine, Certificate}
 
 abbrev pub header_text : List ℕ

@@ -2,7 +2,7 @@
 use Rattle.std.specs.Prelude.{◌≡◌, ◌⊎◌, ℕ, ◌+◌, ◌<◌, suc, pos, List, map, length}
 use Rattle.anyk_model.specs.Ranking.{IsBefore}
 use Rattle.rankings.specs.Order.{IsAscending}
-use Rattle.rankings.specs.Remains.{AtMost}
+use Rattle.tdp_model.specs.Remains.{AtMost}
 use Rattle.proof_model.specs.Certificate.{BoundLine, Certificate}
 use Rattle.proof_model.specs.Problem.{Problem, row_in, key_at, IsSolutionAt}
 use Rattle.proof_model.specs.Valid.{StandsFor, bound_at, answer_at}

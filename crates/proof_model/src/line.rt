@@ -2,13 +2,13 @@
 
 ghost use Rattle.std.specs.Prelude.{◌≡◌, option_map, IfOk};
 ghost use Rattle.std.specs.Str.{bytes_eq};
-ghost use Rattle.ground.specs.Parts.{parts};
+ghost use Rattle.text_lines.specs.Parts.{parts};
 ghost use Rattle.proof_model.specs.Forms.{answer_line, bound_line, last_line, line_of, numbers_line};
 ghost use Rattle.proof_model.specs.ProofView.{line_view};
 
 use crate::number::read_numbers;
-use ground::first_part;
 use std::alloc::{AllocFailed, Global};
+use text_lines::first_part;
 
 /// What a line after the first one says.
 #[derive(Drop)]

@@ -4,11 +4,11 @@ ghost use Rattle.std.specs.Prelude.{◌≡◌, ◌≤◌, length, option_map, If
 ghost use Rattle.std.specs.List.{list_all};
 ghost use Rattle.std.specs.Char.{is_ascii_digit};
 ghost use Rattle.std.specs.Str.Parse.{digits_value};
-ghost use Rattle.ground.specs.Parts.{parts};
+ghost use Rattle.text_lines.specs.Parts.{parts};
 ghost use Rattle.proof_model.specs.Forms.{number_of, numbers_of};
 
-use ground::first_part;
 use std::alloc::{AllocFailed, Global};
+use text_lines::first_part;
 
 const MAX_DIGITS: usize = 7;
 

@@ -15,8 +15,8 @@ ghost use Rattle.proof_model.specs.Writing.{proof_text};
 use crate::fault::ProofFault;
 use crate::line::{Line, read_line};
 use crate::proof::{Bound, Listed, Proof};
-use ground::first_line;
 use std::alloc::Global;
+use text_lines::first_line;
 
 const HEADER: &[u8] = b"anyk-proof 1";
 

@@ -3,8 +3,9 @@
 ghost use Rattle.std.specs.Prelude.{◌≡◌, ◌++◌, IfOk, OnErr, OnOk};
 ghost use Rattle.proof_model.specs.Writing.{answer_text, bound_text, header_text, last_text, spaced};
 
-use ground::{NoMemory, NumberText};
 use std::alloc::Global;
+use step_counter::NoMemory;
+use text_lines::NumberText;
 
 /// Appends numbers, with a space before each.
 fn push_numbers(line: &mut Vec<u8>, numbers: &[u32]) -> Result<(), NoMemory>

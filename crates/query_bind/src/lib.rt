@@ -17,5 +17,6 @@ mod variables;
 mod weighing;
 
 pub use bind_select::bind;
+pub use bound_query::Query;
 pub use fault::BindFault;
 pub use laws::first_in_text_order;

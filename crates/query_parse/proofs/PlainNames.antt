@@ -4,8 +4,8 @@ use Rattle.std.specs.List.{flat_map, list_all, prefix_len, position}
 use Rattle.query_select.specs.declared.token.Kind.{Kind}
 use Rattle.query_select.specs.declared.token.Kind.TheVariants as kind
 use Rattle.query_select.specs.Lexeme.{Lexeme}
-use Rattle.languages.specs.Reading.{Joined, Clauses}
-use Rattle.languages.specs.Grammar.{One, one, Many, none, more, Behind, after_sign, IsColumn, bare, qualified, IsColumns, columns, IsList, star, listed, IsConstant, text, digits, negative, IsCondition, two_columns, constant_right, constant_left, IsConditions, conditions, IsItem, named, aliased, aliased_as, IsJoined, joined, IsNextItem, comma, join, inner_join, IsItems, items, IsWhere, no_where, some_where, IsSigned, plus, minus, IsFirstTerm, unsigned, signed, IsDirection, unsaid, ascending, descending, IsKey, key, IsOrder, no_order, some_order, branch, IsQuery, query}
+use Rattle.query_parse.specs.Reading.{Joined, Clauses}
+use Rattle.query_parse.specs.Grammar.{One, one, Many, none, more, Behind, after_sign, IsColumn, bare, qualified, IsColumns, columns, IsList, star, listed, IsConstant, text, digits, negative, IsCondition, two_columns, constant_right, constant_left, IsConditions, conditions, IsItem, named, aliased, aliased_as, IsJoined, joined, IsNextItem, comma, join, inner_join, IsItems, items, IsWhere, no_where, some_where, IsSigned, plus, minus, IsFirstTerm, unsigned, signed, IsDirection, unsaid, ascending, descending, IsKey, key, IsOrder, no_order, some_order, branch, IsQuery, query}
 use Rattle.query_select.specs.Tokens.{Scan, quoted_scan, word_scan, digits_scan, is_blank, is_letter, is_word_byte, closing, scan_of, tokens_from}
 use Rattle.std.specs.Char.{is_ascii_digit}
 use Rattle.query_parse.proofs.Plain.{Each, EachOfSome, PlainColumn, PlainItem, PlainEquality, PlainTerm, PlainKey, PlainList, PlainSelect}

@@ -13,10 +13,10 @@ use Rattle.query_select.specs.declared.select.ItemRef.{ItemRef}
 use Rattle.query_select.specs.declared.select.Equality.{Equality}
 use Rattle.query_select.specs.declared.select.KeyRef.{KeyRef}
 use Rattle.query_select.specs.declared.select.Select.{Select}
-use Rattle.languages.specs.Reading.{Clauses}
-use Rattle.languages.specs.Grammar.{IsLimit, no_limit, some_limit, IsEnd, no_sign, branch, IsQuery, query}
+use Rattle.query_parse.specs.Reading.{Clauses}
+use Rattle.query_parse.specs.Grammar.{IsLimit, no_limit, some_limit, IsEnd, no_sign, branch, IsQuery, query}
 use Rattle.query_select.specs.Tokens.{tokens_from, tokens_of, kind_of_word}
-use Rattle.languages.specs.Parse.{decimal_from, limit_of, select_of, IsParsed}
+use Rattle.query_parse.specs.Parse.{decimal_from, limit_of, select_of, IsParsed}
 use Rattle.query_parse.specs.Text.{list_text, items_text, where_text, order_text, limit_text, text_of}
 use Rattle.query_select.specs.Same.{placeless_item, placeless_key, placeless}
 use Rattle.query_parse.specs.ReadBack.{ReadsBack}

@@ -13,8 +13,8 @@ use Rattle.query_select.specs.declared.select.Equality.{Equality}
 use Rattle.query_select.specs.declared.select.Term.{Term}
 use Rattle.query_select.specs.declared.select.KeyRef.{KeyRef}
 use Rattle.query_select.specs.Lexeme.{Lexeme}
-use Rattle.languages.specs.Reading.{Joined, undoubled}
-use Rattle.languages.specs.Grammar.{Many, none, more, Behind, after_sign, IsColumn, bare, qualified, columns, IsList, star, listed, text, IsCondition, two_columns, constant_right, conditions, IsItem, aliased_as, IsNextItem, comma, IsItems, items, IsWhere, no_where, some_where, IsSigned, plus, minus, IsFirstTerm, unsigned, signed, IsDirection, unsaid, descending, IsKey, key, IsOrder, no_order, some_order}
+use Rattle.query_parse.specs.Reading.{Joined, undoubled}
+use Rattle.query_parse.specs.Grammar.{Many, none, more, Behind, after_sign, IsColumn, bare, qualified, columns, IsList, star, listed, text, IsCondition, two_columns, constant_right, conditions, IsItem, aliased_as, IsNextItem, comma, IsItems, items, IsWhere, no_where, some_where, IsSigned, plus, minus, IsFirstTerm, unsigned, signed, IsDirection, unsaid, descending, IsKey, key, IsOrder, no_order, some_order}
 use Rattle.query_select.specs.Tokens.{tokens_from, kind_of_word}
 use Rattle.query_select.specs.Text.{name_text_of}
 use Rattle.query_parse.specs.Text.{constant_text, alias_text, column_text, more_columns_text, columns_text, list_text, item_text, more_items_text, items_text, side_text, equality_text, more_equalities_text, where_text, first_term_text, term_text, terms_text, key_text, more_keys_text, order_text}

@@ -8,7 +8,7 @@ use Rattle.query_select.specs.declared.token.Kind.{Kind}
 use Rattle.query_select.specs.declared.token.Kind.TheVariants as kind
 use Rattle.query_select.specs.Lexeme.{Lexeme}
 use Rattle.query_select.specs.Kinds.{same}
-use Rattle.languages.specs.Grammar.{One, one}
+use Rattle.query_parse.specs.Grammar.{One, one}
 use Rattle.query_select.specs.Tokens.{Scan, is_blank, is_letter, is_word_byte, kind_of_word, scan_of, tokens_from}
 use Rattle.query_select.specs.Text.{is_bare, name_text_of}
 use Rattle.query_parse.specs.Text.{doubled, constant_text}

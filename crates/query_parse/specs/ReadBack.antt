@@ -1,7 +1,7 @@
 -- When a text is read as a query again.
 use Rattle.std.specs.Prelude.{ℕ, List}
 use Rattle.query_select.specs.declared.select.Select.{Select}
-use Rattle.languages.specs.Parse.{IsParsed}
+use Rattle.query_parse.specs.Parse.{IsParsed}
 use Rattle.query_select.specs.Same.{AreOne}
 
 -- the bytes are a query, and it is this one except for its offsets

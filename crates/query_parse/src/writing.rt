@@ -1,14 +1,14 @@
 //! The canonical text.
 
 ghost use Rattle.std.specs.Prelude.{◌≡◌, ◌++◌, ◌∷◌, [], IfOk, OnOk, List, ℕ, ◌≤◌, length};
-ghost use Rattle.languages.specs.Parse.{IsParsed};
+ghost use Rattle.query_parse.specs.Parse.{IsParsed};
 ghost use Rattle.query_parse.specs.ReadBack.{ReadsBack};
 ghost use Rattle.query_parse.specs.Text.{doubled, column_text, columns_text, list_text, item_text, items_text, constant_text, side_text, equality_text, where_text, first_term_text, term_text, terms_text, key_text, order_text, limit_text, text_of};
 
-use ground::NoMemory;
 use query_select::push_name;
 use query_select::select::{ColumnRef, Equality, ItemRef, KeyRef, Select, SelectList, Side, Term};
 use std::alloc::{AllocError, Global};
+use step_counter::NoMemory;
 
 /// Appends a column reference.
 #[tactic(auto, unfolding(crate::specs::Text::column_text))]

@@ -3,7 +3,7 @@
 //!
 //! Bytes become tokens, the longest at each place. `name_text` writes a name in one canonical form.
 //! The parts are those of a select in SQL: a list of columns, from-items, equalities, order keys
-//! that are sums of columns, and a limit. `languages` reads them from tokens, and `query_bind`
+//! that are sums of columns, and a limit. `query_parse` reads them from tokens, and `query_bind`
 //! gives them their meaning over tables.
 #![tactic(auto)]
 

@@ -8,8 +8,8 @@ ghost use Rattle.query_select.specs.Text.{is_bare, name_text_of};
 
 use crate::scanner::{begins_word, word_kind, word_len};
 use crate::token::Kind;
-use ground::NoMemory;
 use std::alloc::{AllocError, Global};
+use step_counter::NoMemory;
 
 /// Whether a word is a name.
 fn is_no_keyword(word: &[u8]) -> bool

@@ -1,5 +1,5 @@
 //! When two queries are equal.
-use languages::parse;
+use query_parse::parse;
 use query_select::Select;
 use std::alloc::Global;
 

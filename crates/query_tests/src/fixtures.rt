@@ -2,7 +2,7 @@
 ghost use Rattle.std.specs.Prelude.{◌≡◌, ◌≤◌, [], length, IfSome, OnOk};
 
 use csv_tables::{TableFault, TableReader};
-use languages::parse;
+use query_parse::parse;
 use query_select::select::Select;
 use std::alloc::Global;
 

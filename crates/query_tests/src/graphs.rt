@@ -1,7 +1,7 @@
 //! Ears and connected variables of small graphs.
 ghost use Rattle.std.specs.Prelude.{◌≡◌, [], ◌∷◌};
 
-use join_tree::{Graph, all_below, contains, least, without};
+use hyper_graph::{Graph, all_below, contains, least, without};
 use std::alloc::Global;
 
 /// Two relations that share a variable: each is an ear of the other.

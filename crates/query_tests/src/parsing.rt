@@ -1,6 +1,5 @@
 //! The faults of texts, and the texts of queries.
-use languages::parse_all;
-use query_parse::{ParseFault, Select, SelectList, Side, name_text, parse, text};
+use query_parse::{ParseFault, Select, SelectList, Side, name_text, parse, parse_all, text};
 use std::alloc::{AllocError, Global};
 
 /// Whether a text is refused with this fault.

@@ -1,13 +1,14 @@
 //! Join trees of small graphs.
 ghost use Rattle.std.specs.Prelude.{◌≤◌, ◌<◌, ◌^◌, IfOk};
 ghost use Rattle.std.specs.List.{All};
-ghost use Rattle.join_tree.specs.Graph.{Hypergraph};
+ghost use Rattle.hyper_graph.specs.Graph.{Hypergraph};
 ghost use Rattle.join_tree.specs.Removal.{IsRemoval};
 
-use ground::NoMemory;
-use join_tree::{Ears, Graph, JoinTree, ears, reroot, tree_of};
+use hyper_graph::Graph;
+use join_tree::{Ears, JoinTree, ears, reroot, tree_of};
 use std::alloc::Global;
 use std::test::Fail;
+use step_counter::NoMemory;
 
 /// The ears of the graph of this many atoms with these sets, or a message for a test that fails.
 fn ears_of(alloc: Global, atoms: u32, sets: &[u16]) -> Result<Ears, &'static str>

@@ -4,8 +4,8 @@ use Rattle.std.proofs.Common.{◌≡◌, ℕ, ◌+◌, ◌/◌, ◌%◌, ◌^◌
 use Rattle.std.specs.Prelude.{FitsSigned}
 use Rattle.std.specs.Int.{w128}
 use Rattle.std.proofs.lemmas.Int.{ints, to_z-of_z}
-use Rattle.rankings.specs.KeyTuple.{KeyOf, key_add, slot_of}
-use Rattle.rankings.specs.KeyNumbers.{sum_of}
+use Rattle.tdp_model.specs.KeyTuple.{KeyOf, key_add, slot_of}
+use Rattle.tdp_model.specs.KeyNumbers.{sum_of}
 use Rattle.rank_key.specs.Packed.{lifted, packed_key}
 use Rattle.rank_key.specs.Digits.{lifted_is}
 

@@ -1,9 +1,9 @@
 -- What engines use of the order and the addition of keys.
 use Rattle.std.proofs.Common.{◌≡◌, ℕ, Bool, true, false, refl, sym, subst, ◌∙◌, ◌⊎◌, inl, inr}
-use Rattle.rankings.specs.KeyTuple.{KeyOf, key_below, key_add, key_none}
-use Rattle.rankings.specs.KeyNumbers.{key_less}
-use Rattle.rankings.proofs.KeyTuples.{tuple_keys}
-use Rattle.rankings.proofs.KeyNumbers.{key_less_below, below_key_less, not_less_at_most, at_most_not_less, key_cancel}
+use Rattle.tdp_model.specs.KeyTuple.{KeyOf, key_below, key_add, key_none}
+use Rattle.tdp_model.specs.KeyNumbers.{key_less}
+use Rattle.tdp_model.proofs.KeyTuples.{tuple_keys}
+use Rattle.tdp_model.proofs.KeyNumbers.{key_less_below, below_key_less, not_less_at_most, at_most_not_less, key_cancel}
 
 module _ (d e : ℕ) where
   pub below_irreflexive : (a : KeyOf d e) → key_below d e a a → ⊥

@@ -10,8 +10,8 @@ use Rattle.std.specs.Int.{FitsUnsigned, w32}
 use Rattle.std.specs.Ordering.{nat_cmp, ordering_then}
 use Rattle.std.specs.Cmp.Lexicographic.{slice_cmp}
 use Rattle.std.specs.declared.cmp.Ordering.TheVariants.{Equal}
-use Rattle.rankings.specs.KeyNumbers.{each_with, slots_of_list, key_of_lists}
-use Rattle.rankings.proofs.KeyTuples.{two}
+use Rattle.tdp_model.specs.KeyNumbers.{each_with, slots_of_list, key_of_lists}
+use Rattle.tdp_model.proofs.KeyTuples.{two}
 use Rattle.rank_key.specs.Keys.{NoneAfter}
 
 -- the first e of the numbers, filled up with 0

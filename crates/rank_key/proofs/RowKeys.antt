@@ -7,10 +7,10 @@ use Rattle.std.proofs.lemmas.Bool.{cases_lt}
 use Rattle.std.proofs.lemmas.Grind.{get_or-set_at}
 use Rattle.std.proofs.lemmas.Int.{ints}
 use Rattle.std.proofs.lemmas.List.{get_or-set_other, get_or-replicate, get_or_past}
-use Rattle.rankings.specs.KeyTuple.{key_add}
-use Rattle.rankings.proofs.Subtrees.{cases_eq}
-use Rattle.rankings.proofs.KeyNumbers.{sum_of_add, sum_of_lists, slot_of_lists}
-use Rattle.rankings.proofs.KeyTuples.{slot_of_add}
+use Rattle.tdp_model.specs.KeyTuple.{key_add}
+use Rattle.tdp_model.proofs.Subtrees.{cases_eq}
+use Rattle.tdp_model.proofs.KeyNumbers.{sum_of_add, sum_of_lists, slot_of_lists}
+use Rattle.tdp_model.proofs.KeyTuples.{slot_of_add}
 use Rattle.rank_key.specs.Keys.{IsInRange, row_key}
 
 small_at : (xs : List ℤ) (i : ℕ) → AllByRecursion (FitsSigned w64) xs → FitsSigned w64 (get_or xs i (pos 0))

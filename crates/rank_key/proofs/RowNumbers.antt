@@ -8,9 +8,9 @@ use Rattle.std.proofs.lemmas.Grind.{get_or-set_at}
 use Rattle.std.proofs.lemmas.Int.{ints, to_z-of_z}
 use Rattle.std.proofs.lemmas.List.{get_or-set_other, get_or-replicate}
 use Rattle.std.proofs.lemmas.List.Elements.{All-head}
-use Rattle.rankings.specs.KeyTuple.{slot_of}
-use Rattle.rankings.specs.KeyNumbers.{sum_of}
-use Rattle.rankings.proofs.KeyNumbers.{slot_of_lists}
+use Rattle.tdp_model.specs.KeyTuple.{slot_of}
+use Rattle.tdp_model.specs.KeyNumbers.{sum_of}
+use Rattle.tdp_model.proofs.KeyNumbers.{slot_of_lists}
 use Rattle.rank_key.specs.Keys.{IsWithin, row_key}
 use Rattle.rank_key.specs.Packed.{number_of, packed_key, unit_of}
 use Rattle.rank_key.specs.Digits.{key_of_number}

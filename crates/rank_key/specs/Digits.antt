@@ -3,9 +3,9 @@ use Rattle.std.proofs.Common.{◌≡◌, ℕ, zero, suc, ◌/◌, ◌%◌, ◌^�
 use Rattle.std.specs.Prelude.{FitsSigned, unsigned_abs}
 use Rattle.std.specs.Int.{w128}
 use Rattle.std.proofs.lemmas.Int.{ints}
-use Rattle.rankings.specs.KeyTuple.{KeyOf, slot_of}
-use Rattle.rankings.specs.KeyNumbers.{key_of_lists, sum_of}
-use Rattle.rankings.proofs.KeyNumbers.{key_same, slot_of_lists}
+use Rattle.tdp_model.specs.KeyTuple.{KeyOf, slot_of}
+use Rattle.tdp_model.specs.KeyNumbers.{key_of_lists, sum_of}
+use Rattle.tdp_model.proofs.KeyNumbers.{key_same, slot_of_lists}
 use Rattle.rank_key.specs.Keys.{IsWithin}
 use Rattle.rank_key.specs.Packed.{lifted, digits, packed_key, from_digits, number_of}
 

@@ -4,9 +4,9 @@ use Rattle.std.specs.List.{range_with_len}
 use Rattle.std.proofs.lemmas.Bool.{cases_lt}
 use Rattle.std.proofs.lemmas.List.{get_or_past}
 use Rattle.std.proofs.lemmas.List.FromFn.{get_or-map-range_with_len, length-map-range_with_len}
-use Rattle.rankings.specs.KeyTuple.{KeyOf, slot_of}
-use Rattle.rankings.specs.KeyNumbers.{sum_of, key_of_lists}
-use Rattle.rankings.proofs.KeyNumbers.{key_same, sum_of_lists, slot_of_lists}
+use Rattle.tdp_model.specs.KeyTuple.{KeyOf, slot_of}
+use Rattle.tdp_model.specs.KeyNumbers.{sum_of, key_of_lists}
+use Rattle.tdp_model.proofs.KeyNumbers.{key_same, sum_of_lists, slot_of_lists}
 use Rattle.rank_key.specs.Keys.{IsWithin, NoneAfter}
 
 module _ (n m : ℕ) (k : KeyOf n 16) where

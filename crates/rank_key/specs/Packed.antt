@@ -1,7 +1,7 @@
 -- A sum and four row numbers as the digits of one number.
 use Rattle.std.specs.Prelude.{ℕ, zero, suc, ◌+◌, ◌-◌, ◌*◌, ◌/◌, ◌%◌, ◌^◌, ℤ, pos, negsuc, ◌+ℤ◌, ◌-ℤ◌, ◌*ℤ◌, List, [], ◌∷◌}
-use Rattle.rankings.specs.KeyTuple.{KeyOf, slot_of}
-use Rattle.rankings.specs.KeyNumbers.{key_of_lists, sum_of}
+use Rattle.tdp_model.specs.KeyTuple.{KeyOf, slot_of}
+use Rattle.tdp_model.specs.KeyNumbers.{key_of_lists, sum_of}
 
 -- z + 2 ^ 127, which is not negative for a number of 128 bits with a sign
 abbrev pub lifted : ℤ → ℕ

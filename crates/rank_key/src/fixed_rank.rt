@@ -3,16 +3,16 @@ ghost use Rattle.std.specs.Prelude.{◌≡◌, ℕ, ◌+◌, ◌-◌, ◌^◌, �
 ghost use Rattle.std.specs.Int.{FitsUnsigned, w32, w128};
 ghost use Rattle.std.specs.Ordering.{int_cmp};
 ghost use Rattle.std.specs.Cmp.Lexicographic.{slice_cmp};
-ghost use Rattle.rankings.specs.KeyNumbers.{plus, key_of_lists};
+ghost use Rattle.tdp_model.specs.KeyNumbers.{plus, key_of_lists};
 ghost use Rattle.std.proofs.Common.{rules};
 ghost use Rattle.rank_key.specs.KeyLists.{sums_of, slots_of, length_sums, length_slots, slots_end, key_of_lists_lem};
 ghost use Rattle.rank_key.specs.Keys.{NoneAfter, minus};
 
 use crate::rank::Rank;
 use crate::sum::Sum;
-use ground::Steps;
 use std::cmp::Ordering;
 use std::sync::ledger::Ledger;
+use step_counter::Steps;
 
 /// A rank with `N` sums, which are before the slots and are compared first, and with the first `M`
 /// slots. The fewer of both, the less memory it takes.

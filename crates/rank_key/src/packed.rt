@@ -7,8 +7,8 @@ ghost use Rattle.rank_key.specs.Digits.{number_fits, key_of_number};
 
 use crate::rank::Rank;
 use crate::sum::Sum;
-use ground::Steps;
 use std::sync::ledger::Ledger;
+use step_counter::Steps;
 
 /// The unit of the sum.
 const SUM_UNIT: i128 = 1 << 84;

@@ -1,11 +1,11 @@
 //! What a rank can do: joining, exchanging a part and comparing, one counted step each.
 ghost use Rattle.std.specs.Prelude.{◌≡◌, ℕ, ◌+◌, ◌^◌, ◌<◌, ◌≤◌, ℤ, List, length, All, unsigned_abs};
-ghost use Rattle.rankings.specs.KeyTuple.{KeyOf, key_add, key_none};
-ghost use Rattle.rankings.specs.KeyNumbers.{key_less};
+ghost use Rattle.tdp_model.specs.KeyTuple.{KeyOf, key_add, key_none};
+ghost use Rattle.tdp_model.specs.KeyNumbers.{key_less};
 ghost use Rattle.rank_key.specs.Keys.{KeyFits, CanSwap, IsHeld, IsWithin, row_key};
 
-use ground::Steps;
 use std::sync::ledger::Ledger;
+use step_counter::Steps;
 
 /// The number of row slots of a key.
 pub const SLOTS: usize = 16;

@@ -1,15 +1,15 @@
 //! The laws of joining and exchanging.
 ghost use Rattle.std.specs.Prelude.{◌≡◌, ℕ, ◌+◌, ◌≤◌};
 ghost use Rattle.std.specs.declared.cmp.Ordering.TheVariants.{Less, Equal, Greater};
-ghost use Rattle.rankings.specs.KeyTuple.{KeyOf, key_add, key_below};
-ghost use Rattle.rankings.specs.KeyNumbers.{key_less};
+ghost use Rattle.tdp_model.specs.KeyTuple.{KeyOf, key_add, key_below};
+ghost use Rattle.tdp_model.specs.KeyNumbers.{key_less};
 ghost use Rattle.rank_key.specs.Keys.{KeyFits, CanSwap};
 
 use crate::order::compare;
-use ground::Steps;
 use rank_key::Rank;
 use std::cmp::Ordering;
 use std::sync::ledger::Ledger;
+use step_counter::Steps;
 
 /// A rank joined with `zero`, on either side: the rank again.
 pub fn joined_with_zero<R: Rank, L: Ledger>(rank: R, steps: &mut Steps<L>) -> (R, R)

@@ -1,13 +1,13 @@
 //! The laws of comparing.
 ghost use Rattle.std.specs.Prelude.{◌≡◌, ℕ, ◌+◌, ◌≤◌, true, false};
 ghost use Rattle.std.specs.declared.cmp.Ordering.TheVariants.{Less, Equal, Greater};
-ghost use Rattle.rankings.specs.KeyTuple.{KeyOf, key_below};
-ghost use Rattle.rankings.specs.KeyNumbers.{key_less};
+ghost use Rattle.tdp_model.specs.KeyTuple.{KeyOf, key_below};
+ghost use Rattle.tdp_model.specs.KeyNumbers.{key_less};
 
-use ground::Steps;
 use rank_key::Rank;
 use std::cmp::Ordering;
 use std::sync::ledger::Ledger;
+use step_counter::Steps;
 
 /// Whether a rank is before itself; it never is.
 pub fn is_before_itself<R: Rank, L: Ledger>(rank: &R, steps: &mut Steps<L>) -> bool

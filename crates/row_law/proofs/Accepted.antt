@@ -1,8 +1,8 @@
 -- The row is accepted, and the bound on its steps is a number.
 use Rattle.std.proofs.Common.{◌≡◌, ◌≤◌, ◌+◌, ℕ, [], ◌∷◌, Some, None, Ok, refl, sym, arith}
 use Rattle.rank_key.specs.Bits.{bit_length, bits_within}
-use Rattle.languages.specs.Parse.{as_one_branch}
-use Rattle.languages.proofs.OneQuery.{one_branch}
+use Rattle.query_parse.specs.Parse.{as_one_branch}
+use Rattle.query_parse.proofs.OneQuery.{one_branch}
 use Rattle.bound_query.specs.Steps.{calls_for, cost}
 use Rattle.bound_query.proofs.Rising.{calls_few, cost_rises}
 use Rattle.verdict.specs.Bound.{IsBounded}

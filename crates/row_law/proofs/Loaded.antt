@@ -8,10 +8,10 @@ use Rattle.query_select.specs.declared.select.ColumnRef.{ColumnRef}
 use Rattle.query_select.specs.declared.select.SelectList.TheVariants.{Columns}
 use Rattle.query_select.specs.declared.select.Side.TheVariants.{Column as column_side}
 use Rattle.query_select.specs.declared.select.Select.{Select}
-use Rattle.languages.specs.Parse.{IsParsed}
-use Rattle.languages.proofs.Literals.{parsed_as}
-use Rattle.languages.proofs.OnLiterals.{query_grammar_on_literals}
-use Rattle.outer_io.specs.Reason.{Reason}
+use Rattle.query_parse.specs.Parse.{IsParsed}
+use Rattle.query_parse.proofs.Literals.{parsed_as}
+use Rattle.query_parse.proofs.OnLiterals.{query_grammar_on_literals}
+use Rattle.refusals.specs.Reason.{Reason}
 use Rattle.verdict.specs.Loading.{bound_in, first_uses, tables_in}
 use Rattle.row_law.specs.Row.{query_text, row_files, row_words}
 

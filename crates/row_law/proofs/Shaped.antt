@@ -4,9 +4,9 @@ use Rattle.std.proofs.Common.{◌≡◌, ◌≢◌, ◌⊎◌, ◌↔◌, ◌<�
 use Rattle.std.proofs.lemmas.List.Elements.{All-cons, All-nil}
 use Rattle.rankings.specs.Order.{IsMember}
 use Rattle.anyk_model.specs.Query.{Column, Equality, item_table, of_column, of_constant}
-use Rattle.join_tree.specs.Graph.{Hypergraph, HasVar, IsGraph}
-use Rattle.join_tree.proofs.Bits.{in_all_below}
-use Rattle.join_tree.proofs.Graphs.{has_atom}
+use Rattle.hyper_graph.specs.Graph.{Hypergraph, HasVar, IsGraph}
+use Rattle.hyper_graph.proofs.Bits.{in_all_below}
+use Rattle.hyper_graph.proofs.Graphs.{has_atom}
 use Rattle.join_tree.specs.Removal.{HasOne, IsLive, IsRun, IsStep, IsTreeOf}
 use Rattle.join_tree.proofs.FromRemoval.{removal_done, tree_from_removal}
 use Rattle.bound_query.specs.Classes.{AreVariables, ColumnBefore, HasVariable, IsFixedTo, IsLeast, IsShared, Linked, Passes, back, forth, row_field, same}

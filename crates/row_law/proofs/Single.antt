@@ -3,8 +3,8 @@ use Rattle.std.proofs.Common.{◌≡◌, ◌<◌, ◌≤◌, ◌^◌, ℕ, zero,
 use Rattle.std.proofs.lemmas.List.Elements.{All-nil}
 use Rattle.anyk_model.specs.Query.{Column, OrderKey, Query, item_table}
 use Rattle.anyk_model.specs.Table.{Table}
-use Rattle.join_tree.specs.Graph.{Hypergraph, IsGraph}
-use Rattle.join_tree.proofs.Bits.{in_all_below}
+use Rattle.hyper_graph.specs.Graph.{Hypergraph, IsGraph}
+use Rattle.hyper_graph.proofs.Bits.{in_all_below}
 use Rattle.join_tree.specs.Removal.{HasOne, IsRun, IsTreeOf}
 use Rattle.join_tree.proofs.FromRemoval.{removal_done, tree_from_removal}
 use Rattle.bound_query.specs.Classes.{AreVariables, IsFixedTo, IsShared, Linked, Passes, back, forth, row_field, same}

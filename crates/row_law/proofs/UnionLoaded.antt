@@ -6,9 +6,9 @@ use Rattle.anyk_model.specs.Query.{OrderKey, Query}
 use Rattle.query_select.specs.declared.select.SelectList.TheVariants.{Columns}
 use Rattle.query_select.specs.declared.select.Select.{Select}
 use Rattle.query_select.specs.declared.select.SelectAll.{SelectAll}
-use Rattle.languages.specs.Parse.{IsParsedAll}
-use Rattle.languages.proofs.Literals.{parsed_all_as}
-use Rattle.languages.proofs.OnLiterals.{query_grammar_on_literals}
+use Rattle.query_parse.specs.Parse.{IsParsedAll}
+use Rattle.query_parse.proofs.Literals.{parsed_all_as}
+use Rattle.query_parse.proofs.OnLiterals.{query_grammar_on_literals}
 use Rattle.verdict.specs.Loading.{all_items, bound_in, first_uses, tables_in}
 use Rattle.row_law.specs.Row.{row_words}
 use Rattle.row_law.specs.UnionRow.{union_files, union_text}

@@ -7,9 +7,10 @@ ghost use Rattle.table_store.specs.Values.{number_of, own_number, with_tables};
 use crate::number::FIRST_TEXT;
 use crate::stored::StoredTable;
 use crate::weight::parse_weight;
-use ground::{Keys, NoMemory};
+use hash_keys::Keys;
 use std::alloc::Global;
 use std::marker::Model;
+use step_counter::NoMemory;
 
 /// The tables of a query in the order in which they were read, numbered from 0.
 #[derive(Drop)]

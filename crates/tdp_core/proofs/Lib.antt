@@ -1,3 +1,4 @@
+pub mod LoopCounts
 pub mod Children
 pub mod GroupMembers
 pub mod GroupsInOne
@@ -14,3 +15,4 @@ pub mod RowKeys
 pub mod RowPlaces
 pub mod AnswerFacts
 pub mod TreeFacts
+pub mod OptionFacts

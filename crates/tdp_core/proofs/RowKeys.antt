@@ -3,8 +3,8 @@ use Rattle.std.proofs.Common.{◌≡◌, ℕ, ◌^◌, ◌<◌, ◌≤◌, ℤ, 
 use Rattle.std.proofs.Math.ListN.{set}
 use Rattle.std.proofs.lemmas.Bool.{cases_eq, eq-eqb, ne_eqb, cond-true, cond-false}
 use Rattle.std.proofs.lemmas.List.{get_or-set_same, get_or-set_other, get_or-replicate, length-replicate}
-use Rattle.rankings.specs.KeyTuple.{slot_of}
-use Rattle.rankings.proofs.KeyNumbers.{sum_of_lists, slot_of_lists}
+use Rattle.tdp_model.specs.KeyTuple.{slot_of}
+use Rattle.tdp_model.proofs.KeyNumbers.{sum_of_lists, slot_of_lists}
 use Rattle.rank_key.specs.Keys.{row_key}
 use Rattle.tdp_core.specs.WellFormed.{RowFits}
 

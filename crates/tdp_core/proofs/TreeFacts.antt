@@ -2,15 +2,15 @@
 use Rattle.std.proofs.Common.{◌≡◌, ◌≢◌, ℕ, zero, suc, ◌+◌, ◌-◌, ◌<◌, ◌≤◌, Bool, true, false, cond, nat_eq, List, [], ◌∷◌, ◌++◌, length, map, get_or, unsigned_abs, refl, sym, ap, subst, ◌∙◌, inl, inr, arith}
 use Rattle.std.proofs.lemmas.Bool.{cases_lt, cases_eq, eq-eqb, ne_eqb, cond-true, cond-false}
 use Rattle.std.proofs.lemmas.List.{length-map, get_or_past}
-use Rattle.rankings.specs.Laws.{TieFreeTree}
-use Rattle.rankings.specs.KeyTuple.{KeyOf, key_below, key_add, key_none, slot_of}
-use Rattle.rankings.specs.KeyNumbers.{sum_of}
-use Rattle.rankings.specs.TreeProblem.{sum_from, bound_of, IsAbove, IsTree, IsTieFree, IsReached, RowHas, PartHas}
-use Rattle.rankings.proofs.KeyTuples.{slot_of_add, slot_of_none, tuple_keys}
-use Rattle.rankings.proofs.KeyNumbers.{sum_of_none}
+use Rattle.tdp_model.specs.Laws.{TieFreeTree}
+use Rattle.tdp_model.specs.KeyTuple.{KeyOf, key_below, key_add, key_none, slot_of}
+use Rattle.tdp_model.specs.KeyNumbers.{sum_of}
+use Rattle.tdp_model.specs.TreeProblem.{sum_from, bound_of, IsAbove, IsTree, IsTieFree, IsReached, RowHas, PartHas}
+use Rattle.tdp_model.proofs.KeyTuples.{slot_of_add, slot_of_none, tuple_keys}
+use Rattle.tdp_model.proofs.KeyNumbers.{sum_of_none}
 use Rattle.rank_key.specs.Keys.{KeyFits, CanSwap}
-use Rattle.rankings.specs.Remains.{AtMost}
-use Rattle.rankings.proofs.LeastKeys.{least_had, least_at_most}
+use Rattle.tdp_model.specs.Remains.{AtMost}
+use Rattle.tdp_model.proofs.LeastKeys.{least_had, least_at_most}
 use Rattle.tdp_core.proofs.KeyRanges.{subtree_fits, part_fits, swap_fits}
 use Rattle.tdp_core.specs.TreeView.{NodeView, node_at, parent, item, cap, rows, number, child_place, group_count, members, group_named, group_number, group, rank, best}
 use Rattle.tdp_core.specs.Solutions.{IsLeastKey}

@@ -1,8 +1,8 @@
 -- What contracts see of a raw tree.
 use Rattle.std.specs.Prelude.{◌≡◌, ℕ, ◌≤◌, ◌<◌, List, [], ◌∷◌, ◌++◌, map, length, slice_index, slice_index_or, slice_get, slice_set, Option}
-use Rattle.rankings.specs.NodeRows.{most_node_rows}
+use Rattle.tdp_model.specs.NodeRows.{most_node_rows}
 use Rattle.std.specs.List.{All, sum_by}
-use Rattle.rankings.specs.KeyTuple.{KeyOf, key_none}
+use Rattle.tdp_model.specs.KeyTuple.{KeyOf, key_none}
 use Rattle.tdp_core.specs.declared.parts.NodeShape.{NodeShape}
 use Rattle.tdp_core.specs.declared.parts.NodeRow.{NodeRow}
 pub use Rattle.tdp_core.specs.RawRows.{RawRowView}

@@ -1,10 +1,10 @@
 -- Solutions of a tree problem: one row for each node, each linked to the row of its node's parent.
 use Rattle.std.specs.Prelude.{◌≡◌, ℕ, ◌<◌, ◌⊎◌, List, Contains, length}
 use Rattle.rankings.specs.Order.{IsRanking}
-use Rattle.rankings.specs.Below.{is_below}
-use Rattle.rankings.specs.KeyTuple.{KeyOf, key_add, key_none, key_below}
-use Rattle.rankings.specs.Remains.{AtMost}
-use Rattle.rankings.specs.TreeProblem.{sum_from, RowHas, SolutionHas}
+use Rattle.tdp_model.specs.Below.{is_below}
+use Rattle.tdp_model.specs.KeyTuple.{KeyOf, key_add, key_none, key_below}
+use Rattle.tdp_model.specs.Remains.{AtMost}
+use Rattle.tdp_model.specs.TreeProblem.{sum_from, RowHas, SolutionHas}
 use Rattle.tdp_core.specs.RawView.{RawView, raw_len, raw_number, raw_rank, own_link, child_link, shape_parent, shape_child_place}
 use Rattle.tdp_core.specs.TreeView.{NodeView, parent, group, rank}
 

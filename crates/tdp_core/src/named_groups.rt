@@ -1,11 +1,11 @@
 //! The groups that the rows of a node name, in one block.
 ghost use Rattle.std.specs.Prelude.{◌≡◌, ℕ, ◌<◌, ◌≤◌, [], ◌∷◌, ◌++◌, length, slice_index, slice_index_or, IfOk, OnOk, OnErr};
-ghost use Rattle.rankings.specs.NodeRows.{most_node_rows};
+ghost use Rattle.tdp_model.specs.NodeRows.{most_node_rows};
 
 use crate::raw_rows::push_each;
-use ground::NoMemory;
 use std::alloc::Global;
 use std::marker::Model;
+use step_counter::NoMemory;
 
 /// For each row of a node the groups of the node's children that it names, children in ascending
 /// order. Rows and children count from 0.

@@ -2,9 +2,9 @@
 ghost use Rattle.std.specs.Prelude.{◌≡◌, ◌==◌, ◌<◌, Some, [], ◌∷◌, ◌++◌, length, slice_get, IfOk, OnOk, OnErr};
 
 use crate::parts::NodeRow;
-use ground::NoMemory;
 use std::alloc::Global;
 use std::marker::Model;
+use step_counter::NoMemory;
 
 /// The rows of a node. Ranks and numbers stand in lists of their own, since what reads the one
 /// seldom needs the other.

@@ -1,11 +1,11 @@
 //! Answers, and what an engine is.
 ghost use Rattle.std.specs.Prelude.{◌≡◌, ℕ, ◌+◌, ◌≤◌, List, [], ◌∷◌, IfOk, IfSome, IfNone, OnErr};
-ghost use Rattle.rankings.specs.KeyNumbers.{numbers};
+ghost use Rattle.tdp_model.specs.KeyNumbers.{numbers};
 ghost use Rattle.tdp_core.specs.AnswerView.{AnswerView, counted};
 
-use ground::{NoMemory, Steps};
 use rank_key::Rank;
 use std::sync::ledger::Ledger;
+use step_counter::{NoMemory, Steps};
 
 /// One answer: the row numbers of a solution, by item, and its rank.
 #[derive(Clone, Copy)]

@@ -5,10 +5,10 @@ ghost use Rattle.std.specs.Vec.{vec_capacity, vec_len};
 ghost use Rattle.tdp_core.specs.RawRows.{RawRowView};
 
 use crate::parts::NodeRow;
-use ground::NoMemory;
 use rank_key::Rank;
 use std::alloc::Global;
 use std::marker::Model;
+use step_counter::NoMemory;
 
 /// The rows of a node. Each has its own link, by which rows of the parent name it, and the link
 /// that it names for each child of its node, children in ascending order. Links are beside the

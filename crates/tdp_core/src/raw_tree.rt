@@ -1,14 +1,15 @@
 //! Trees whose rows are not in groups yet.
 ghost use Rattle.std.specs.Prelude.{◌≡◌, ℕ, ◌+◌, ◌<◌, Some, [], length, replicate, IfOk, OnOk, OnErr};
-ghost use Rattle.rankings.specs.NodeRows.{most_node_rows};
+ghost use Rattle.tdp_model.specs.NodeRows.{most_node_rows};
 ghost use Rattle.tdp_core.specs.RawView.{AreShapes, AreShapesHeld, IsRawFormed, RawRowFits, row_total, with_row, without_rows, shape_at, shape_children, raw_len, raw_row_at, raw_rank, raw_number, own_link, child_link};
 
 use crate::parts::{NodeRow, NodeShape};
 use crate::raw_rows::RawRows;
-use ground::{Keys, NoMemory};
+use hash_keys::Keys;
 use rank_key::Rank;
 use std::alloc::Global;
 use std::marker::Model;
+use step_counter::NoMemory;
 
 /// A tree whose rows are not in groups yet: links say which rows belong together. Contracts see its
 /// shapes and the rows of each node. Nodes and rows count from 0.

@@ -5,10 +5,10 @@ ghost use Rattle.tdp_core.specs.WellFormed.{IsFormed};
 ghost use Rattle.tdp_core.specs.Solutions.{IsLeastKey};
 
 use crate::parts::{NodeParts, NodeRow, NodeShape};
-use ground::Steps;
 use rank_key::Rank;
 use std::marker::Model;
 use std::sync::ledger::Ledger;
+use step_counter::Steps;
 
 /// A well-formed tree. Contracts see the list of its nodes. Nodes, rows, groups and places in a
 /// group count from 0, and so do the children of a node, in ascending order.

@@ -5,8 +5,8 @@ ghost use Rattle.bound_query.specs.WeighedQuery.{Fits};
 
 use bound_query::Query;
 use csv_tables::{TableFault, TableReader};
-use languages::parse;
 use query_bind::bind;
+use query_parse::parse;
 use query_select::Select;
 use std::alloc::Global;
 use table_store::Tables;

@@ -1,5 +1,5 @@
 //! The tables that `load` makes.
-use outer_io::{LOAD_QUERY, tables_of};
+use make_input::{LOAD_QUERY, tables_of};
 use std::alloc::Global;
 
 const SMALL: &[&str] = &[

@@ -15,7 +15,7 @@ mod outside;
 #[cfg(test)]
 mod records;
 #[cfg(test)]
-mod refusals;
+mod refusal_cases;
 #[cfg(test)]
 mod scripts;
 #[cfg(test)]

@@ -1,5 +1,5 @@
 //! Numbers as digits.
-use ground::write_digits;
+use text_lines::write_digits;
 
 #[test]
 fn numbers_are_written(rt: HostRuntime) {

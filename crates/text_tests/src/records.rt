@@ -4,8 +4,8 @@ ghost use Rattle.anyk_model.specs.Query.{IsCombination, row_counts};
 ghost use Rattle.bound_query.specs.WeighedQuery.{Fits};
 
 use crate::fixtures::{R, S, query_of, read_two};
+use answer_print::{RecordWriter, Style, write_header, write_line};
 use bound_query::Query;
-use command_output::{RecordWriter, Style, write_header, write_line};
 use csv_tables::TableReader;
 use std::alloc::Global;
 use table_store::Tables;

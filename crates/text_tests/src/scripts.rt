@@ -1,5 +1,5 @@
 //! Scripts of cursors.
-use languages::{ScriptFault, Step, read_script};
+use session_script::{ScriptFault, Step, read_script};
 use std::alloc::{AllocError, Global};
 
 fn is(bytes: &[u8], text: &str) -> bool {

@@ -1,5 +1,5 @@
 //! Tables: worked files, and that each call succeeds with ample memory, which no clause says.
-use command_output::RecordWriter;
+use answer_print::RecordWriter;
 use csv_tables::{TableFault, TableReader};
 use std::alloc::Global;
 use table_store::Tables;

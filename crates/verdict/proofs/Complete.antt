@@ -2,8 +2,8 @@
 use Rattle.std.proofs.Common.{◌≡◌, ◌⊎◌, Option, Some, None, Result, Ok, Err, inl, inr, ap, sym, refl}
 use Rattle.outer_io.specs.Counts.{Rose}
 use Rattle.outer_io.specs.Files.{Files}
-use Rattle.outer_io.specs.Reason as reason
-use Rattle.outer_io.specs.Reason.{Reason, status_of}
+use Rattle.refusals.specs.Reason as reason
+use Rattle.refusals.specs.Reason.{Reason, status_of}
 use Rattle.verdict.specs.Words.{Asked, no_command, built}
 use Rattle.verdict.specs.AcceptedInput.{Found}
 use Rattle.verdict.specs.Outcome.{Outside, Ended, GotAccepted, GotNothing, IsComplete, IsReason, IsCaused, IsCut, IsDoneWhereAccepted, IsRefusedWhereRefused, IsUnwrittenWhereRefused}

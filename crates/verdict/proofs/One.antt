@@ -1,16 +1,16 @@
 -- An input is loaded in at most one way, and has at most one verdict.
 use Rattle.std.proofs.Common.{◌≡◌, ◌≢◌, ◌+◌, ℕ, Bool, true, false, List, [], ◌∷◌, Option, Result, Ok, Err, inl, inr, refl, ap, subst, sym, ◌∙◌}
 use Rattle.outer_io.specs.Files.{Files}
-use Rattle.languages.specs.declared.fault.ParseFault.{ParseFault}
-use Rattle.languages.specs.declared.fault.ParseFault.TheVariants.{NoMemory as out_of_memory}
+use Rattle.query_parse.specs.declared.fault.ParseFault.{ParseFault}
+use Rattle.query_parse.specs.declared.fault.ParseFault.TheVariants.{NoMemory as out_of_memory}
 use Rattle.query_select.specs.declared.select.Select.{Select}
-use Rattle.languages.specs.Parse.{Agree, Parses, ParsesAll}
-use Rattle.languages.proofs.Exactly.{parses_agree, parses_all_agree}
+use Rattle.query_parse.specs.Parse.{Agree, Parses, ParsesAll}
+use Rattle.query_parse.proofs.Exactly.{parses_agree, parses_all_agree}
 use Rattle.bound_query.specs.Shape.{Flaw, Shape}
 use Rattle.bound_query.proofs.OneShape.{one_shape}
 use Rattle.anyk_model.specs.Query.{Query}
 use Rattle.anyk_model.specs.Table.{Table}
-use Rattle.outer_io.specs.Reason.{Reason, Usage}
+use Rattle.refusals.specs.Reason.{Reason, Usage}
 use Rattle.verdict.specs.MadeFiles.{files_of}
 use Rattle.proof_model.specs.Certificate.{Certificate}
 use Rattle.proof_model.specs.QueryProblem.{problem_of}

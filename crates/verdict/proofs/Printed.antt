@@ -4,8 +4,9 @@ use Rattle.std.specs.Io.KnownBytes.{Appends}
 use Rattle.outer_io.specs.Files.{Files}
 use Rattle.outer_io.specs.declared.fault.PrintFault.{PrintFault}
 use Rattle.outer_io.specs.declared.fault.PrintFault.TheVariants as fault
-use Rattle.outer_io.specs.Printing.{GotBeginning, IsBroken, IsPrintCause, refusal_of, refused}
-use Rattle.outer_io.specs.RefusalReasons.{reason_of}
+use Rattle.outer_io.specs.Printing.{GotBeginning, IsBroken, IsPrintCause}
+use Rattle.refusals.specs.PrintRefusals.{refusal_of, refused}
+use Rattle.refusals.specs.RefusalReasons.{reason_of}
 use Rattle.outer_io.specs.SinkState.{SinkState}
 use Rattle.verdict.specs.AcceptedInput.{Found}
 use Rattle.verdict.specs.Outcome.{GotAccepted, IsCaused, IsComplete, IsCut, IsReason, Outside}

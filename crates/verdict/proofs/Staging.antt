@@ -3,8 +3,8 @@ use Rattle.std.proofs.Common.{◌≡◌, ◌≤◌, ℕ, List, Option, Some, Non
 use Rattle.outer_io.specs.Counts.{RoseAbove}
 use Rattle.outer_io.specs.Files.{Files}
 use Rattle.outer_io.proofs.Counting.{Rose-after}
-use Rattle.outer_io.specs.Reason as reason
-use Rattle.outer_io.specs.Reason.{Reason}
+use Rattle.refusals.specs.Reason as reason
+use Rattle.refusals.specs.Reason.{Reason}
 use Rattle.verdict.specs.StageResults.{Shelved, Fits, Causes, Pure, Staged, NoTurn, EitherTurn, first_turn, second_turn}
 use Rattle.verdict.specs.Loading.{most_bytes}
 use Rattle.verdict.specs.Stages.{Then, refused, followed}

@@ -3,8 +3,8 @@ use Rattle.std.proofs.Common.{◌≡◌, ◌⊎◌, ◌==◌, [], Option, Some, 
 use Rattle.std.specs.List.{list_any}
 use Rattle.std.specs.Io.KnownBytes.{Appends}
 use Rattle.outer_io.specs.Files.{Files}
-use Rattle.outer_io.specs.Reason as reason
-use Rattle.outer_io.specs.Reason.{Reason, status_of}
+use Rattle.refusals.specs.Reason as reason
+use Rattle.refusals.specs.Reason.{Reason, status_of}
 use Rattle.verdict.specs.Words.{Command, Asked, no_command, built}
 use Rattle.verdict.specs.Outcome.{Outside, Outcome, Ended, IsReason, IsComplete, IsDoneWhereAccepted, statuses}
 use Rattle.verdict.proofs.Complete.{complete_only, complete_unrefused, done_only, refused_only, unwritten_only}

@@ -4,7 +4,7 @@ use Rattle.anyk_model.specs.Table.{Table}
 use Rattle.anyk_model.specs.Query.{Query}
 use Rattle.bound_query.specs.WeighedQuery.{BoundQuery}
 use Rattle.bound_query.specs.Shape.{Shape}
-use Rattle.languages.specs.declared.step.Step.{Step}
+use Rattle.session_script.specs.declared.step.Step.{Step}
 use Rattle.proof_model.specs.Certificate.{Certificate}
 use Rattle.anyk_model.specs.TaggedRows.{branch_at}
 use Rattle.verdict.specs.Loading.{Loaded}

@@ -6,7 +6,7 @@ use Rattle.bound_query.specs.Steps.{calls_for}
 use Rattle.verdict.specs.AcceptedInput.{Found, is_union, query_of, structure_of}
 use Rattle.verdict.specs.Output.{asked_list, style_of, tagged_of}
 use Rattle.verdict.specs.UnionBound.{union_cost, union_records}
-use Rattle.verdict.specs.SessionCalls.{session_calls, session_reach}
+use Rattle.output_model.specs.SessionCalls.{session_calls, session_reach}
 use Rattle.verdict.specs.Verdict.{IsVerdict}
 use Rattle.verdict.specs.Words.{Asked, Command, Words, built, load, plan, prove, run, session, verify}
 

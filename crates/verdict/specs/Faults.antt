@@ -1,17 +1,17 @@
 -- The reason for a fault of a part. Running out of memory is not a fault of the input.
 use Rattle.std.specs.Prelude.{ℕ, List, Option}
-use Rattle.languages.specs.declared.fault.ParseFault.{ParseFault}
-use Rattle.languages.specs.declared.fault.ParseFault.TheVariants as parse
-use Rattle.languages.specs.declared.script_fault.ScriptFault.{ScriptFault}
-use Rattle.languages.specs.declared.script_fault.ScriptFault.TheVariants as script
+use Rattle.query_parse.specs.declared.fault.ParseFault.{ParseFault}
+use Rattle.query_parse.specs.declared.fault.ParseFault.TheVariants as parse
+use Rattle.session_script.specs.declared.script_fault.ScriptFault.{ScriptFault}
+use Rattle.session_script.specs.declared.script_fault.ScriptFault.TheVariants as script
 use Rattle.proof_model.specs.declared.fault.ProofFault.{ProofFault}
 use Rattle.proof_model.specs.declared.fault.ProofFault.TheVariants as proof
 use Rattle.query_bind.specs.declared.fault.BindFault.{BindFault}
 use Rattle.query_bind.specs.declared.fault.BindFault.TheVariants as bind
 use Rattle.anyk_model.specs.Table.{Flaw, no_header, too_many_columns, duplicate_name, too_many_rows, ragged}
 use Rattle.bound_query.specs.Shape.{Flaw as ShapeFlaw, cyclic, too_many_rows as too_many_node_rows}
-use Rattle.outer_io.specs.Reason as reason
-use Rattle.outer_io.specs.Reason.{Reason}
+use Rattle.refusals.specs.Reason as reason
+use Rattle.refusals.specs.Reason.{Reason}
 
 abbrev pub of_parse : ParseFault → Reason
 of_parse parse.TooLong = reason.TooLong

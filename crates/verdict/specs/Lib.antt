@@ -6,11 +6,8 @@ pub mod Loading
 pub mod AcceptedInput
 pub mod Verdict
 pub mod Output
-pub mod Session
-pub mod SessionCalls
 pub mod SessionBound
 pub mod UnionBound
-pub mod Summary
 pub mod Outcome
 pub mod Sides
 pub mod Bound

@@ -5,25 +5,25 @@ use Rattle.std.specs.List.{list_any, position_or_len}
 use Rattle.std.specs.Str.{bytes_eq}
 use mathlib.Core.Bool.{beq}
 use Rattle.outer_io.specs.Files.{Files, bytes_of}
-use Rattle.languages.specs.declared.fault.ParseFault.{ParseFault}
-use Rattle.languages.specs.declared.fault.ParseFault.TheVariants.{NoMemory as out_of_memory}
+use Rattle.query_parse.specs.declared.fault.ParseFault.{ParseFault}
+use Rattle.query_parse.specs.declared.fault.ParseFault.TheVariants.{NoMemory as out_of_memory}
 use Rattle.query_select.specs.declared.select.ItemRef.{ItemRef}
 use Rattle.query_select.specs.declared.select.Select.{Select}
 use Rattle.query_select.specs.declared.select.SelectAll.{SelectAll}
-use Rattle.languages.specs.Parse.{IsParsed, IsParsedAll, Faults, FaultsAll}
+use Rattle.query_parse.specs.Parse.{IsParsed, IsParsedAll, Faults, FaultsAll}
 use Rattle.anyk_model.specs.Table.{Table, flaw_of, records_of, table_of}
 use Rattle.anyk_model.specs.Query.{Item, OrderKey, Query}
 use Rattle.query_bind.specs.Bind.{bind_fault}
 use Rattle.query_bind.specs.Binding.{bound_query}
-use Rattle.outer_io.specs.Reason.{Reason, BranchShape, NoFile, TooLarge, UnionBest, UnknownBest, UnknownTable}
-use Rattle.languages.specs.declared.script_fault.ScriptFault.{ScriptFault}
-use Rattle.languages.specs.declared.step.Step.{Step}
-use Rattle.languages.specs.Script.{steps_of}
+use Rattle.refusals.specs.Reason.{Reason, BranchShape, NoFile, TooLarge, UnionBest, UnknownBest, UnknownTable}
+use Rattle.session_script.specs.declared.script_fault.ScriptFault.{ScriptFault}
+use Rattle.session_script.specs.declared.step.Step.{Step}
+use Rattle.session_script.specs.Script.{steps_of}
 use Rattle.proof_model.specs.declared.fault.ProofFault.{ProofFault}
 use Rattle.proof_model.specs.Certificate.{Certificate}
 use Rattle.proof_model.specs.Reading.{proof_of}
 use Rattle.verdict.specs.Faults.{of_parse, of_script, of_proof, of_bind, of_flaw}
-use Rattle.languages.specs.Script.{unless}
+use Rattle.session_script.specs.Script.{unless}
 use Rattle.verdict.specs.Stages.{Then, Is, then_by}
 use Rattle.verdict.specs.Words.{Aside, nothing, script, certificate}
 

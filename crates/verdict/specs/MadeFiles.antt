@@ -1,7 +1,7 @@
 -- The files that a command reads.
 use Rattle.std.specs.Prelude.{ℕ, List, [], ◌∷◌, map, Option, Some}
 use Rattle.std.specs.List.{zip}
-use Rattle.outer_io.specs.Input.{files, load_query, query_file, table_files}
+use Rattle.make_input.specs.Input.{files, load_query, query_file, table_files}
 use Rattle.outer_io.specs.Files.{Files}
 use Rattle.verdict.specs.Words.{Asked, Command, no_command, built, run, plan, session, load, prove, verify}
 

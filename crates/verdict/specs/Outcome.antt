@@ -7,8 +7,8 @@ use Rattle.outer_io.specs.Counts.{Rose, RoseAbove}
 use Rattle.outer_io.specs.Files.{Files}
 use Rattle.query_select.specs.declared.select.Select.{Select}
 use Rattle.rankings.specs.Order.{IsMember}
-use Rattle.outer_io.specs.Reason as reason
-use Rattle.outer_io.specs.Reason.{Reason, status_of, line_of}
+use Rattle.refusals.specs.Reason as reason
+use Rattle.refusals.specs.Reason.{Reason, status_of, line_of}
 use Rattle.verdict.specs.Words.{Command, Asked, Sought, no_command, built, run, plan, session, load, prove, verify, aside_name, sought_by}
 use Rattle.verdict.specs.AcceptedInput.{Found}
 use Rattle.verdict.specs.Loading.{Beside, IsReading, all_items, most_bytes, beside_in, file_in, unknown_table, first_uses, files_read}

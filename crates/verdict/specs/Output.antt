@@ -9,8 +9,8 @@ use Rattle.anyk_model.specs.TaggedRows.{Tagged}
 use Rattle.anyk_model.specs.Union.{union_of}
 use Rattle.anyk_model.specs.UnionOutput.{union_output_of}
 use Rattle.verdict.specs.AcceptedInput.{Found, is_union, query_of, structure_of}
-use Rattle.verdict.specs.Session.{session_text}
-use Rattle.verdict.specs.Summary.{summary_text}
+use Rattle.output_model.specs.Session.{session_text}
+use Rattle.output_model.specs.Summary.{summary_text}
 
 abbrev pub style_of : Words → Style
 style_of words = record { ranks = words.ranks; rows = words.rows; cursor = None }

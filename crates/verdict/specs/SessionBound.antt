@@ -3,9 +3,9 @@ use Rattle.std.specs.Prelude.{◌+◌, ◌*◌, ◌≤◌, ℕ, List, Ok}
 use Rattle.anyk_model.specs.Table.{Table}
 use Rattle.anyk_model.specs.Query.{Query}
 use Rattle.bound_query.specs.Shape.{IsShape, Shape}
-use Rattle.languages.specs.declared.step.Step.{Step}
+use Rattle.session_script.specs.declared.step.Step.{Step}
 use Rattle.bound_query.specs.RunBounds.{cost_over}
-use Rattle.verdict.specs.SessionCalls.{session_calls, session_reach}
+use Rattle.output_model.specs.SessionCalls.{session_calls, session_reach}
 
 -- no more steps than the bound for as many calls as the script reaches far, and 4 more for each
 -- call that it makes

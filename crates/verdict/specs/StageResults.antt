@@ -3,8 +3,8 @@ use Rattle.std.specs.Prelude.{◌≡◌, ◌≤◌, ℕ, List, Option, IfSome, R
 use Rattle.outer_io.specs.Counts.{Rose, RoseAbove}
 use Rattle.outer_io.specs.Files.{Files}
 use Rattle.outer_io.specs.declared.shelf.Shelf.{Ghosts}
-use Rattle.outer_io.specs.Reason as reason
-use Rattle.outer_io.specs.Reason.{Reason}
+use Rattle.refusals.specs.Reason as reason
+use Rattle.refusals.specs.Reason.{Reason}
 use Rattle.verdict.specs.Loading.{most_bytes}
 
 -- what is known and counted of a shelf, before a stage or after it

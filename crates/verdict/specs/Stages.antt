@@ -1,6 +1,6 @@
 -- Stages, one after another: each one finds something, or refuses.
 use Rattle.std.specs.Prelude.{◌≡◌, Result, Ok, Err}
-use Rattle.outer_io.specs.Reason.{Reason}
+use Rattle.refusals.specs.Reason.{Reason}
 
 -- what the second stage finds after the first, or the first refusal
 pub data Then {A B : Type 0} (First : Result A Reason → Type 0)

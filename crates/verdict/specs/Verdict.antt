@@ -5,7 +5,7 @@ use Rattle.outer_io.specs.Files.{Files}
 use Rattle.query_select.specs.declared.select.Select.{Select}
 use Rattle.anyk_model.specs.Query.{Query}
 use Rattle.anyk_model.specs.Table.{Table}
-use Rattle.outer_io.specs.Reason.{Reason, Usage}
+use Rattle.refusals.specs.Reason.{Reason, Usage}
 use Rattle.bound_query.specs.Shape.{Flaw, IsShape, Shape}
 use Rattle.proof_model.specs.Certificate.{Certificate}
 use Rattle.proof_model.specs.QueryProblem.{problem_of}
@@ -17,7 +17,7 @@ use Rattle.verdict.specs.Words.{Asked, Sought, no_command, built, verify, sought
 use Rattle.verdict.specs.Loading.{Beside, Loaded, IsReading, all_items, are_several, beside_in, file_in, told_branch}
 use Rattle.verdict.specs.Loading.{unknown_table, tables_in, first_uses, bound_in, loaded_in}
 use Rattle.verdict.specs.AcceptedInput.{Found, found_of, query_of, structure_of}
-use Rattle.languages.specs.Script.{unless}
+use Rattle.session_script.specs.Script.{unless}
 use Rattle.verdict.specs.Stages.{Then, Is}
 
 -- ---- loading

@@ -1,7 +1,7 @@
 -- What the arguments of the command line ask for, without the engine: both engines give the same
 -- text.
 use Rattle.std.specs.Prelude.{ℕ, List, Bool, true, false, Option, Some, None}
-use Rattle.outer_io.specs.Input.{query_file, table_files}
+use Rattle.make_input.specs.Input.{query_file, table_files}
 
 -- the names of files and tables are written as on the command line
 pub record Words : Type 0 where

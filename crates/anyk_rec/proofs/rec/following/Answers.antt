@@ -1,6 +1,6 @@
 use Rattle.std.proofs.Common.{◌≡◌, ℕ, ◌+◌, ◌-◌, ◌^◌, ◌<◌, ◌≤◌, min, Option, IfSome, IfNone, Result, Ok, Err, IfOk, length, refl, sym, ap, ◌∙◌, subst, arith}
-use Rattle.anyk_rec.specs.Rankings.{group_list}
-use Rattle.anyk_rec.specs.StreamsView.{entry_node, entry_place}
+use Rattle.suffix_streams.specs.Rankings.{group_list}
+use Rattle.suffix_streams.specs.StreamsView.{entry_node, entry_place}
 use Rattle.anyk_rec.specs.RecView.{IsRootEntry, given_of}
 use Rattle.anyk_rec.proofs.Rests.{next_root, next_place, next_end}
 use Rattle.anyk_rec.proofs.rec.following.Goals as goal

@@ -1,5 +1,5 @@
-use Rattle.outer_io.specs.Reason.{Reason}
-use Rattle.outer_io.specs.RefusalReasons.{reason_of}
+use Rattle.refusals.specs.Reason.{Reason}
+use Rattle.refusals.specs.RefusalReasons.{reason_of}
 use Rattle.verdict.specs.AcceptedInput.{Found}
 use Rattle.verdict.specs.MadeFiles.{known_to}
 use Rattle.verdict.specs.Outcome.{Outside}
@@ -7,11 +7,11 @@ use Rattle.verdict.specs.Words.{built}
 use Rattle.verdict.specs.StageResults.{Shelved, shelved}
 use Rattle.outer_io.proofs.Prints.{appends_nothing}
 use Rattle.anyk_top.specs.Plans.{found_in}
-use Rattle.task_input.specs.Tasks.{command_of}
+use Rattle.command_input.specs.Tasks.{command_of}
 use Rattle.verdict.specs.Sides.{seen_by}
 use Rattle.verdict.proofs.Steps.{bounded_found, prompt_found}
 use Rattle.anyk_top.proofs.Bounds.{bounded_early, prompt_early}
-use Rattle.task_input.proofs.Ends.{judged_accepts, judged_reason, judged_caused, judged_cut}
+use Rattle.command_input.proofs.Ends.{judged_accepts, judged_reason, judged_caused, judged_cut}
 use Rattle.verdict.proofs.Printed.{printed_caused, printed_complete, printed_cut, printed_fits}
 use Rattle.anyk_top.proofs.answering.answer_task.Goals as goal
 

@@ -3,7 +3,7 @@ use Rattle.anyk_model.specs.Output.{Style, cut}
 use Rattle.cmd_words.specs.ArgumentMeaning.{words_view}
 use Rattle.outer_io.proofs.Prints.{printed_some}
 use Rattle.outer_io.specs.SinkState.{state_of}
-use Rattle.task_input.specs.Input.{InputView, loaded_of}
+use Rattle.command_input.specs.Input.{InputView, loaded_of}
 use Rattle.plan_build.specs.Plans.{ArePrepared, HavePlans}
 use Rattle.anyk_model.specs.TaggedRows.{branch_at}
 use Rattle.anyk_model.specs.Union.{union_of}
@@ -12,9 +12,9 @@ use Rattle.verdict.specs.AcceptedInput.{found_of, queries_in}
 use Rattle.verdict.specs.Output.{HasOutput}
 use Rattle.verdict.specs.UnionBound.{KeepsUnionPace}
 use Rattle.verdict.specs.Words.{run}
-use Rattle.task_input.specs.Tasks.{words_of}
+use Rattle.command_input.specs.Tasks.{words_of}
 use Rattle.anyk_top.specs.Plans.{shapes_of}
-use Rattle.task_input.proofs.Inputs.{input_view}
+use Rattle.command_input.proofs.Inputs.{input_view}
 use Rattle.anyk_top.specs.Answered.{IsAnswered}
 use Rattle.anyk_top.proofs.Bounds.{several_output, several_paced, several_within}
 use Rattle.anyk_top.proofs.PlanList.{plans_shaped}

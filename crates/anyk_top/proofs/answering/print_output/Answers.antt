@@ -1,15 +1,15 @@
 use Rattle.std.proofs.Common.{◌≡◌, ℕ, None, Option, ap, arith, refl, subst}
 use Rattle.anyk_model.specs.Output.{Style, cut, output_of}
-use Rattle.command_output.specs.StyleView.{style_view}
+use Rattle.answer_print.specs.StyleView.{style_view}
 use Rattle.anyk_model.specs.BestList.{list_of}
 use Rattle.plan_build.specs.Plan.{IsPlanOf, shape_of}
 use Rattle.outer_io.proofs.Prints.{printed_some}
 use Rattle.bound_query.specs.RunBounds.{IsPrepared, KeepsPace}
-use Rattle.verdict.specs.Session.{session_text}
-use Rattle.verdict.specs.Summary.{summary_text}
-use Rattle.task_input.specs.Judgement.{IsUnnamed}
-use Rattle.task_input.specs.Tasks.{command_of}
-use Rattle.task_input.specs.declared.task.Task.{Task}
+use Rattle.output_model.specs.Session.{session_text}
+use Rattle.output_model.specs.Summary.{summary_text}
+use Rattle.command_input.specs.Judgement.{IsUnnamed}
+use Rattle.command_input.specs.Tasks.{command_of}
+use Rattle.command_input.specs.declared.task.Task.{Task}
 use Rattle.plan_build.proofs.ShapeIs.{plan_shape}
 use Rattle.anyk_top.proofs.Prepared.{prepared_over}
 use Rattle.plan_build.proofs.Rooted.{whole_of}

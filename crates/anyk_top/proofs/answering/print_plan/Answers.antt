@@ -1,14 +1,14 @@
 use Rattle.std.proofs.Common.{◌∷◌, [], ℕ, sym, subst}
-use Rattle.task_input.specs.Input.{InputView, loaded_of}
+use Rattle.command_input.specs.Input.{InputView, loaded_of}
 use Rattle.plan_build.specs.Plan.{shape_of}
 use Rattle.plan_build.specs.Plans.{ArePrepared}
 use Rattle.outer_io.specs.SinkState.{state_of}
 use Rattle.verdict.specs.AcceptedInput.{Found, found_of, queries_in}
-use Rattle.task_input.specs.Judgement.{IsUnnamed}
+use Rattle.command_input.specs.Judgement.{IsUnnamed}
 use Rattle.anyk_top.specs.Plans.{IsOnePlanOf}
-use Rattle.task_input.specs.Tasks.{command_of}
-use Rattle.task_input.proofs.Inputs.{input_view}
-use Rattle.task_input.proofs.Judging.{unnamed_of}
+use Rattle.command_input.specs.Tasks.{command_of}
+use Rattle.command_input.proofs.Inputs.{input_view}
+use Rattle.command_input.proofs.Judging.{unnamed_of}
 use Rattle.anyk_top.proofs.PlanList.{first_only, first_planned, one_cost, one_printed}
 use Rattle.anyk_top.specs.Answered.{IsAnswered}
 use Rattle.anyk_top.proofs.answering.print_plan.Goals as goal

@@ -1,16 +1,16 @@
 use Rattle.std.proofs.Common.{Err, Ok, IfErr, subst, sym}
-use Rattle.task_input.specs.Input.{loaded_of}
-use Rattle.outer_io.specs.RefusalReasons.{reason_of}
+use Rattle.command_input.specs.Input.{loaded_of}
+use Rattle.refusals.specs.RefusalReasons.{reason_of}
 use Rattle.verdict.specs.MadeFiles.{known_to}
 use Rattle.verdict.specs.StageResults.{Shelved, shelved}
 use Rattle.verdict.specs.Words.{built}
 use Rattle.anyk_top.specs.Plans.{IsEarlyWithin, plan_reason, planned_result_view, plans_result_view}
-use Rattle.task_input.specs.Tasks.{command_of}
+use Rattle.command_input.specs.Tasks.{command_of}
 use Rattle.std.proofs.lemmas.Result.{IfOk-from_err}
-use Rattle.outer_io.specs.Reason.{Reason}
-use Rattle.task_input.specs.Judgement.{IsJudged}
-use Rattle.task_input.proofs.Handing.{handed_with}
-use Rattle.task_input.proofs.Judging.{looked_refused, looked_then}
+use Rattle.refusals.specs.Reason.{Reason}
+use Rattle.command_input.specs.Judgement.{IsJudged}
+use Rattle.command_input.proofs.Handing.{handed_with}
+use Rattle.command_input.proofs.Judging.{looked_refused, looked_then}
 use Rattle.anyk_top.proofs.EarlyPlans.{early_prepared, early_still}
 use Rattle.anyk_top.proofs.planning.plan_task.Goals as goal
 

@@ -3,14 +3,15 @@ use Rattle.std.proofs.lemmas.Result.{IfOk-from_err}
 use Rattle.plan_build.specs.Plans.{ArePrepared, HavePlans}
 use Rattle.plan_build.specs.RankedPlan.{fixed_key}
 use Rattle.bound_query.specs.WeighedQuery.{BoundQuery, Fits}
-use Rattle.task_input.specs.Input.{InputView, loaded_of}
+use Rattle.command_input.specs.Input.{InputView, loaded_of}
 use Rattle.verdict.specs.AcceptedInput.{found_of, queries_in}
 use Rattle.verdict.specs.StageResults.{Pure}
 use Rattle.verdict.specs.Verdict.{IsShaped}
 use Rattle.anyk_top.specs.Plans.{IsOnePlan, plan_reason, shape_in, shapes_of}
-use Rattle.task_input.proofs.Handing.{handed_on}
-use Rattle.task_input.proofs.Inputs.{input_view}
-use Rattle.anyk_top.proofs.PlanList.{caps_each, flawed_shown, keys_within, one_found, one_item, one_plan, one_prepared, one_refused, only_one, planned_shown, several_found, several_refused}
+use Rattle.command_input.proofs.Handing.{handed_on}
+use Rattle.command_input.proofs.Inputs.{input_view}
+use Rattle.anyk_top.proofs.PlanList.{caps_each, flawed_shown, keys_within, one_found, one_item, one_plan, one_prepared, one_refused, planned_shown, several_found, several_refused}
+use Rattle.command_input.proofs.Singletons.{only_one}
 use Rattle.anyk_top.proofs.planning.plans_of.Goals as goal
 
 pub returns-in-Err : goal.returns-in-Err

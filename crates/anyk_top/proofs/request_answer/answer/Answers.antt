@@ -4,7 +4,7 @@ use Rattle.cmd_words.specs.ArgumentMeaning.{words_view}
 use Rattle.outer_io.specs.Files.{Files}
 use Rattle.verdict.specs.Bound.{IsBounded, IsPrompt}
 use Rattle.verdict.specs.Words.{Words, built, verify}
-use Rattle.task_input.specs.Tasks.{words_of}
+use Rattle.command_input.specs.Tasks.{words_of}
 use Rattle.anyk_top.proofs.request_answer.answer.Goals as goal
 
 -- # The steps of `verify`, of which nothing is said

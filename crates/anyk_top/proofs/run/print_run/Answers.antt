@@ -1,10 +1,10 @@
 use Rattle.std.proofs.Common.{◌≡◌, Err, rules}
-use Rattle.anyk_top.specs.Engines.{calls_of, tree_of}
+use Rattle.engine_choice.specs.Engines.{calls_of, tree_of}
 use Rattle.outer_io.specs.declared.fault.PrintFault.TheVariants as fault
 use Rattle.outer_io.proofs.Prints.{unprinted}
 use Rattle.plan_build.proofs.Rooted.{whole_of}
 use Rattle.plan_build.proofs.ShapeIs.{rows_counted}
-use Rattle.anyk_top.proofs.RunBounds.{called_by, started}
+use Rattle.engine_choice.proofs.RunBounds.{called_by, started}
 use Rattle.anyk_top.proofs.run.print_run.Goals as goal
 
 pub engine_over-requires : goal.engine_over-requires

@@ -1,14 +1,14 @@
 use Rattle.std.proofs.Common.{◌≡◌, ◌≤◌, ◌+◌, ◌-◌, ◌*◌, ℕ, Err, arith, rules}
 use Rattle.anyk_model.specs.BestList.{list_of}
-use Rattle.anyk_top.specs.Engines.{calls_of, tree_of}
+use Rattle.engine_choice.specs.Engines.{calls_of, tree_of}
 use Rattle.outer_io.specs.declared.fault.PrintFault.TheVariants as fault
 use Rattle.outer_io.proofs.Prints.{unprinted}
 use Rattle.bound_query.specs.Steps.{steps_for}
 use Rattle.tdp_core.specs.Shares.{share_of, size_of}
-use Rattle.verdict.specs.SessionCalls.{session_calls, session_reach}
+use Rattle.output_model.specs.SessionCalls.{session_calls, session_reach}
 use Rattle.plan_build.proofs.Rooted.{whole_of}
 use Rattle.plan_build.proofs.ShapeIs.{rows_counted}
-use Rattle.anyk_top.proofs.RunBounds.{called_by, started}
+use Rattle.engine_choice.proofs.RunBounds.{called_by, started}
 use Rattle.anyk_top.proofs.session.print_script.Goals as goal
 
 pub engine_over-requires : goal.engine_over-requires

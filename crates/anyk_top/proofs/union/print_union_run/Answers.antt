@@ -2,11 +2,11 @@ use Rattle.std.proofs.Common.{◌≡◌, ◌∙◌, ℕ, List, Err, sym, subst, 
 use Rattle.anyk_model.specs.Query.{Query}
 use Rattle.bound_query.specs.WeighedQuery.{BoundQuery}
 use Rattle.command_output.specs.UnionSteps.{AreMembers}
-use Rattle.anyk_top.specs.Engines.{rest_of}
+use Rattle.engine_choice.specs.Engines.{rest_of}
 use Rattle.outer_io.specs.declared.fault.PrintFault.TheVariants as fault
 use Rattle.outer_io.proofs.Prints.{unprinted}
-use Rattle.command_output.specs.Merge.{AreLeft, rests_of}
-use Rattle.command_output.proofs.Rankings.{rankings_left}
+use Rattle.union_all.specs.Merge.{AreLeft, rests_of}
+use Rattle.union_all.proofs.Rankings.{rankings_left}
 use Rattle.anyk_model.specs.TaggedRows.{Tagged}
 use Rattle.anyk_model.specs.Union.{left_of, union_of}
 use Rattle.verdict.specs.AcceptedInput.{queries_in}

@@ -4,7 +4,7 @@ use Rattle.std.proofs.lemmas.Result.{IfOk-from_err}
 use Rattle.bound_query.proofs.Pacing.{calls_more, calls_same}
 use Rattle.bound_query.proofs.Calls.{called_more, counted_few, limit_below, limit_reached, limit_within}
 use Rattle.command_output.proofs.GivenEnds.{calls_within, taken_all, taken_limit, taken_more}
-use Rattle.command_output.proofs.Follows.{at_none, at_some}
+use Rattle.tdp_core.proofs.OptionFacts.{at_none, at_some}
 use Rattle.command_output.proofs.Limits.{none_within, reached_within}
 use Rattle.command_output.proofs.ends.take_ends.Goals as goal
 

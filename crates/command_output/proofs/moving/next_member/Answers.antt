@@ -4,7 +4,8 @@ use Rattle.anyk_model.specs.Output.{cut}
 use Rattle.command_output.specs.SessionCosts.{IsWithin, Spent}
 use Rattle.command_output.proofs.SessionCosts.{paid_spent, spent_call, spent_places, within_call, within_spent}
 use Rattle.command_output.proofs.Spending.{at_most_one}
-use Rattle.command_output.proofs.Follows.{at_none, at_some, cut_ended, cut_short, place_kept, same_place_in}
+use Rattle.tdp_core.proofs.OptionFacts.{at_none, at_some}
+use Rattle.command_output.proofs.Follows.{cut_ended, cut_short, place_kept, same_place_in}
 use Rattle.command_output.proofs.Reach.{at_below, at_limit}
 use Rattle.command_output.proofs.moving.next_member.Goals as goal
 

@@ -1,7 +1,7 @@
 use Rattle.outer_io.specs.declared.fault.PrintFault.TheVariants as fault
 use Rattle.outer_io.specs.Printing.{Printed}
 use Rattle.outer_io.proofs.Prints.{unprinted}
-use Rattle.command_output.proofs.HandedOn.{handed_on}
+use Rattle.outer_io.proofs.HandedOn.{handed_on}
 use Rattle.command_output.proofs.moving.print_end.Goals as goal
 
 pub returns-in_err-text : goal.returns-in_err-text

@@ -6,20 +6,21 @@ use Rattle.anyk_model.specs.Query.{IsCombination, row_counts}
 use Rattle.outer_io.specs.declared.fault.PrintFault.TheVariants as fault
 use Rattle.outer_io.specs.Printing.{Printed}
 use Rattle.outer_io.specs.SinkState.{state_of}
-use Rattle.verdict.specs.Session.{next_text}
+use Rattle.output_model.specs.Session.{next_text}
 use Rattle.tdp_core.specs.AnswerView.{AnswerView}
 use Rattle.anyk_model.specs.Output.{cut}
 use Rattle.command_output.specs.SessionCosts.{IsWithin, Spent, calls_at}
 use Rattle.command_output.proofs.Limits.{told_below}
 use Rattle.command_output.specs.SessionListing.{line_in, members_in, ranking_in}
-use Rattle.command_output.proofs.Follows.{always, answer_given, answer_inside, answers_ended, at_none, at_some, ending_left, given_all, given_less, next_done, next_start, place_set, places_set, told_all}
+use Rattle.command_output.proofs.Follows.{always, answer_given, answer_inside, answers_ended, ending_left, given_all, given_less, next_done, next_start, place_set, places_set, told_all}
+use Rattle.tdp_core.proofs.OptionFacts.{at_none, at_some}
 use Rattle.command_output.proofs.SessionCosts.{paid_spent, spent_places}
 use Rattle.command_output.proofs.Reach.{HasGiven, given_done, given_more, given_spent, given_within}
 use Rattle.command_output.proofs.Spending.{all_were, at_most_one, moved_to, next_place, none_given, none_most, none_over, stands_at}
 use Rattle.command_output.proofs.Left.{HasLeft, left_last, left_more, left_none, left_stopped, left_unprinted, left_whole}
 use Rattle.command_output.proofs.moving.print_next.Given.{Over}
 use Rattle.command_output.proofs.moving.print_next.Goals.{At-loop-given}
-use Rattle.command_output.proofs.HandedOn.{handed_on}
+use Rattle.outer_io.proofs.HandedOn.{handed_on}
 use Rattle.command_output.proofs.moving.print_next.Goals as goal
 
 -- # What the proofs share

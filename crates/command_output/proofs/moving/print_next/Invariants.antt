@@ -1,8 +1,8 @@
 use Rattle.std.proofs.Common.{◌≡◌, ◌+◌, ◌-◌, ◌≤◌, ◌++◌, Some, length, drop}
 use Rattle.std.specs.Prelude.{codes, slice_set}
-use Rattle.command_output.specs.CursorSet.{place_of}
+use Rattle.cursor_set.specs.CursorSet.{place_of}
 use Rattle.outer_io.specs.SinkState.{state_of}
-use Rattle.verdict.specs.Session.{next_text}
+use Rattle.output_model.specs.Session.{next_text}
 use Rattle.command_output.specs.SessionCosts.{Spent}
 use Rattle.command_output.specs.SessionListing.{line_in, members_in}
 use Rattle.command_output.proofs.Left.{HasLeft}

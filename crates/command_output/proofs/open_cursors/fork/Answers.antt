@@ -1,5 +1,5 @@
 use Rattle.std.proofs.Common.{ap, refl}
-use Rattle.command_output.specs.CursorSet.{CursorSet}
+use Rattle.cursor_set.specs.CursorSet.{CursorSet}
 use Rattle.command_output.proofs.Moves.{held_forked, only_places, unknown_closed}
 use Rattle.command_output.proofs.open_cursors.fork.Goals as goal
 

@@ -1,5 +1,5 @@
 use Rattle.std.proofs.Common.{ap}
-use Rattle.command_output.specs.CursorSet.{CursorSet}
+use Rattle.cursor_set.specs.CursorSet.{CursorSet}
 use Rattle.command_output.proofs.Moves.{held_new, only_places}
 use Rattle.command_output.proofs.open_cursors.open.Goals as goal
 

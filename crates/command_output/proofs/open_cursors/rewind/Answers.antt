@@ -1,5 +1,5 @@
 use Rattle.std.proofs.Common.{ap, refl, sym, ◌∙◌}
-use Rattle.command_output.specs.CursorSet.{CursorSet}
+use Rattle.cursor_set.specs.CursorSet.{CursorSet}
 use Rattle.command_output.proofs.Moves.{held_at, no_place, only_places, place_held, unknown_closed}
 use Rattle.command_output.proofs.open_cursors.rewind.Goals as goal
 

@@ -2,17 +2,17 @@ use Rattle.std.proofs.Common.{[], length, take}
 use Rattle.anyk_model.specs.Output.{line_text}
 use Rattle.anyk_model.specs.Query.{IsCombination, row_counts}
 use Rattle.tdp_core.specs.AnswerView.{AnswerView}
-use Rattle.node_build.specs.WitnessKey.{combinations_in}
+use Rattle.witness_key.specs.WitnessKey.{combinations_in}
 use Rattle.outer_io.specs.declared.fault.PrintFault.TheVariants as fault
 use Rattle.outer_io.specs.Printing.{Printed}
 use Rattle.outer_io.specs.SinkState.{state_of}
 use Rattle.outer_io.proofs.Prints.{appends_nothing}
 use Rattle.bound_query.proofs.Calls.{called_more, counted_few}
-use Rattle.command_output.specs.StyleView.{style_view}
+use Rattle.answer_print.specs.StyleView.{style_view}
 use Rattle.command_output.proofs.AnswerPacing.{paced_next, paced_same}
-use Rattle.command_output.proofs.Follows.{at_none, at_some}
+use Rattle.tdp_core.proofs.OptionFacts.{at_none, at_some}
 use Rattle.command_output.proofs.Given.{cut_short, first_left, given_more, printed_all, printed_limit, stopped_short}
-use Rattle.command_output.proofs.HandedOn.{handed_on}
+use Rattle.outer_io.proofs.HandedOn.{handed_on}
 use Rattle.command_output.proofs.Limits.{below_limit, below_within, none_within, reached_limit, reached_within}
 use Rattle.command_output.proofs.ranking.print_answers.Goals as goal
 

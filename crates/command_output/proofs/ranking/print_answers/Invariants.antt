@@ -1,10 +1,10 @@
 use Rattle.std.proofs.Common.{length, take}
 use Rattle.anyk_model.specs.Output.{line_text}
 use Rattle.anyk_model.specs.Query.{IsCombination, row_counts}
-use Rattle.command_output.specs.StyleView.{style_view}
+use Rattle.answer_print.specs.StyleView.{style_view}
 use Rattle.outer_io.specs.SinkState.{state_of}
 use Rattle.tdp_core.specs.AnswerView.{AnswerView}
-use Rattle.node_build.specs.WitnessKey.{combinations_in}
+use Rattle.witness_key.specs.WitnessKey.{combinations_in}
 use Rattle.command_output.proofs.Given.{HasPrinted}
 use Rattle.command_output.proofs.ranking.print_answers.Given as goal
 

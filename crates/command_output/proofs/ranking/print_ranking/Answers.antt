@@ -2,13 +2,13 @@ use Rattle.std.proofs.Common.{◌++◌}
 use Rattle.std.specs.List.{flat_map}
 use Rattle.anyk_model.specs.Output.{cut, header_text, line_text}
 use Rattle.bound_query.proofs.Pacing.{paced_after}
-use Rattle.node_build.specs.WitnessKey.{combinations_in}
+use Rattle.witness_key.specs.WitnessKey.{combinations_in}
 use Rattle.outer_io.specs.Printing.{Printed}
 use Rattle.outer_io.specs.SinkState.{state_of}
 use Rattle.outer_io.proofs.Prints.{printed_stopped, printed_then}
-use Rattle.command_output.specs.StyleView.{style_view}
+use Rattle.answer_print.specs.StyleView.{style_view}
 use Rattle.command_output.proofs.Spending.{at_most_one}
-use Rattle.command_output.proofs.HandedOn.{handed_on}
+use Rattle.outer_io.proofs.HandedOn.{handed_on}
 use Rattle.command_output.proofs.ranking.print_ranking.Goals as goal
 
 pub returns-in_err-print_header : goal.returns-in_err-print_header

@@ -1,14 +1,14 @@
 use Rattle.std.proofs.Common.{ℕ, List, ap, subst}
 use Rattle.anyk_model.specs.Output.{cut}
-use Rattle.node_build.specs.WitnessKey.{combinations_in}
+use Rattle.witness_key.specs.WitnessKey.{combinations_in}
 use Rattle.outer_io.specs.Printing.{Printed}
 use Rattle.outer_io.specs.SinkState.{state_of}
 use Rattle.tdp_core.specs.AnswerView.{AnswerView}
-use Rattle.verdict.specs.Session.{no_cursors, session_text}
-use Rattle.verdict.specs.SessionCalls.{calls_of_steps, ends_by_itself, reach_of_steps}
-use Rattle.command_output.specs.CursorSet.{CursorSet, seen_of}
+use Rattle.output_model.specs.Session.{no_cursors, session_text}
+use Rattle.output_model.specs.SessionCalls.{calls_of_steps, ends_by_itself, reach_of_steps}
+use Rattle.cursor_set.specs.CursorSet.{CursorSet, seen_of}
 use Rattle.command_output.specs.SessionCosts.{IsWithin}
-use Rattle.command_output.specs.StyleView.{style_view}
+use Rattle.answer_print.specs.StyleView.{style_view}
 use Rattle.command_output.proofs.SessionCosts.{within_new}
 use Rattle.command_output.proofs.session.print_session.Goals as goal
 

@@ -1,12 +1,12 @@
 use Rattle.std.proofs.Common.{◌≡◌, ◌<◌, get_or, length, refl, subst, sym, ◌∙◌}
 use Rattle.outer_io.specs.Printing.{Printed}
 use Rattle.outer_io.proofs.Prints.{printed_stopped, printed_then}
-use Rattle.node_build.specs.WitnessKey.{AreCombinations}
+use Rattle.witness_key.specs.WitnessKey.{AreCombinations}
 use Rattle.outer_io.specs.SinkState.{state_of}
 use Rattle.command_output.specs.TakenSteps.{State}
 use Rattle.command_output.proofs.Spending.{at_most_more}
 use Rattle.command_output.proofs.SessionRun.{run_all, run_cost, run_more, run_start, run_stopped, run_within}
-use Rattle.command_output.proofs.HandedOn.{handed_on}
+use Rattle.outer_io.proofs.HandedOn.{handed_on}
 use Rattle.command_output.proofs.session.print_steps.Goals as goal
 
 pub returns-in_err-print_header : goal.returns-in_err-print_header

@@ -1,12 +1,12 @@
 use Rattle.std.proofs.Common.{◌∙◌, ℕ, List, Ok, ap, refl, sym}
 use Rattle.std.proofs.lemmas.Result.{IfOk-from_err}
-use Rattle.command_output.specs.CursorSet.{CursorSet}
+use Rattle.cursor_set.specs.CursorSet.{CursorSet}
 use Rattle.outer_io.specs.declared.fault.PrintFault.TheVariants as fault
-use Rattle.languages.specs.declared.step.Step.TheVariants.{Next}
+use Rattle.session_script.specs.declared.step.Step.TheVariants.{Next}
 use Rattle.command_output.specs.SessionListing.{ends_in, line_in, members_in}
 use Rattle.command_output.proofs.Moves.{same_place, unknown_closed}
 use Rattle.command_output.proofs.SessionRun.{is_quiet, next_taken, quiet_taken, taken_as}
-use Rattle.command_output.proofs.HandedOn.{memory_refused}
+use Rattle.outer_io.proofs.HandedOn.{memory_refused}
 use Rattle.command_output.proofs.session.take_step.Goals as goal
 
 pub returns-in_default-cursor_of : goal.returns-in_default-cursor_of

@@ -3,7 +3,7 @@ use Rattle.tdp_core.specs.AnswerView.{AnswerView}
 use Rattle.outer_io.specs.declared.fault.PrintFault.TheVariants as fault
 use Rattle.outer_io.specs.Printing.{Printed}
 use Rattle.outer_io.proofs.Prints.{unprinted}
-use Rattle.command_output.proofs.HandedOn.{handed_on, printed_as}
+use Rattle.outer_io.proofs.HandedOn.{handed_on, printed_as}
 use Rattle.command_output.proofs.EndMembers.{calls_map, ends_text_lem, first_rows, last_rows}
 use Rattle.command_output.proofs.summary.print_summary.Goals as goal
 

@@ -1,5 +1,5 @@
 use Rattle.std.proofs.Common.{◌≡◌, ◌*◌, ◌≤◌, take}
-use Rattle.verdict.specs.Summary.{rows_in_all}
+use Rattle.output_model.specs.Summary.{rows_in_all}
 use Rattle.command_output.proofs.summary_text.rows_in_all.Given as goal
 
 abbrev pub invariant-loop-table : goal.invariant-loop-table

@@ -1,5 +1,5 @@
 use Rattle.std.proofs.Common.{◌≡◌, ◌++◌, ◌∙◌, ℕ, List, Option, ap, append_assoc, codes, decimal, length, option_map, sym, take}
-use Rattle.verdict.specs.Summary.{member_text, rows_in_all}
+use Rattle.output_model.specs.Summary.{member_text, rows_in_all}
 use Rattle.command_output.proofs.summary_text.summary.Goals as goal
 
 joined : (a b c d e f g h i : List ℕ)

@@ -4,7 +4,7 @@ use Rattle.bound_query.specs.WeighedQuery.{BoundQuery}
 use Rattle.outer_io.specs.declared.fault.PrintFault.TheVariants as fault
 use Rattle.outer_io.specs.Printing.{Printed}
 use Rattle.outer_io.proofs.Prints.{unprinted}
-use Rattle.command_output.proofs.HandedOn.{handed_on, printed_as}
+use Rattle.outer_io.proofs.HandedOn.{handed_on, printed_as}
 use Rattle.command_output.proofs.union.print_member.Goals as goal
 
 inside_all : (queries : List BoundQuery) (b : ℕ) → b < length (map (λ (q : BoundQuery). q.query) queries) → b < length queries

@@ -1,5 +1,5 @@
 use Rattle.std.proofs.Common.{[], map, refl}
-use Rattle.command_output.specs.StyleView.{style_view}
+use Rattle.answer_print.specs.StyleView.{style_view}
 use Rattle.bound_query.specs.WeighedQuery.{BoundQuery}
 use Rattle.outer_io.specs.declared.fault.PrintFault.TheVariants as fault
 use Rattle.bound_query.proofs.Calls.{limit_below, limit_reached, limit_within}
@@ -11,9 +11,9 @@ use Rattle.anyk_model.specs.UnionOutput.{union_line_text}
 use Rattle.command_output.proofs.Given.{cut_short, first_left, printed_all, printed_limit, stopped_short}
 use Rattle.command_output.specs.UnionSteps.{IsMember}
 use Rattle.command_output.proofs.UnionMembers.{itself, none_printed, paced_next, paced_same, printed_more, seen_by}
-use Rattle.command_output.proofs.Follows.{at_none, at_some}
+use Rattle.tdp_core.proofs.OptionFacts.{at_none, at_some}
 use Rattle.command_output.proofs.Limits.{none_within, reached_within}
-use Rattle.command_output.proofs.HandedOn.{handed_on}
+use Rattle.outer_io.proofs.HandedOn.{handed_on}
 use Rattle.command_output.proofs.union.print_members.Goals as goal
 
 pub loop-given-init : goal.loop-given-init

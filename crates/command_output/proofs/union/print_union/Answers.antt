@@ -2,7 +2,7 @@ use Rattle.outer_io.specs.Printing.{Printed}
 use Rattle.outer_io.proofs.Prints.{printed_stopped, printed_then}
 use Rattle.command_output.proofs.Spending.{at_most_one}
 use Rattle.command_output.proofs.UnionPacing.{paced_after}
-use Rattle.command_output.proofs.HandedOn.{handed_on}
+use Rattle.outer_io.proofs.HandedOn.{handed_on}
 use Rattle.command_output.proofs.union.print_union.Goals as goal
 
 pub returns-in_err-print_union_header : goal.returns-in_err-print_union_header

@@ -2,7 +2,7 @@ use Rattle.std.proofs.Common.{◌∙◌}
 use Rattle.outer_io.specs.declared.fault.PrintFault.TheVariants as fault
 use Rattle.outer_io.specs.Printing.{Printed}
 use Rattle.outer_io.proofs.Prints.{unprinted}
-use Rattle.command_output.proofs.HandedOn.{handed_on, printed_as}
+use Rattle.outer_io.proofs.HandedOn.{handed_on, printed_as}
 use Rattle.command_output.proofs.union.print_union_header.Goals as goal
 
 pub returns-in_err-write_header_of : goal.returns-in_err-write_header_of

@@ -1,6 +1,6 @@
 use Rattle.std.proofs.Common.{None, length, ℕ, ap, ◌∙◌}
 use Rattle.std.proofs.Math.ListN.{length-set}
-use Rattle.containers.specs.declared.linked.Linked.{Linked}
+use Rattle.stream_store.specs.declared.linked.Linked.{Linked}
 use Rattle.engine_tests.proofs.stores.link_both.Goals as goal
 
 pub returns-then-is_none : goal.returns-then-is_none

@@ -1,7 +1,7 @@
 use Rattle.std.proofs.Common.{◌≡◌, ◌≤◌, ◌+◌, ◌*◌, length, take}
 use Rattle.std.specs.List.{sum_by}
 use Rattle.node_build.specs.PartialTrees.{AreFilled}
-use Rattle.node_build.specs.Pairs.{AreNumbers}
+use Rattle.link_index.specs.Pairs.{AreNumbers}
 use Rattle.node_build.specs.Rows.{lists_of}
 use Rattle.node_build.proofs.filling.add_nodes.Given as goal
 

@@ -2,7 +2,7 @@ use Rattle.std.proofs.Common.{◌≡◌, ◌<◌, ◌≤◌, ◌+◌, ◌-◌, �
 use Rattle.std.proofs.lemmas.List.{map-append, take_all, take_more}
 use Rattle.anyk_model.specs.Table.{field_at, table_at}
 use Rattle.table_store.specs.Values.{number_of}
-use Rattle.node_build.specs.Pairs.{IsNumbered}
+use Rattle.link_index.specs.Pairs.{IsNumbered}
 use Rattle.node_build.specs.Links.{IsListNumber, values_in}
 use Rattle.node_build.proofs.Numbering.{list_more, more_same, more_trans}
 use Rattle.node_build.proofs.links.list_number.Goals as goal

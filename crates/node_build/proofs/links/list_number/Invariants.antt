@@ -1,6 +1,6 @@
 use Rattle.std.proofs.Common.{take}
 use Rattle.anyk_model.specs.Table.{table_at}
-use Rattle.node_build.specs.Pairs.{AreMore}
+use Rattle.link_index.specs.Pairs.{AreMore}
 use Rattle.node_build.specs.Links.{IsListNumber, values_in}
 use Rattle.node_build.proofs.links.list_number.Given as goal
 

@@ -1,7 +1,7 @@
 use Rattle.std.proofs.Common.{◌≤◌, ◌+◌, ◌*◌}
 use Rattle.tdp_core.specs.RawView.{rows_at}
 use Rattle.node_build.specs.PartialTrees.{HasOnlyMore}
-use Rattle.node_build.specs.Pairs.{AreMore}
+use Rattle.link_index.specs.Pairs.{AreMore}
 use Rattle.node_build.specs.Links.{HasRowsOf}
 use Rattle.node_build.specs.Rows.{lists_of}
 use Rattle.node_build.proofs.node.add_rows.Given as goal

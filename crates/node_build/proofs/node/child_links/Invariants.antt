@@ -1,6 +1,6 @@
 use Rattle.std.proofs.Common.{◌≡◌, ◌≤◌, ◌+◌, length}
 use Rattle.tdp_core.specs.TreeView.{kids_below}
-use Rattle.node_build.specs.Pairs.{AreMore}
+use Rattle.link_index.specs.Pairs.{AreMore}
 use Rattle.node_build.specs.Links.{NamesLinks}
 use Rattle.node_build.specs.Nodes.{parent_of}
 use Rattle.node_build.specs.Rows.{lists_of}

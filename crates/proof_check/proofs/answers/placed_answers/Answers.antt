@@ -1,6 +1,6 @@
 use Rattle.std.proofs.Common.{◌≡◌, ◌+◌, ◌<◌, ℕ, suc, length, sym, ap, subst, ◌∙◌, refl, arith}
 use Rattle.std.proofs.lemmas.Result.{IfOk-from_err}
-use Rattle.rankings.specs.Below.{is_below}
+use Rattle.tdp_model.specs.Below.{is_below}
 use Rattle.proof_model.specs.ProofView.{proof_view}
 use Rattle.proof_model.specs.declared.fault.ProofFault.TheVariants as fault
 use Rattle.proof_model.specs.Faults.{TellsFlaw}

@@ -1,10 +1,10 @@
 use Rattle.std.proofs.Common.{◌≡◌, ℕ, ◌<◌, ◌+◌, suc, Option, Some, option_map, unwrap_or, length, sym, ap, subst, ◌∙◌, inl, inr}
 use Rattle.std.proofs.Common.{arith}
 use Rattle.std.proofs.lemmas.Bool.{cases_lt}
-use Rattle.rankings.specs.KeyTuple.{KeyOf, key_add, key_below, key_none}
-use Rattle.rankings.specs.TreeProblem.{sum_from}
-use Rattle.rankings.proofs.KeyTuples.{tuple_keys}
-use Rattle.rankings.proofs.Sums.{sum_last}
+use Rattle.tdp_model.specs.KeyTuple.{KeyOf, key_add, key_below, key_none}
+use Rattle.tdp_model.specs.TreeProblem.{sum_from}
+use Rattle.tdp_model.proofs.KeyTuples.{tuple_keys}
+use Rattle.tdp_model.proofs.Sums.{sum_last}
 use Rattle.rank_key.specs.Keys.{KeyFits}
 use Rattle.tdp_core.specs.RawView.{IsRawFormed}
 use Rattle.proof_model.specs.QueryProblem.{problem_in}

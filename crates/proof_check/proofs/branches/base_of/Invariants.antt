@@ -1,6 +1,6 @@
 use Rattle.std.proofs.Common.{◌≡◌, ℕ, ◌<◌, Some}
-use Rattle.rankings.specs.KeyTuple.{key_add, key_none}
-use Rattle.rankings.specs.TreeProblem.{sum_from}
+use Rattle.tdp_model.specs.KeyTuple.{key_add, key_none}
+use Rattle.tdp_model.specs.TreeProblem.{sum_from}
 use Rattle.proof_check.specs.Levels.{base_part}
 use Rattle.proof_check.proofs.Known.{part_key}
 use Rattle.proof_check.proofs.branches.base_of.Given as goal

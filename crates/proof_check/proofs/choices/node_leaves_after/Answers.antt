@@ -1,5 +1,5 @@
 use Rattle.std.proofs.Common.{◌<◌, ℕ, option_map, length, slice_index, sym, subst}
-use Rattle.rankings.specs.KeyTuple.{KeyOf}
+use Rattle.tdp_model.specs.KeyTuple.{KeyOf}
 use Rattle.tdp_core.specs.RawView.{raw_len}
 use Rattle.proof_check.specs.Levels.{IsPast, IsWay, list_at}
 use Rattle.proof_check.proofs.Preparing.{start_rows}

@@ -2,7 +2,7 @@ use Rattle.std.proofs.Common.{◌≡◌, ◌≢◌, List, suc, ◌+◌, ◌-◌,
 use Rattle.std.proofs.Common.{sym, ap, ◌∙◌, subst, arith}
 use Rattle.anyk_model.specs.Query.{Query}
 use Rattle.anyk_model.specs.Table.{Table}
-use Rattle.rankings.specs.KeyTuple.{key_add}
+use Rattle.tdp_model.specs.KeyTuple.{key_add}
 use Rattle.rank_key.specs.Keys.{KeyFits}
 use Rattle.tdp_core.specs.RawView.{IsRawFormed, raw_len, raw_number, raw_rank}
 use Rattle.proof_model.specs.QueryProblem.{problem_in}

@@ -1,6 +1,6 @@
 use Rattle.std.proofs.Common.{◌≡◌, true, refl, sym, ap, subst, ◌∙◌, inl, inr}
-use Rattle.rankings.specs.KeyNumbers.{key_less}
-use Rattle.rankings.proofs.KeyNumbers.{key_less_below, not_less_at_most}
+use Rattle.tdp_model.specs.KeyNumbers.{key_less}
+use Rattle.tdp_model.proofs.KeyNumbers.{key_less_below, not_less_at_most}
 use Rattle.proof_check.proofs.Known.{in_some}
 use Rattle.proof_check.proofs.leaving.lesser.Goals as goal
 

@@ -1,6 +1,6 @@
 use Rattle.std.proofs.Common.{◌≡◌, ◌+◌, ◌<◌, ℕ, false, true, nat_eq, length, sym, ap, subst, ◌∙◌, arith}
 use Rattle.std.proofs.lemmas.Bool.Decides.{nat_tests}
-use Rattle.rankings.specs.KeyTuple.{key_add}
+use Rattle.tdp_model.specs.KeyTuple.{key_add}
 use Rattle.rank_key.specs.Keys.{KeyFits}
 use Rattle.proof_check.proofs.RankSums.{rank_begun, rank-is, rank_more, rank_skip, rank_sum, solution_within, sums_fit_lem}
 use Rattle.proof_check.proofs.Counts.{below_count, ended}

@@ -1,5 +1,5 @@
 use Rattle.std.proofs.Common.{◌+◌, ◌<◌, length, sym, ap, ◌∙◌}
-use Rattle.rankings.specs.TreeProblem.{sum_from}
+use Rattle.tdp_model.specs.TreeProblem.{sum_from}
 use Rattle.bound_query.proofs.NodeSums.{sum_none}
 use Rattle.proof_check.proofs.Subtrees.{before, below_small, place_more, place_same, place_within}
 use Rattle.proof_check.proofs.Counts.{below_count, ended, few_added, few_fits, few_same, least_both, less_both, less_of, no_more}

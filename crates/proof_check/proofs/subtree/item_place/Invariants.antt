@@ -1,5 +1,5 @@
 use Rattle.std.proofs.Common.{◌≡◌, ◌≤◌, ◌<◌, ◌+◌, ◌*◌, ℕ, cond, nat_lt, length}
-use Rattle.rankings.specs.TreeProblem.{sum_from}
+use Rattle.tdp_model.specs.TreeProblem.{sum_from}
 use Rattle.tdp_core.specs.RawView.{shape_item}
 use Rattle.proof_check.specs.Subtrees.{AreBelow, raw_below}
 use Rattle.proof_check.proofs.subtree.item_place.Given as goal

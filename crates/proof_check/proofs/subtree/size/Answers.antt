@@ -1,5 +1,5 @@
 use Rattle.std.proofs.Common.{◌+◌, ◌<◌, length, refl, sym, ap, ◌∙◌}
-use Rattle.rankings.specs.TreeProblem.{sum_from}
+use Rattle.tdp_model.specs.TreeProblem.{sum_from}
 use Rattle.proof_check.specs.Subtrees.{raw_below}
 use Rattle.bound_query.proofs.NodeSums.{sum_none}
 use Rattle.proof_check.proofs.Subtrees.{below_small, size_more}

@@ -1,5 +1,5 @@
 use Rattle.std.proofs.Common.{◌≡◌, ◌≤◌, ◌<◌, ◌+◌, ℕ, length}
-use Rattle.rankings.specs.TreeProblem.{sum_from}
+use Rattle.tdp_model.specs.TreeProblem.{sum_from}
 use Rattle.proof_check.specs.Subtrees.{AreBelow, raw_below}
 use Rattle.proof_check.proofs.subtree.size.Given as goal
 

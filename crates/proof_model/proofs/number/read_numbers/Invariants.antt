@@ -1,6 +1,6 @@
 use Rattle.std.proofs.Common.{◌≡◌, ◌++◌, length}
 use Rattle.std.specs.Prelude.{option_map}
-use Rattle.ground.specs.Parts.{parts, parts_after}
+use Rattle.text_lines.specs.Parts.{parts, parts_after}
 use Rattle.proof_model.specs.Forms.{numbers_of}
 use Rattle.proof_model.proofs.number.read_numbers.Given as goal
 

@@ -1,5 +1,5 @@
 use Rattle.std.proofs.Common.{sym, ◌∙◌}
-use Rattle.rankings.proofs.KeyNumbers.{key_cancel}
+use Rattle.tdp_model.proofs.KeyNumbers.{key_cancel}
 use Rattle.rank_key.proofs.KeyOrder.{below_cancel_right}
 use Rattle.rank_laws.proofs.addition.compare_joined.Goals as goal
 

@@ -1,5 +1,5 @@
 use Rattle.std.proofs.Common.{ap, sym, subst, ◌∙◌}
-use Rattle.rankings.specs.KeyTuple.{key_add}
+use Rattle.tdp_model.specs.KeyTuple.{key_add}
 use Rattle.rank_key.specs.Keys.{KeyFits}
 use Rattle.rank_key.proofs.KeyOrder.{add_none, none_add}
 use Rattle.rank_laws.proofs.addition.joined_with_zero.Goals as goal

@@ -1,5 +1,5 @@
 use Rattle.std.proofs.Common.{sym, ◌∙◌}
-use Rattle.rankings.proofs.KeyNumbers.{key_less_below}
+use Rattle.tdp_model.proofs.KeyNumbers.{key_less_below}
 use Rattle.rank_key.proofs.KeyOrder.{same_key}
 use Rattle.rank_laws.proofs.order.compare.Goals as goal
 

@@ -1,6 +1,6 @@
 use Rattle.std.proofs.Common.{refl, ◌≡◌, List, [], ◌∷◌, ◌++◌, length, None, ap, ◌∙◌, arith}
-use Rattle.containers.specs.declared.linked.Linked.{Linked}
-use Rattle.containers.specs.Entries.{Entries}
+use Rattle.stream_store.specs.declared.linked.Linked.{Linked}
+use Rattle.stream_store.specs.Entries.{Entries}
 use Rattle.anyk_part.specs.declared.candidate.Link.{Link}
 use Rattle.anyk_part.proofs.Steps.{at_after, chain_after, entries_after, held_after, top_after}
 use Rattle.anyk_part.proofs.frontier.Frontier.advance.Goals as goal

@@ -2,9 +2,9 @@ use Rattle.std.proofs.Common.{◌≡◌, ℕ, ◌+◌, ◌*◌, ◌≤◌, List,
 use Rattle.std.specs.List.{All}
 use Rattle.std.proofs.lemmas.Bool.{false≢true}
 use Rattle.rank_key.proofs.BitLemmas.{bit_length_rises}
-use Rattle.containers.specs.declared.linked.Linked.{Linked}
-use Rattle.containers.specs.Entries.{Entries}
-use Rattle.rankings.specs.Regions.{in_region}
+use Rattle.stream_store.specs.declared.linked.Linked.{Linked}
+use Rattle.stream_store.specs.Entries.{Entries}
+use Rattle.tdp_model.specs.Regions.{in_region}
 use Rattle.tdp_core.specs.TreeView.{members}
 use Rattle.anyk_part.specs.declared.candidate.Link.{Link}
 use Rattle.anyk_part.specs.declared.candidate.Site.{Site}

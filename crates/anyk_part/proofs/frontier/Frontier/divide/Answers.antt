@@ -1,6 +1,6 @@
 use Rattle.std.proofs.Common.{◌<◌, List, length, sym, ap, subst, arith}
-use Rattle.containers.specs.Entries.{Entries}
-use Rattle.containers.specs.declared.entry.Entry.{Entry}
+use Rattle.stream_store.specs.Entries.{Entries}
+use Rattle.take2_heap.specs.declared.entry.Entry.{Entry}
 use Rattle.anyk_part.specs.declared.candidate.Candidate.{Candidate}
 use Rattle.anyk_part.specs.declared.candidate.Link.{Link}
 use Rattle.anyk_part.specs.Walks.{IsDivided}

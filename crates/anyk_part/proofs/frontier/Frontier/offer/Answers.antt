@@ -1,5 +1,5 @@
 use Rattle.std.proofs.Common.{◌<◌, length, subst, sym, arith}
-use Rattle.containers.specs.declared.entry.Entry.{Entry}
+use Rattle.take2_heap.specs.declared.entry.Entry.{Entry}
 use Rattle.tdp_core.specs.TreeView.{members, rows}
 use Rattle.anyk_part.specs.declared.candidate.Candidate.{Candidate}
 use Rattle.anyk_part.specs.Regions.{IsEntry}

@@ -1,7 +1,7 @@
 use Rattle.std.proofs.Common.{◌+◌, List, ◌∷◌, length, subst, ◌∙◌, arith}
 use Rattle.std.specs.List.Sorted.{IsPermutation}
 use Rattle.std.proofs.lemmas.List.{get_or_default}
-use Rattle.containers.specs.declared.entry.Entry.{Entry}
+use Rattle.take2_heap.specs.declared.entry.Entry.{Entry}
 use Rattle.anyk_part.specs.declared.candidate.Candidate.{Candidate}
 use Rattle.rank_key.proofs.BitLemmas.{bit_length_rises}
 use Rattle.anyk_part.proofs.frontier.Frontier.put.Goals as goal

@@ -1,7 +1,7 @@
 use Rattle.std.proofs.Common.{ℕ, ◌+◌, ◌*◌, ◌≤◌, List, length, ap, arith}
 use Rattle.std.proofs.lemmas.Result.{IfOk-from_err}
-use Rattle.containers.specs.declared.linked.Linked.{Linked}
-use Rattle.rankings.specs.Regions.{Region}
+use Rattle.stream_store.specs.declared.linked.Linked.{Linked}
+use Rattle.tdp_model.specs.Regions.{Region}
 use Rattle.tdp_core.specs.AnswerView.{answers_of}
 use Rattle.tdp_core.specs.TreeView.{row_count}
 use Rattle.anyk_part.specs.declared.candidate.Link.{Link}

@@ -1,7 +1,7 @@
 use Rattle.std.proofs.Common.{◌≡◌, ℕ, ◌≤◌, nat_lt, List, refl, sym, ap, ◌∙◌, subst, arith}
 use Rattle.tdp_core.specs.TreeView.{NodeView, group_count}
 use Rattle.tdp_core.specs.WellFormed.{IsFormed}
-use Rattle.anyk_rec.proofs.Errors.{none_given}
+use Rattle.suffix_streams.proofs.Errors.{none_given}
 use Rattle.anyk_rec.proofs.Rests.{rest_begins}
 use Rattle.anyk_rec.proofs.rec.Rec.new.Goals as goal
 

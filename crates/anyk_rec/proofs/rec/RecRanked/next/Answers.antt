@@ -2,12 +2,12 @@ use Rattle.std.proofs.Common.{◌≡◌, ℕ, ◌+◌, ◌*◌, ◌<◌, ◌≤�
 use Rattle.std.proofs.lemmas.Bool.Decides.{nat_tests}
 use Rattle.tdp_core.specs.declared.ranked.Answer.{Answer}
 use Rattle.tdp_core.specs.TreeView.{NodeView, group_count}
-use Rattle.anyk_rec.specs.Rankings.{group_list}
-use Rattle.anyk_rec.specs.StreamsView.{entry_place, entry_key, size_of_node}
+use Rattle.suffix_streams.specs.Rankings.{group_list}
+use Rattle.suffix_streams.specs.StreamsView.{entry_place, entry_key, size_of_node}
 use Rattle.tdp_core.specs.Shares.{size_of, share_of}
 use Rattle.tdp_core.specs.AnswerView.{counted}
 use Rattle.tdp_core.specs.WellFormed.{IsFormed}
-use Rattle.anyk_rec.proofs.Errors.{none_given}
+use Rattle.suffix_streams.proofs.Errors.{none_given}
 use Rattle.anyk_rec.specs.RecView.{RecView, rest_of, IsRootEntry, given_of}
 use Rattle.anyk_rec.proofs.Rests.{rest_none, rest_end, rest_same, rest_next, root_key, given_kept, root_kept, call_within}
 use Rattle.anyk_rec.proofs.rec.RecRanked.next.Goals as goal

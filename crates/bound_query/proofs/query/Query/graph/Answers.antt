@@ -1,7 +1,7 @@
 use Rattle.std.proofs.Common.{◌≡◌, ◌≤◌, ◌∙◌, sym, ap, subst, length, arith, ℕ}
 use Rattle.std.proofs.lemmas.List.{length-map}
 use Rattle.std.proofs.lemmas.Result.{IfOk-weaker}
-use Rattle.join_tree.specs.Graph.{Hypergraph}
+use Rattle.hyper_graph.specs.Graph.{Hypergraph}
 use Rattle.std.proofs.Common.{Vec, Global}
 use Rattle.bound_query.specs.Graph.{IsGraphOf}
 use Rattle.bound_query.specs.StoredParts.{lists_view}

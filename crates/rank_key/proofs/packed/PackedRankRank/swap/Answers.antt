@@ -1,7 +1,7 @@
 use Rattle.std.proofs.Common.{◌≡◌, ◌+ℤ◌, ◌-ℤ◌, sym, ap, subst, ◌∙◌}
 use Rattle.std.specs.Prelude.{FitsSigned}
 use Rattle.std.specs.Int.{w128}
-use Rattle.rankings.specs.KeyTuple.{key_add}
+use Rattle.tdp_model.specs.KeyTuple.{key_add}
 use Rattle.rank_key.proofs.KeyOrder.{rest_is}
 use Rattle.rank_key.specs.Packed.{packed_key}
 use Rattle.rank_key.proofs.Adding.{number_sum, number_rest, read, sum_read, difference_read, number_read, read_fits}

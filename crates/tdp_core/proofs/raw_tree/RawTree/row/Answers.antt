@@ -1,5 +1,5 @@
 use Rattle.std.proofs.Common.{◌≡◌, ◌<◌, length, map, slice_get, sym, ap, ◌∙◌, arith}
-use Rattle.rankings.specs.KeyTuple.{key_none}
+use Rattle.tdp_model.specs.KeyTuple.{key_none}
 use Rattle.tdp_core.specs.RawView.{RawView, rows_at}
 use Rattle.tdp_core.proofs.RawReads.{list_read, part_read}
 use Rattle.tdp_core.proofs.raw_tree.RawTree.row.Goals as goal

@@ -1,0 +1,4 @@
+pub mod KeySums
+pub mod Places
+pub mod Pushing
+pub mod Written

@@ -1,0 +1,4 @@
+pub mod FirstSums
+pub mod RecordWriters
+pub mod StyleView
+pub mod WrittenRecords

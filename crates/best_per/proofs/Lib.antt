@@ -1,0 +1,4 @@
+pub mod Counts
+pub mod Queues
+pub mod Rests
+pub mod RootPlaces

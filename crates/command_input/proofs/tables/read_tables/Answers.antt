@@ -1,0 +1,17 @@
+use Rattle.std.proofs.Common.{◌≡◌, ◌∙◌, List, Ok, ap, length}
+use Rattle.std.specs.Result.{result_and}
+use Rattle.anyk_model.specs.Table.{Table}
+use Rattle.command_input.specs.StageViews.{said_as, tables_result_view}
+use Rattle.command_input.proofs.Reading.{handed_count, handed_tables}
+use Rattle.command_input.proofs.tables.read_tables.Goals as goal
+
+pub returns : goal.returns
+returns g c = record {
+  staged =
+      λ named known.
+      let read = c.read_each-read.result in
+      let shown : tables_result_view c.and.result ≡ said_as c.read_each-read.new.reader read =
+      ap tables_result_view c.and.ensures ∙ ap (λ (t : List Table). tables_result_view (result_and read (Ok t))) c.into_tables.ensures ∙ handed_tables read c.read_each-read.new.reader in
+      rw shown (c.read_each-read.ensures.staged named known);
+  count = rw (c.and.ensures, c.into_tables.ensures) (handed_count c.read_each-read.result c.read_each-read.new.reader (length c.args.entries.now) c.read_each-read.ensures.count);
+}

@@ -1,8 +1,0 @@
-use Rattle.std.proofs.Common.{◌≡◌, ◌++◌, [], ℕ, replicate, subst, rules}
-use Rattle.command_output.specs.WrittenRecords.{HasFields}
-use Rattle.command_output.proofs.header_fields.push_empty.Goals as goal
-
-pub returns : goal.returns
-returns c = λ fields has.
-    let all : c.loop-field._field ≡ c.args.count = search rules in
-    subst (λ (n : ℕ). HasFields (fields ++ replicate n []) c.loop-field.records.begun) all (c.loop-field.invariant fields has)

@@ -1,0 +1,103 @@
+//! The command `verify`.
+ghost use Rattle.std.specs.Prelude.{◌≡◌, ◌∷◌, [], IfErr, None, OnOk, length};
+ghost use Rattle.cmd_words.specs.ArgumentMeaning.{words_view};
+ghost use Rattle.command_input.specs.Input.{loaded_of};
+ghost use Rattle.bound_query.specs.Shape.{Shape};
+ghost use Rattle.outer_io.specs.Printing.{Printed};
+ghost use Rattle.refusals.specs.RefusalReasons.{reason_of};
+ghost use Rattle.outer_io.specs.SinkState.{state_of};
+ghost use Rattle.verdict.specs.AcceptedInput.{found_of};
+ghost use Rattle.verdict.specs.Output.{answers_text};
+ghost use Rattle.verdict.specs.Outcome.{IsCaused, IsComplete, IsCut, IsReason};
+ghost use Rattle.verdict.specs.Words.{built, verify};
+ghost use Rattle.command_input.specs.Tasks.{words_of};
+ghost use Rattle.command_verify.specs.Verifications.{HasAnswers, IsShown};
+ghost use Rattle.verdict.specs.Sides.{seen_by};
+
+use crate::checking::check_proof;
+use crate::fault::check_refusal;
+use crate::printing::print_listed;
+use answer_print::Style;
+use cmd_words::Words;
+use command_input::{Aside, Input, look_up};
+use hash_keys::Keys;
+use outer_io::{PrintFault, Shelf, Sink};
+use refusals::{Refusal, refused};
+use std::alloc::Global;
+use std::sync::ledger::Ledger;
+use step_counter::Steps;
+
+/// Reads the input of `verify`, checks its certificate, and prints the answers that it lists. The
+/// result is an error if the input is refused, if the certificate is not valid, if a read or a
+/// write failed, or if memory is refused.
+pub fn answer_verified<'a, F: Shelf, S: Sink, L: Ledger>(
+    alloc: Global,
+    proof: &'a str,
+    words: &'a Words,
+    shelf: &mut F,
+    out: &mut S,
+    keys: Keys,
+    steps: &mut Steps<L>,
+) -> Result<(), Refusal<'a>>
+    ensures done { let command = verify proof.now (words_of (words_view words.now)) in
+        OnOk result (IsComplete (built command) (F.files shelf.old)
+        (seen_by F.Shelf S.Sink shelf.old out.old) (seen_by F.Shelf S.Sink shelf.new out.new)) }
+    ensures fits { let command = verify proof.now (words_of (words_view words.now)) in
+        IfErr result (λ refusal. IsReason (built command) (F.files shelf.old) (reason_of refusal)) }
+    ensures caused { IfErr result (λ refusal. IsCaused
+        (seen_by F.Shelf S.Sink shelf.old out.old)
+        (seen_by F.Shelf S.Sink shelf.new out.new) (reason_of refusal)) }
+    ensures cut { let command = verify proof.now (words_of (words_view words.now)) in
+        IfErr result (λ refusal. IsCut (built command) (F.files shelf.old)
+        (seen_by F.Shelf S.Sink shelf.old out.old)
+        (seen_by F.Shelf S.Sink shelf.new out.new) (reason_of refusal)) }
+{
+    let aside = Aside::Certificate(proof);
+    match look_up(alloc, words, false, aside, None, shelf, keys) {
+        Ok(input) => print_verified(alloc, words, &input, out, steps),
+        Err(refusal) => Err(refusal),
+    }
+}
+
+/// Checks the certificate of the input, and prints the answers that it lists. The result is an
+/// error if the certificate is not valid, if a write failed, or if memory is refused.
+fn print_verified<'a, S: Sink, L: Ledger>(
+    alloc: Global,
+    words: &Words,
+    input: &Input,
+    out: &mut S,
+    steps: &mut Steps<L>,
+) -> Result<(), Refusal<'a>>
+    requires one { length input.now.queries ≡ 1 }
+    requires unnamed { input.now.best ≡ None }
+    ensures { IsShown (words_of (words_view words.now)) (loaded_of input.now)
+        (state_of S.Sink out.old) (state_of S.Sink out.new) result }
+{
+    let query = &input.queries[0];
+    match check_proof(alloc, query, &input.tables, &input.proof, steps) {
+        Ok(answers) => refused(print_checked(alloc, words, input, &answers, out)),
+        Err(fault) => Err(check_refusal(fault)),
+    }
+}
+
+/// Prints the header, and the answers that the certificate lists.
+fn print_checked<S: Sink>(
+    alloc: Global,
+    words: &Words,
+    input: &Input,
+    answers: &[[u32; 16]],
+    out: &mut S,
+) -> Result<(), PrintFault>
+    requires { HasAnswers input.now answers.now }
+    ensures { (shape : Shape) → Printed (state_of S.Sink out.old) (state_of S.Sink out.new)
+        (answers_text (words_of (words_view words.now))
+        (found_of (loaded_of input.now) (shape ∷ []))) result }
+{
+    let style = Style {
+        ranks: words.ranks,
+        rows: words.rows,
+        cursor: None,
+    };
+    let query = &input.queries[0];
+    print_listed(alloc, query, &input.tables, &style, answers, out)
+}

@@ -1,5 +1,0 @@
-pub mod Buckets
-pub mod Entries
-pub mod Heap
-pub mod Height
-pub mod Order

@@ -1,0 +1,4 @@
+pub mod Bests
+pub mod Left
+pub mod RootSlots
+pub mod RunBounds

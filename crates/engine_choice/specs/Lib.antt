@@ -1,0 +1,3 @@
+pub mod AskedList
+pub mod BestKey
+pub mod Engines

@@ -1,3 +1,0 @@
-mod Keys
-pub mod Parts
-pub mod SpacedNumbers

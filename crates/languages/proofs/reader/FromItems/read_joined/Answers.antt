@@ -1,5 +1,0 @@
-use Rattle.languages.proofs.Stepping.{condition_steps}
-use Rattle.languages.proofs.reader.FromItems.read_joined.Goals as goal
-
-pub several-requires : goal.several-requires
-several-requires c = condition_steps

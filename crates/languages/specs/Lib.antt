@@ -1,9 +1,0 @@
-pub mod FirstFault
-pub mod Forms
-pub mod Grammar
-pub mod Names
-pub mod Parse
-pub mod Places
-pub mod Reading
-pub mod Script
-pub mod Words

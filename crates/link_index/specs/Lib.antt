@@ -1,0 +1,2 @@
+pub mod LinkTable
+pub mod Pairs

@@ -1,5 +1,0 @@
-use Rattle.node_build.proofs.Rankings.{orders_agree}
-use Rattle.node_build.proofs.key_laws.both_orders_agree.Goals as goal
-
-pub returns : goal.returns
-returns c = λ d query tables a b keys items of_a of_b. orders_agree d query tables a b keys items of_a of_b

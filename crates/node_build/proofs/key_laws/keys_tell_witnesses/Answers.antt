@@ -1,5 +1,0 @@
-use Rattle.node_build.proofs.Rankings.{keys_tell_witnesses_lem}
-use Rattle.node_build.proofs.key_laws.keys_tell_witnesses.Goals as goal
-
-pub returns : goal.returns
-returns c = λ d query tables a b items of_a of_b alike. keys_tell_witnesses_lem d query tables a b items of_a of_b alike

@@ -1,5 +1,0 @@
-use Rattle.std.proofs.Common.{append-nil}
-use Rattle.outer_io.proofs.line.write_in_table.Goals as goal
-
-pub returns : goal.returns
-returns g c = rw (append-nil c.args.after.now) at c.write_pieces.ensures

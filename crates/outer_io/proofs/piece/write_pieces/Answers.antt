@@ -1,9 +1,0 @@
-use Rattle.std.proofs.Common.{◌≡◌, Err, rules}
-use Rattle.outer_io.specs.Pieces.{text_of_piece}
-use Rattle.outer_io.proofs.Pieces.{Sent-cut}
-use Rattle.outer_io.proofs.piece.write_pieces.Goals as goal
-
-pub returns-in_err-write_piece : goal.returns-in_err-write_piece
-returns-in_err-write_piece g c =
-    let e : c.from_residual.result ≡ Err c.in_err-write_piece.field-0.0 = search rules in
-    rw e (Sent-cut text_of_piece _ _ _ _ _ _ _ c.loop-piece.invariant.sent c.loop-piece.invariant.faults c.loop-piece-test.true c.in_err-write_piece.ensures)

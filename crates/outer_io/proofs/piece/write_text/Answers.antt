@@ -1,5 +1,0 @@
-use Rattle.outer_io.proofs.Sending.{Sent-written}
-use Rattle.outer_io.proofs.piece.write_text.Goals as goal
-
-pub returns : goal.returns
-returns g c = Sent-written _ _ _ _ c.write_all.ensures.all c.write_all.ensures.part c.write_all.ensures.cause c.write_all.ensures.faults

@@ -1,8 +1,0 @@
-use Rattle.plan_build.proofs.Handed.{handed}
-use Rattle.plan_build.proofs.reduction.reduce.Goals as goal
-
-pub returns : goal.returns
-returns g c = record {
-  reduced = handed c.and.result c.reduce_nodes-reduced.result _ _ c.and.ensures c.reduce_nodes-reduced.ensures.reduced;
-  cost = c.reduce_nodes-reduced.ensures.cost;
-}

@@ -1,4 +1,0 @@
-use Rattle.plan_tests.proofs.refusals.a_join_comes_back_after_each_refusal.Given as goal
-
-abbrev pub ghosts-comes_back : goal.ghosts-comes_back
-ghosts-comes_back g a = record { name = a.blank.name; parts = a.blank.parts }

@@ -1,0 +1,10 @@
+pub mod BestSums
+pub mod ChosenDown
+pub mod Given
+pub mod Groups
+pub mod Listing
+pub mod NodeBounds
+pub mod PlanProblem
+pub mod PlanText
+pub mod Pushed
+pub mod Writes

@@ -1,0 +1,32 @@
+-- An item and a condition, read part by part.
+use Rattle.std.proofs.Common.{◌≡◌, ◌∙◌, ℕ, List, Ok, refl, sym, ap}
+use Rattle.query_select.specs.declared.select.ItemRef.{ItemRef}
+use Rattle.query_select.specs.declared.select.Side.{Side}
+use Rattle.query_select.specs.declared.token.Kind.TheVariants as kind
+use Rattle.query_select.specs.declared.token.Token.{Token}
+use Rattle.query_select.specs.Lexeme.{Lexeme, lexeme}
+use Rattle.query_parse.specs.declared.fault.ParseFault.{ParseFault}
+use Rattle.query_parse.specs.Reading.{◌>>=◌, Fails, Read, alias_at, condition_at, expect_at, item_at, side_at, with_left}
+use Rattle.query_parse.proofs.Columns.{fails_on}
+
+module _ (ts rest : List Lexeme) (table : Token) (named : expect_at kind.Name ts ≡ Ok (lexeme table, rest)) where
+  pub item_read : (left : List Lexeme) (alias : Token) (x : ItemRef) → alias_at (lexeme table) rest ≡ Ok (lexeme alias, left)
+      → x ≡ record { table = table.body.now; alias = alias.body.now; at = table.at } → item_at ts ≡ Ok (x, left)
+  unfolding item_at
+  item_read left alias x b c =
+      ap (λ (r : Read Lexeme). r >>= λ t. alias_at t.0 t.1 >>= λ a. let i : Read ItemRef = Ok (record { table = t.0.body; alias = a.0.body; at = t.0.at }, a.1) in i) named
+      ∙ ap (λ (r : Read Lexeme). r >>= λ a. let i : Read ItemRef = Ok (record { table = table.body.now; alias = a.0.body; at = table.at }, a.1) in i) b
+      ∙ ap (λ (i : ItemRef). Ok (i, left)) (sym c)
+
+  pub alias_fails : (end : ℕ) (e : ParseFault) → Fails end e (alias_at (lexeme table) rest) → Fails end e (item_at ts)
+  unfolding item_at
+  alias_fails end e h = rw named (fails_on end e (alias_at (lexeme table) rest) _ h)
+
+module _ (ts rest : List Lexeme) (left : Side) (read : side_at ts ≡ Ok (left, rest)) where
+  pub condition_is : (equals : Lexeme) (after : List Lexeme) → expect_at kind.Equals rest ≡ Ok (equals, after) → condition_at ts ≡ with_left left after
+  unfolding condition_at
+  condition_is equals after e = rw (read, e) refl
+
+  pub equals_fails : (end : ℕ) (e : ParseFault) → Fails end e (expect_at kind.Equals rest) → Fails end e (condition_at ts)
+  unfolding condition_at
+  equals_fails end e h = rw read (fails_on end e (expect_at kind.Equals rest) _ h)

@@ -1,5 +1,0 @@
-use Rattle.rankings.proofs.KeyTuples.{tuple_keys}
-use Rattle.rankings.proofs.tree_laws.keys_are_ordered.Goals as goal
-
-pub returns : goal.returns
-returns c = tuple_keys

@@ -1,8 +1,0 @@
-use Rattle.rankings.specs.KeyTuple.{key_below, key_add, key_none}
-use Rattle.rankings.proofs.KeyTuples.{tuple_keys}
-use Rattle.rankings.proofs.Begin.{ranking_of_root}
-use Rattle.rankings.proofs.tree_laws.root_ranking.Goals as goal
-
-pub returns : goal.returns
-returns c = λ d e n depth t ks p q h.
-    ranking_of_root (key_below d e) (key_add d e) (key_none d e) (tuple_keys d e) t.nodes t.parent t.rank t.group t.best _ t.formed t.item t.number t.slot t.tie_free n depth ks p q h

@@ -1,0 +1,4 @@
+pub mod CoreItems
+pub mod Pieces
+pub mod Samples
+pub mod Sending

@@ -1,0 +1,5 @@
+use Rattle.std.proofs.Common.{append-nil}
+use Rattle.refusals.proofs.line.write_at.Goals as goal
+
+pub returns : goal.returns
+returns g c = rw (append-nil c.args.what.now) at c.write_pieces.ensures

@@ -1,0 +1,6 @@
+pub mod Core
+pub mod Forms
+pub mod Pieces
+pub mod Reason
+pub mod RefusalReasons
+pub mod PrintRefusals

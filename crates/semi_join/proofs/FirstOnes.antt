@@ -1,0 +1,67 @@
+-- The children of a node, the groups that a row names and the rows that stay, among the first n.
+use Rattle.std.proofs.Common.{◌≡◌, ℕ, zero, suc, ◌+◌, Bool, true, false, cond, nat_eq, ◌&&◌, List, [], ◌∷◌, ◌++◌, map, refl, ap, ◌∙◌, arith}
+use Rattle.std.specs.List.{filter, list_any, list_all, position_or_len, range_with_len}
+use Rattle.std.proofs.lemmas.List.Elements.{filter-append}
+use Rattle.std.proofs.lemmas.List.Folds.{list_all-append}
+use Rattle.std.proofs.lemmas.List.FromFn.{map-range_with_len_more}
+use Rattle.tdp_core.specs.RawView.{RawView, child_link}
+use Rattle.semi_join.specs.Reduction.{child_links, has_partners}
+
+-- # Ranges
+
+pub range_more : (a n : ℕ) → range_with_len a (suc n) ≡ range_with_len a n ++ ((a + n) ∷ [])
+range_more a zero = let e : a ≡ a + 0 = omega arith in ap (λ k. k ∷ []) e
+range_more a (suc n) = let e : (a + 1) + n ≡ a + suc n = omega arith in ap (λ l. a ∷ l) (range_more (a + 1) n ∙ ap (λ k. range_with_len (a + 1) n ++ (k ∷ [])) e)
+
+pub range_end : (n : ℕ) → range_with_len 0 (suc n) ≡ range_with_len 0 n ++ (n ∷ [])
+range_end n = let e : 0 + n ≡ n = omega arith in range_more 0 n ∙ ap (λ k. range_with_len 0 n ++ (k ∷ [])) e
+
+append_none : (xs : List ℕ) → xs ++ [] ≡ xs
+append_none [] = refl
+append_none (x ∷ xs) = ap (λ l. x ∷ l) (append_none xs)
+
+append_cond : (b : Bool) (xs : List ℕ) (x : ℕ) → xs ++ cond b (x ∷ []) [] ≡ cond b (xs ++ (x ∷ [])) xs
+append_cond true xs x = refl
+append_cond false xs x = append_none xs
+
+filter_last : (p : ℕ → Bool) (xs : List ℕ) (x : ℕ) → filter p (xs ++ (x ∷ [])) ≡ cond (p x) (filter p xs ++ (x ∷ [])) (filter p xs)
+filter_last p xs x = filter-append p xs (x ∷ []) ∙ append_cond (p x) (filter p xs) x
+
+-- # Children
+
+-- which of the n nodes after v are its children
+abbrev pub children_among : (ℕ → ℕ) → ℕ → ℕ → List ℕ
+children_among parent v n = filter (λ u. nat_eq (parent u) v) (range_with_len (suc v) n)
+
+pub children_more : (parent : ℕ → ℕ) (v n : ℕ) → children_among parent v (suc n) ≡ cond (nat_eq (parent (suc v + n)) v) (children_among parent v n ++ ((suc v + n) ∷ [])) (children_among parent v n)
+children_more parent v n = ap (filter (λ u. nat_eq (parent u) v)) (range_more (suc v) n) ∙ filter_last (λ u. nat_eq (parent u) v) (range_with_len (suc v) n) (suc v + n)
+
+module _ {R : Type 0} (raw : RawView R) (v : ℕ) (later : List (List ℕ)) where
+  -- for each of the first n children there is a group that row i names
+  abbrev pub has_first : ℕ → ℕ → Bool
+  has_first n i = list_all (λ c. list_any (nat_eq (child_link raw v i c)) (child_links raw v later c)) (range_with_len 0 n)
+
+  and_true : (a : Bool) → (a && true) ≡ a
+  and_true true = refl
+  and_true false = refl
+
+  pub has_more : (n i : ℕ) → has_first (suc n) i ≡ (has_first n i && list_any (nat_eq (child_link raw v i n)) (child_links raw v later n))
+  has_more n i =
+      let p : ℕ → Bool = λ c. list_any (nat_eq (child_link raw v i c)) (child_links raw v later c) in
+      ap (list_all p) (range_end n) ∙ list_all-append p (range_with_len 0 n) (n ∷ []) ∙ ap (λ b. list_all p (range_with_len 0 n) && b) (and_true (p n))
+
+  -- the numbers of these groups
+  abbrev pub named_first : ℕ → ℕ → List ℕ
+  named_first n i = map (λ c. position_or_len (nat_eq (child_link raw v i c)) (child_links raw v later c)) (range_with_len 0 n)
+
+  pub named_last : (n i : ℕ) → named_first (n + 1) i ≡ named_first n i ++ (position_or_len (nat_eq (child_link raw v i n)) (child_links raw v later n) ∷ [])
+  named_last n i =
+      let here : 0 + n ≡ n = omega arith in
+      map-range_with_len_more (λ c. position_or_len (nat_eq (child_link raw v i c)) (child_links raw v later c)) 0 n n here
+
+  -- which of the first n rows stay
+  abbrev pub kept_first : ℕ → List ℕ
+  kept_first n = filter (has_partners raw v later) (range_with_len 0 n)
+
+  pub kept_more : (n : ℕ) → kept_first (suc n) ≡ cond (has_partners raw v later n) (kept_first n ++ (n ∷ [])) (kept_first n)
+  kept_more n = ap (filter (has_partners raw v later)) (range_end n) ∙ filter_last (has_partners raw v later) (range_with_len 0 n) n

@@ -1,0 +1,3 @@
+pub mod GroupedTrees
+pub mod ReducedTrees
+pub mod Reduction

@@ -1,0 +1,130 @@
+use Rattle.std.proofs.Common.{Fits, w64, [], ◌≡◌, suc, ℕ, ◌+◌, ◌<◌, ◌≤◌, length, get_or, is_some, sym, ap, ◌∙◌, subst, arith}
+use Rattle.tdp_core.specs.TreeView.{parent}
+use Rattle.tdp_core.proofs.Children.{kids_below_most}
+use Rattle.take2_heap.specs.Order.{IsLeast}
+use Rattle.suffix_streams.specs.NodeStreamsView.{product_at, known_of}
+use Rattle.suffix_streams.specs.TreeStreams.{products_of, product_of, part_known}
+use Rattle.suffix_streams.proofs.Heads.{lists_at}
+use Rattle.suffix_streams.proofs.Entries.{parts_of, child_in}
+use Rattle.suffix_streams.proofs.RowOffers.{offered_cell, offered_key, offered_sum, IsTopSum, top_sum}
+use Rattle.suffix_streams.proofs.reads.known_sum.Given.{Over}
+use Rattle.suffix_streams.proofs.reads.known_sum.Goals.{After-index-nodes-node, After-cell-cell, In-Some}
+use Rattle.suffix_streams.proofs.reads.known_sum.Goals as goal
+
+-- # Numbers
+
+in_same : (v n m : ℕ) → v < n → m ≡ n → v < m
+in_same v n m l e = omega arith
+
+in_equal : (v n m : ℕ) → v < n → n ≡ m → v < m
+in_equal v n m l e = omega arith
+
+next_in : (c n m : ℕ) → c < n → n ≡ m → c + 1 ≤ m
+next_in c n m l e = omega arith
+
+next_is : (c : ℕ) → c + 1 ≡ suc c
+next_is c = omega arith
+
+few_steps : (s : ℕ) → s ≤ s + 3
+few_steps s = omega arith
+
+child_fits : (i k n : ℕ) → i < k → k ≤ n → n ≤ 16 → Fits w64 (i + 1)
+child_fits i k n l most few = omega arith
+
+-- # What the proofs share
+
+module _ (g : Over) where
+  product_is : (c : After-index-nodes-node g) → product_of c.args.nodes.now c.args.node c.args.row c.args.child ≡ product_at c.index-nodes-node.result c.args.row c.args.child
+  product_is c = ap (λ n. product_at n c.args.row c.args.child) (lists_at c.args.nodes.now c.args.node c.index-nodes-node.result c.index-nodes-node.is (in_same _ _ _ c.requires.node c.requires.formed.all_nodes))
+
+  products_are : (c : After-index-nodes-node g) → length (products_of c.args.nodes.now c.args.node c.args.row) ≡ length (get_or c.index-nodes-node.result.products c.args.row [])
+  products_are c = ap (λ n. length (get_or n.products c.args.row [])) (lists_at c.args.nodes.now c.args.node c.index-nodes-node.result c.index-nodes-node.is (in_same _ _ _ c.requires.node c.requires.formed.all_nodes))
+
+  within : (c : After-index-nodes-node g) → c.args.place < part_known c.args.nodes.now c.args.node c.args.row (suc c.args.child)
+  within c =
+      let more : c.args.child + 1 ≡ suc c.args.child = next_is c.args.child in
+      subst (λ k. c.args.place < part_known c.args.nodes.now c.args.node c.args.row k) more c.requires.place
+
+  cell_is : (c : After-cell-cell g) → product_of c.args.nodes.now c.args.node c.args.row c.args.child ≡ product_at c.index-nodes-node.result c.args.row c.args.child → c.cell-cell.result ≡ get_or (product_of c.args.nodes.now c.args.node c.args.row c.args.child).found c.args.place c.cell-cell.result
+  cell_is c same = c.cell-cell.ensures c.cell-cell.result ∙ ap (λ p. get_or p.found c.args.place c.cell-cell.result) (sym same)
+
+  -- the top of the frontier is this solution
+  top_of : (c : In-Some g) → product_of c.args.nodes.now c.args.node c.args.row c.args.child ≡ product_at c.index-nodes-node.result c.args.row c.args.child → c.args.place < part_known c.args.nodes.now c.args.node c.args.row (suc c.args.child)
+      → IsTopSum g.R.Rank.KEYS g.R.Rank.key c.args.tree.now c.args.entries.now.entries c.args.nodes.now c.args.node c.args.row c.args.child c.args.place c.in-Some.top
+  top_of c same known =
+      let more : c.args.child + 1 ≡ suc c.args.child = next_is c.args.child in
+      top_sum g.R.Rank.KEYS g.R.Rank.key c.args.tree.now c.args.entries.now.entries c.args.nodes.now c.requires.formed c.args.node c.args.row c.args.child c.args.place c.requires.node c.requires.row c.requires.child known
+      c.in-Some.top (subst (λ p. 0 < length p.frontier) (sym same) (c.product_top.ensures.variant.0 (ap is_some c.in-Some.is))) (λ x. c.in-Some.ensures.top x ∙ ap (λ p. get_or p.frontier 0 x) (sym same))
+      (subst (λ p. IsLeast g.R.Rank.KEYS g.R.Rank.key c.in-Some.top p.frontier) (sym same) c.in-Some.ensures.least)
+      (omega (arith, ap (λ p. length p.found) same, ap (λ k. known_of c.index-nodes-node.result c.args.row k) more, c.known.ensures, c.if-known-place.true))
+
+pub overflow_add-child : goal.overflow_add-child
+overflow_add-child g c =
+    child_fits _ _ _ (child_in g.R.Rank.KEYS g.R.Rank.key c.args.tree.now c.args.entries.now.entries c.args.nodes.now c.requires.formed c.args.node c.args.row c.args.child c.requires.node c.requires.row c.requires.child) (kids_below_most (parent c.args.tree.now) c.args.node (length c.args.tree.now)) c.requires.formed.tree.shaped.few_nodes
+
+pub cell-cell-requires-clause-place : goal.cell-cell-requires-clause-place
+cell-cell-requires-clause-place g c =
+    let at = goal.at.cell-cell-requires-clause-place g c in
+    in_equal _ _ _ (within g at.After-index-nodes-node) (ap (λ p. length p.found) (product_is g at.After-index-nodes-node))
+
+pub cell_rank-rank-requires-clause-parts : goal.cell_rank-rank-requires-clause-parts
+cell_rank-rank-requires-clause-parts g c = parts_of g.R.Rank.KEYS g.R.Rank.key c.args.tree.now c.args.entries.now.entries c.args.nodes.now c.requires.formed c.args.node c.args.row c.args.child c.requires.node c.requires.row c.requires.child
+
+pub cell_rank-rank-requires-clause-cell : goal.cell_rank-rank-requires-clause-cell
+cell_rank-rank-requires-clause-cell g c =
+    let at = goal.at.cell_rank-rank-requires-clause-cell g c in
+    offered_cell g.R.Rank.KEYS g.R.Rank.key c.args.tree.now c.args.entries.now.entries c.args.nodes.now c.requires.formed c.args.node c.args.row c.args.child c.args.place c.requires.node c.requires.row c.requires.child (within g at.After-index-nodes-node)
+    c.cell-cell.result (cell_is g at.After-cell-cell (product_is g at.After-index-nodes-node))
+
+pub offset_bounds-nodes-node : goal.offset_bounds-nodes-node
+offset_bounds-nodes-node g c = omega (arith, c.requires.formed.all_nodes, c.requires.node)
+
+pub bounds-nodes-node : goal.bounds-nodes-node
+bounds-nodes-node g c = in_same _ _ _ c.requires.node c.requires.formed.all_nodes
+
+pub known-requires : goal.known-requires
+known-requires g c = record { count = next_in _ _ _ c.requires.child (products_are g (goal.at.known-requires g c).After-index-nodes-node) }
+
+pub overflow_add-place : goal.overflow_add-place
+overflow_add-place g c =
+    let at = goal.at.overflow_add-place g c in
+    let more : c.args.child + 1 ≡ suc c.args.child = next_is c.args.child in
+    omega (arith, within g at.After-index-nodes-node, ap (λ p. length p.found) (product_is g at.After-index-nodes-node), ap (λ k. known_of c.index-nodes-node.result c.args.row k) more, c.known.ensures, c.known.type_inv)
+
+pub product_top-requires : goal.product_top-requires
+product_top-requires g c = record { child = in_equal _ _ _ c.requires.child (products_are g (goal.at.product_top-requires g c).After-index-nodes-node) }
+
+pub returns-in-Some : goal.returns-in-Some
+returns-in-Some g c =
+    let at = goal.at.returns-in-Some g c in
+    record {
+      key = (top_of g at.In-Some (product_is g at.After-index-nodes-node) (within g at.After-index-nodes-node)).rank;
+      sum = (top_of g at.In-Some (product_is g at.After-index-nodes-node) (within g at.After-index-nodes-node)).sum;
+      cost = few_steps _;
+    }
+
+pub cell-cell-requires-clause-child : goal.cell-cell-requires-clause-child
+cell-cell-requires-clause-child g c = in_equal _ _ _ c.requires.child (products_are g (goal.at.cell-cell-requires-clause-child g c).After-index-nodes-node)
+
+pub cell_rank-rank-requires-clause-formed : goal.cell_rank-rank-requires-clause-formed
+cell_rank-rank-requires-clause-formed g c = c.requires.formed.tree
+
+pub cell_rank-rank-requires-clause-node : goal.cell_rank-rank-requires-clause-node
+cell_rank-rank-requires-clause-node g c = c.requires.node
+
+pub cell_rank-rank-requires-clause-row : goal.cell_rank-rank-requires-clause-row
+cell_rank-rank-requires-clause-row g c = c.requires.row
+
+pub returns : goal.returns
+returns g c =
+    let at = goal.at.returns g c in
+    record {
+      cost = c.cell_rank-rank.ensures.cost;
+      key =
+          c.cell_rank-rank.ensures.key
+          ∙ offered_key g.R.Rank.KEYS g.R.Rank.key c.args.tree.now c.args.entries.now.entries c.args.nodes.now c.requires.formed c.args.node c.args.row c.args.child c.args.place c.requires.node c.requires.row c.requires.child (within g at.After-index-nodes-node)
+          c.cell-cell.result (cell_is g at.After-cell-cell (product_is g at.After-index-nodes-node));
+      sum =
+          offered_sum g.R.Rank.KEYS g.R.Rank.key c.args.tree.now c.args.entries.now.entries c.args.nodes.now c.requires.formed c.args.node c.args.row c.args.child c.args.place c.requires.node c.requires.row c.requires.child (within g at.After-index-nodes-node)
+          c.cell-cell.result (cell_is g at.After-cell-cell (product_is g at.After-index-nodes-node));
+    }

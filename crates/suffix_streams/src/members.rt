@@ -1,0 +1,158 @@
+//! The first solutions of the members of a group. They are in heap order: the members below member
+//! j are 2j + 1 and 2j + 2, and no first solution of theirs is before the one of j.
+ghost use Rattle.std.specs.Prelude.{◌≡◌, ℕ, ◌+◌, ◌*◌, ◌<◌, ◌≤◌, length, slice_set, slice_index, slice_index_or};
+ghost use Rattle.rank_key.specs.Bits.{bit_length};
+ghost use Rattle.take2_heap.specs.Order.{IsLeast};
+ghost use Rattle.tdp_core.specs.TreeView.{group_count, members};
+ghost use Rattle.tdp_core.specs.WellFormed.{IsFormed};
+ghost use Rattle.suffix_streams.specs.TreeStreams.{IsHeaded, IsStreams, lists_of, stream_of};
+ghost use Rattle.suffix_streams.specs.NodeStreamsView.{with_queue};
+ghost use Rattle.suffix_streams.specs.Firsts.{IsFirstOf, IsFirstBelow, AreFirstsMoved, can_enter};
+
+use crate::node::NodeStreams;
+use crate::reads::first_cell;
+use crate::source::{Source, source_row};
+use crate::stream::Found;
+use rank_key::Rank;
+use std::alloc::Allocator;
+use std::sync::ledger::Ledger;
+use step_counter::Steps;
+use stream_store::Store;
+use take2_heap::Entry;
+use tdp_core::Tree;
+
+/// The first solution of a member of a group. It takes at most four steps.
+pub(crate) fn first_solution<R: Rank, A: Allocator + Clone, L: Ledger>(
+    tree: &Tree<R>,
+    nodes: &[NodeStreams<R, A>],
+    entries: &Store<Found<R>, A>,
+    node: u32,
+    group: u32,
+    member: u32,
+    steps: &mut Steps<L>,
+) -> Entry<R, Source>
+    requires formed { IsFormed R.KEYS R.key tree.now }
+    requires node { node < length tree.now }
+    requires group { group < group_count tree.now node }
+    requires member { member < length (members tree.now node group) }
+    requires headed { IsHeaded R.KEYS R.key tree.now entries.now.entries nodes.now node
+        (slice_index (members tree.now node group) member) }
+    ensures first { IsFirstOf R.KEYS R.key tree.now entries.now.entries node group member result }
+    ensures cost { steps.new ≤ steps.old + 4 }
+{
+    let row = source_row(tree, node, group, member, steps);
+    let number = tree.row_at(node, row, steps).row;
+    let rank = tree.best(node, row, steps);
+    let cell = first_cell(tree, nodes, entries, node, row, steps);
+    Entry {
+        rank,
+        tag: Source {
+            member,
+            place: 0,
+            row,
+            number,
+            cell,
+        },
+    }
+}
+
+/// The first solution of a member below another one, whose first solution was passed. `None` if
+/// there is no such member.
+fn first_below<R: Rank, A: Allocator + Clone, L: Ledger>(
+    tree: &Tree<R>,
+    nodes: &[NodeStreams<R, A>],
+    entries: &Store<Found<R>, A>,
+    node: u32,
+    group: u32,
+    member: u64,
+    steps: &mut Steps<L>,
+) -> Option<Entry<R, Source>>
+    requires formed { IsStreams R.KEYS R.key tree.now entries.now.entries nodes.now }
+    requires node { node < length tree.now }
+    requires group { group < group_count tree.now node }
+    ensures below { IsFirstBelow R.KEYS R.key tree.now entries.now.entries node group 1 member
+        result }
+    ensures cost { steps.new ≤ steps.old + 4 }
+{
+    if member >= tree.group_len(node, group) as u64 {
+        return None;
+    }
+    Some(first_solution(tree, nodes, entries, node, group, member as u32, steps))
+}
+
+/// The first solutions of the two members below a member, whose first solution was passed.
+fn firsts_below<R: Rank, A: Allocator + Clone, L: Ledger>(
+    tree: &Tree<R>,
+    nodes: &[NodeStreams<R, A>],
+    entries: &Store<Found<R>, A>,
+    node: u32,
+    group: u32,
+    member: u32,
+    steps: &mut Steps<L>,
+) -> (Option<Entry<R, Source>>, Option<Entry<R, Source>>)
+    requires formed { IsStreams R.KEYS R.key tree.now entries.now.entries nodes.now }
+    requires node { node < length tree.now }
+    requires group { group < group_count tree.now node }
+    ensures left { IsFirstBelow R.KEYS R.key tree.now entries.now.entries node group 1
+        (2 * member + 1) result.0 }
+    ensures right { IsFirstBelow R.KEYS R.key tree.now entries.now.entries node group 1
+        (2 * member + 2) result.1 }
+    ensures cost { steps.new ≤ steps.old + 8 }
+{
+    let left = 2 * member as u64 + 1;
+    (
+        first_below(tree, nodes, entries, node, group, left, steps),
+        first_below(tree, nodes, entries, node, group, left + 1, steps),
+    )
+}
+
+/// Passes the last solution of a group, which comes from this member. `place` is the place after it
+/// in the ranking of the member's solutions. `next` enters the queue, if there is one, and if a
+/// first solution is passed, so do the first solutions of the members below.
+pub(crate) fn pass_last<R: Rank, A: Allocator + Clone, L: Ledger>(
+    tree: &Tree<R>,
+    nodes: &mut Vec<NodeStreams<R, A>, A>,
+    entries: &Store<Found<R>, A>,
+    node: u32,
+    group: u32,
+    member: u32,
+    place: u32,
+    next: Option<Entry<R, Source>>,
+    steps: &mut Steps<L>,
+)
+    requires formed { IsStreams R.KEYS R.key tree.now entries.now.entries nodes.old.items }
+    requires node { node < length tree.now }
+    requires group { group < group_count tree.now node }
+    requires top { 0 < length (stream_of nodes.old.items node group).queue }
+    requires room { place ≡ 1 → can_enter (length (members tree.now node group))
+        ≤ (stream_of nodes.old.items node group).room }
+    ensures changed { nodes.new.items
+        ≡ slice_set nodes.old.items node (with_queue (lists_of nodes.old.items node) group
+        (stream_of nodes.new.items node group).queue
+        (stream_of nodes.new.items node group).room) }
+    ensures moved { AreFirstsMoved R.KEYS R.key tree.now entries.now.entries node group member place
+        next (stream_of nodes.old.items node group).queue
+        (stream_of nodes.new.items node group).queue }
+    ensures least { (d : Entry R Source)
+        → IsLeast R.KEYS R.key (slice_index_or (stream_of nodes.old.items node group).queue 0 d)
+        (stream_of nodes.old.items node group).queue }
+    ensures cost { steps.new
+        ≤ steps.old + 8 + 2 * bit_length (length (stream_of nodes.old.items node group).queue)
+        + bit_length (length (stream_of nodes.old.items node group).queue + 1)
+        + bit_length (length (stream_of nodes.new.items node group).queue) }
+{
+    if place == 1 {
+        let (left, right) = firsts_below(
+            tree,
+            nodes.as_slice(),
+            entries,
+            node,
+            group,
+            member,
+            steps,
+        );
+        nodes[node as usize].pass(group, next, left, right, steps);
+    } else {
+        nodes[node as usize].pass(group, next, None, None, steps);
+    }
+}

@@ -1,5 +1,0 @@
-use Rattle.task_input.proofs.BoundQueries.{HasQueries}
-use Rattle.task_input.proofs.binding.bind_each.Given as goal
-
-abbrev pub invariant-loop-select : goal.invariant-loop-select
-invariant-loop-select l = HasQueries l.selects l.tables l.select-index l.rest l.queries.items

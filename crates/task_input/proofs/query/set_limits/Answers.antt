@@ -1,8 +1,0 @@
-use Rattle.std.proofs.Common.{refl}
-use Rattle.query_bind.proofs.Labels.{mapped_more}
-use Rattle.task_input.specs.Limits.{limited}
-use Rattle.task_input.proofs.query.set_limits.Goals as goal
-
-pub loop-select-preserved : goal.loop-select-preserved
-loop-select-preserved c =
-    mapped_more (limited c.args.limit) c.args.selects.now c.loop-select.selects c.loop-select.select-index c.select-item.result _ c.loop-select-test.true c.loop-select.invariant refl

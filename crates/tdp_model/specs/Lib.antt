@@ -1,0 +1,13 @@
+pub mod KeyLaws
+pub mod Remains
+pub mod Heap
+pub mod Regions
+pub mod StagedProblem
+pub mod Queue
+pub mod Product
+pub mod TreeProblem
+pub mod Below
+pub mod KeyTuple
+pub mod Laws
+pub mod KeyNumbers
+pub mod NodeRows

@@ -1,0 +1,13 @@
+pub mod Copies
+pub mod FirstParts
+pub mod FirstWalk
+pub mod Grouping
+pub mod LaterNodes
+pub mod Leasts
+pub mod NodeReads
+pub mod NodeSolved
+pub mod RankingHead
+pub mod ReorderedNodes
+pub mod RootRows
+pub mod RowHeaps
+pub mod RowTotals

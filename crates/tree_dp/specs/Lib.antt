@@ -1,0 +1,4 @@
+pub mod BestRanking
+pub mod Orders
+pub mod Progress
+pub mod SolvedTrees

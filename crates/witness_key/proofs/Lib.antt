@@ -1,0 +1,10 @@
+pub mod Combinations
+pub mod KeyRows
+pub mod Members
+pub mod Orders
+pub mod Rankings
+pub mod TreeWitnesses
+pub mod WitnessKeys
+pub mod WitnessRows
+pub mod WitnessSums
+pub mod WitnessTrees
