@@ -9,8 +9,7 @@ down to a crate and to one of its parts:
 
     proof    the crate itself, from nothing
     tests    the crate with its tests, from nothing
-    seed     the crate once more, which its edits begin with, and the check after the last edit that the seed still holds
-    edits    the edits, each over the seed
+    edits    its edits, each over the work of those before it, and the check after the last one that the crate itself still holds
     running  its tests, or its program
 
 Only what the command started counts, so that other work on the machine is in no figure. At the end the script prints a table
@@ -33,7 +32,7 @@ from collections import defaultdict
 from datetime import date
 from pathlib import Path
 
-PARTS = ("proof", "tests", "seed", "edits", "running")
+PARTS = ("proof", "tests", "edits", "running")
 BEGIN, END = "<!-- table: begin -->", "<!-- table: end -->"
 TICK = os.sysconf("SC_CLK_TCK")
 OWN = str(os.getpid())
@@ -48,9 +47,9 @@ def place_of(words, folder):
     """The crate and the part of it that a process works for, or None if it is none of the prover's."""
     program = os.path.basename(words[0])
     if program == "rattle" and len(words) > 1 and words[1] in ("check", "build"):
-        crate, seed = value_after(words, "--crate-name"), value_after(words, "--incremental")
+        crate = value_after(words, "--crate-name")
         if os.path.basename(folder).startswith("rt-edit-"):
-            return crate, "edits" if re.search(r"/\d+$", seed) or not seed else "seed"
+            return crate, "edits"
         return crate, "tests" if "--test" in words else "proof"
     made = next((it for it in words if re.search(r"/rt-run-[^/]*/bin/", it)), "")
     if made:
@@ -143,8 +142,8 @@ def table(root, crates, seconds, memory, whole, minutes):
     lines = [
         f"Taken on {date.today()} with `{version()}` on {len(os.sched_getaffinity(0))} processors. Processor seconds; memory in MB.",
         "",
-        "| crate | proof | with tests | seed | edits | number of edits | one edit | running | all | memory |",
-        "|---|---:|---:|---:|---:|---:|---:|---:|---:|---:|",
+        "| crate | proof | with tests | edits | number of edits | running | all | memory |",
+        "|---|---:|---:|---:|---:|---:|---:|---:|",
     ]
     total = dict.fromkeys(PARTS, 0.0)
     for name in sorted(crates, key=lambda it: -sum(seconds[it].values())):
@@ -152,16 +151,12 @@ def table(root, crates, seconds, memory, whole, minutes):
         for part in PARTS:
             total[part] += used[part]
         shown = [f"{used[part]:.0f}" if used[part] >= 0.5 else "" for part in PARTS]
-        each = f"{used['edits'] / count:.0f}" if count else ""
         lines.append(
-            f"| {name} | {shown[0]} | {shown[1]} | {shown[2]} | {shown[3]} | {count or ''} | {each} | {shown[4]} "
-            f"| {sum(used.values()):.0f} | {memory[name] // 1024} |"
+            f"| {name} | {shown[0]} | {shown[1]} | {shown[2]} | {count or ''} | {shown[3]} | {sum(used.values()):.0f} | {memory[name] // 1024} |"
         )
     counts = sum(edits_of(root, it) for it in crates)
-    shown = " | ".join(f"{total[part]:.0f}" for part in PARTS[:4])
-    lines.append(
-        f"| **all** | {shown} | {counts} | {total['edits'] / max(counts, 1):.0f} | {total['running']:.0f} | {sum(total.values()):.0f} | |"
-    )
+    shown = " | ".join(f"{total[part]:.0f}" for part in PARTS[:3])
+    lines.append(f"| **all** | {shown} | {counts} | {total['running']:.0f} | {sum(total.values()):.0f} | |")
     length, chain = longest_chain(crates, seconds)
     lines += [
         "",
