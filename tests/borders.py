@@ -7,6 +7,7 @@ A crate can name only the libraries that its line of crates.txt lists: `rt` refu
 that file has it. These are looked at:
 
 - crates.txt lists each folder of crates/, lowest first: what a crate names comes before it.
+- The picture of the layers has each crate but those of tests, and none on its right reaches one on its left.
 - The table 'The crates' has the same crates in the same order, and each head lib.rt hands out the names that its row has.
 - Each row of the table 'What a crate must never know' holds. Its last column has one of the forms
 
@@ -49,6 +50,18 @@ def rows_of(page, title):
     section = page.partition(f"\n## {title}\n")[2].partition("\n## ")[0]
     rows = [[it.strip() for it in line.strip("|").split("|")] for line in section.split("\n") if line.startswith("|")]
     return rows[2:] or sys.exit(f"borders: FAILED: {PAGE} has no table below '{title}'")
+
+
+def picture(page, named):
+    """The two sides of the picture of the layers, and why they are not as it says, or None."""
+    block = page.partition("\n## The layers\n")[2].partition("```\n")[2].partition("```")[0].split("\n")
+    middle, side = block[0].find("of any tree"), {}
+    for line in block:
+        side.update({it[0]: it.start() >= middle for it in re.finditer(r"\w+", line) if it[0] in named})
+    wrong = [f"{it} is not in it" for it in named if it not in side and not TESTS.fullmatch(it)]
+    for crate in (it for it in named if side.get(it)):
+        wrong += [f"{crate} is over {it}" for it in sorted(reached(crate, named)) if side.get(it) is False]
+    yield "The right side of the picture knows nothing of the left", "; ".join(wrong) or None
 
 
 def words(text):
@@ -121,7 +134,7 @@ def main():
     arguments(__doc__)
     named, page = lines_of_crates(), read(PAGE)
     looked = failed = 0
-    for what, why in [*order(named), *heads(page, named), *borders(page, named)]:
+    for what, why in [*order(named), *picture(page, named), *heads(page, named), *borders(page, named)]:
         looked += 1
         if why:
             failed += 1
