@@ -1,5 +1,5 @@
 //! The record of an answer.
-ghost use Rattle.std.specs.Prelude.{◌≡◌, ◌<◌, ◌≤◌, ◌-◌, ◌++◌, ◌∷◌, [], List, ℕ, if◌then◌else◌, length, map, take, IfSome, OnOk};
+ghost use Rattle.std.specs.Prelude.{◌≡◌, ◌<◌, ◌≤◌, ◌-◌, ◌++◌, ◌∷◌, [], List, ℕ, if◌then◌else◌, length, map, take, IfOk, IfSome, OnOk};
 ghost use Rattle.std.specs.Fmt.{decimal, signed_decimal};
 ghost use Rattle.anyk_model.specs.Output.{line_text};
 ghost use Rattle.anyk_model.specs.Query.{IsCombination, row_counts, sum_of, term_value, value_of};
@@ -16,8 +16,30 @@ use crate::RecordWriter;
 use crate::fields::{push_number, push_optional, push_signed};
 use crate::style::Style;
 use bound_query::{BoundTerm, Query};
+use std::alloc::Global;
 use step_counter::NoMemory;
 use table_store::Tables;
+
+/// The record of the answer with these rows, one for each item, counted from 1, as `write_line`
+/// writes it. `NoMemory` if memory is refused.
+pub fn line(
+    alloc: Global,
+    query: &Query,
+    tables: &Tables,
+    rows: &[u32; 16],
+    style: &Style<'_>,
+) -> Result<Vec<u8>, NoMemory>
+    requires fits { Fits query.now tables.now }
+    requires rows { IsCombination (row_counts query.now.query.items tables.now)
+        (take (length query.now.query.items) rows.now) }
+    ensures { IfOk result
+        (λ text. text.items ≡ line_text query.now.query tables.now (style_view style.now)
+        (take (length query.now.query.items) rows.now)) }
+{
+    let mut records = RecordWriter::new(alloc);
+    write_line(&mut records, query, tables, rows, style)?;
+    Ok(Vec::from_slice(alloc, records.text())?)
+}
 
 /// Writes the record of the answer with these rows, one for each item, counted from 1. Its fields
 /// are the cursor's name if there is one, the selected columns, and the sums of the order keys and

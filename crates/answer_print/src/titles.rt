@@ -1,5 +1,5 @@
 //! The record above the answers.
-ghost use Rattle.std.specs.Prelude.{◌≡◌, ◌++◌, [], List, ℕ, codes, if◌then◌else◌, length, map, option_map, OnOk};
+ghost use Rattle.std.specs.Prelude.{◌≡◌, ◌++◌, [], List, ℕ, codes, if◌then◌else◌, length, map, option_map, IfOk, OnOk};
 ghost use Rattle.anyk_model.specs.Output.{column_name, cursor_title, header_text, numbered, optional_field};
 ghost use Rattle.bound_query.specs.WeighedQuery.{Fits};
 ghost use Rattle.answer_print.specs.WrittenRecords.{HasFields};
@@ -12,6 +12,22 @@ use bound_query::Query;
 use std::alloc::Global;
 use step_counter::NoMemory;
 use table_store::Tables;
+
+/// The record of the columns' titles, as `write_header` writes it. `NoMemory` if memory is refused.
+pub fn header(
+    alloc: Global,
+    query: &Query,
+    tables: &Tables,
+    style: &Style<'_>,
+) -> Result<Vec<u8>, NoMemory>
+    requires { Fits query.now tables.now }
+    ensures { IfOk result
+        (λ text. text.items ≡ header_text query.now.query tables.now (style_view style.now)) }
+{
+    let mut records = RecordWriter::new(alloc);
+    write_header(alloc, &mut records, query, tables, style)?;
+    Ok(Vec::from_slice(alloc, records.text())?)
+}
 
 /// Writes the record of the columns' titles: `cursor` if a cursor is named, the names of the
 /// selected columns, `rank1` and so on if sums are shown, and `row1` and so on if row numbers are

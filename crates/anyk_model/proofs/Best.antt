@@ -3,7 +3,8 @@ use Rattle.std.proofs.Common.{◌≡◌, ◌≢◌, ◌==◌, ◌∙◌, ℕ, Bo
 use Rattle.std.proofs.lemmas.Bool.{eqb-true, eq-eqb, false≢true}
 use Rattle.rankings.specs.Order.{IsMember, BelowAll, IsAscending}
 use Rattle.anyk_model.specs.BestList.{same_row, best_list, IsFirstOfRow}
-use Rattle.anyk_model.proofs.Filtered.{filter_member, filter_parts, below_filter, ascending_filter}
+use Rattle.rankings.proofs.Members.{kept_member, member_kept}
+use Rattle.rankings.proofs.Ascending.{ascending_filter, below_filter}
 
 other_row : (a b : ℕ) → not (a == b) ≡ true → a ≢ b
 other_row a b e same = by (a == b) refl e
@@ -23,7 +24,7 @@ pub best_first : (item : ℕ) (rows : List ℕ) (list : List (List ℕ)) → IsM
 best_first item rows [] m = absurd m
 best_first item rows (x ∷ list) (inl e) = record { before = []; after = list; parts = ap (λ (r : List ℕ). r ∷ list) (sym e); others = λ other n. absurd n }
 best_first item rows (x ∷ list) (inr m) =
-    let p = filter_parts (λ other. not (same_row item x other)) rows (best_list item list) m in
+    let p = kept_member (λ other. not (same_row item x other)) rows (best_list item list) m in
     let f = best_first item rows list p.0 in
     let apart = other_row (slice_index x item) (slice_index rows item) p.1 in
     record {
@@ -37,7 +38,7 @@ first_best_at : (item : ℕ) (rows : List ℕ) (before after : List (List ℕ)) 
     → IsMember rows (best_list item (before ++ rows ∷ after))
 first_best_at item rows [] after others = inl refl
 first_best_at item rows (x ∷ before) after others =
-    inr (filter_member (λ other. not (same_row item x other)) rows (best_list item (before ++ rows ∷ after))
+    inr (member_kept (λ other. not (same_row item x other)) rows (best_list item (before ++ rows ∷ after))
     (first_best_at item rows before after (λ other n. others other (inr n))) (row_other (slice_index x item) (slice_index rows item) (others x (inl refl))))
 
 pub first_best : (item : ℕ) (rows : List ℕ) (list : List (List ℕ)) → IsFirstOfRow item rows list → IsMember rows (best_list item list)
@@ -48,11 +49,11 @@ first_best item rows list f = subst (λ (l : List (List ℕ)). IsMember rows (be
 module _ (Below : List ℕ → List ℕ → Type 0) (item : ℕ) where
   below_best : (x : List ℕ) (list : List (List ℕ)) → BelowAll Below x list → BelowAll Below x (best_list item list)
   below_best x [] all = tt
-  below_best x (y ∷ list) all = (all.0, below_filter (λ other. not (same_row item y other)) Below x (best_list item list) (below_best x list all.1))
+  below_best x (y ∷ list) all = (all.0, below_filter Below (λ other. not (same_row item y other)) x (best_list item list) (below_best x list all.1))
 
   -- taking elements out keeps the others in order
   pub best_ascending : (list : List (List ℕ)) → IsAscending Below list → IsAscending Below (best_list item list)
   best_ascending [] up = tt
   best_ascending (x ∷ list) up =
       let p : List ℕ → Bool = λ other. not (same_row item x other) in
-      (below_filter p Below x (best_list item list) (below_best x list up.0), ascending_filter p Below (best_list item list) (best_ascending list up.1))
+      (below_filter Below p x (best_list item list) (below_best x list up.0), ascending_filter Below p (best_list item list) (best_ascending list up.1))

@@ -1,12 +1,12 @@
 -- The list that computes is the ranking.
-use Rattle.std.proofs.Common.{◌≡◌, ◌≤◌, ◌<◌, ◌+◌, ◌⊎◌, ◌↔◌, inl, inr, refl, sym, ap, subst, ◌∙◌, arith, ℕ, zero, suc, ℤ, pos, Bool, true, false, cond, if◌then◌else◌, List, [], ◌∷◌, ◌++◌, map, filter}
+use Rattle.std.proofs.Common.{◌≡◌, ◌+◌, ◌⊎◌, ◌↔◌, inl, inr, refl, sym, ap, subst, ◌∙◌, arith, ℕ, ℤ, pos, true, if◌then◌else◌, List, [], ◌∷◌, ◌++◌, map}
 use Rattle.std.specs.List.{AllByRecursion, list_all, flat_map, range_with_len}
-use Rattle.std.proofs.lemmas.Bool.{cases_lt, false≢true, and_parts, and_from}
+use Rattle.std.proofs.lemmas.Bool.{and_parts, and_from}
 use Rattle.std.proofs.lemmas.Slice.Eq.{bytes_eq-Decides}
 use Rattle.anyk_model.specs.Table.{Table}
 use Rattle.anyk_model.specs.Query.{Equality, Holds, IsCombination, IsWitness, Query, key_of, rank_of, row_counts, side_value, value_of}
 use Rattle.rankings.specs.Order.{BelowAll, IsAscending, IsMember}
-use Rattle.rankings.proofs.Members.{member_left, member_right, member_either}
+use Rattle.rankings.proofs.Members.{kept_member, member_either, member_kept, member_left, member_right, range_bounds, range_member}
 use Rattle.anyk_model.specs.ListOrder.{Compared, before, same, after, before_trans, compare}
 use Rattle.anyk_model.specs.Ranking.{IsBefore, IsRanking, combinations, holds, insert_by, is_before, ranking_of, sort_by, witnesses}
 
@@ -23,19 +23,6 @@ cons_parts : (row : ℕ) (list : List ℕ) (lists : List (List ℕ)) → IsMembe
 cons_parts row list [] m = absurd m
 cons_parts row list (l ∷ lists) (inl e) = (l, e, inl refl)
 cons_parts row list (l ∷ lists) (inr m) = let p = cons_parts row list lists m in (p.0, p.1, inr p.2)
-
-range_member : (a n row : ℕ) → a ≤ row → row < a + n → IsMember row (range_with_len a n)
-range_member a zero row low high = absurd (omega arith)
-range_member a (suc n) row low high =
-    elim (cases_lt a row) [
-      | inl above ↦ inr (range_member (a + 1) n row (omega arith) (omega arith))
-      | inr here ↦ inl (omega arith)
-    ]
-
-range_bounds : (a n row : ℕ) → IsMember row (range_with_len a n) → (a ≤ row) × (row < a + n)
-range_bounds a zero row m = absurd m
-range_bounds a (suc n) row (inl e) = (omega arith, omega arith)
-range_bounds a (suc n) row (inr m) = let h = range_bounds (a + 1) n row m in (omega (arith, h.0), omega (arith, h.1))
 
 flat_member : {A B : Type 0} (f : A → List B) (x : A) (y : B) (xs : List A) → IsMember x xs → IsMember y (f x) → IsMember y (flat_map f xs)
 flat_member f x y [] m n = absurd m
@@ -67,26 +54,6 @@ only_combinations (count ∷ counts) rows m =
     let bounds = range_bounds 1 count p.0 p.1 in
     subst (IsCombination (count ∷ counts)) (sym q.1) (bounds.0, omega (arith, bounds.1), only_combinations counts q.0 q.2)
 
-filter_member : {A : Type 0} (p : A → Bool) (x : A) (xs : List A) → IsMember x xs → p x ≡ true → IsMember x (filter p xs)
-filter_member p x [] m e = m
-filter_member p x (y ∷ xs) m e = by (p y) refl m (λ later. filter_member p x xs later e)
-  where
-    by : (b : Bool) → p y ≡ b → IsMember x (y ∷ xs) → (IsMember x xs → IsMember x (filter p xs)) → IsMember x (cond b (y ∷ filter p xs) (filter p xs))
-    by true is (inl equal) rest = inl equal
-    by true is (inr later) rest = inr (rest later)
-    by false is (inl equal) rest = absurd (false≢true (sym is ∙ ap p (sym equal) ∙ e))
-    by false is (inr later) rest = rest later
-
-filter_parts : {A : Type 0} (p : A → Bool) (x : A) (xs : List A) → IsMember x (filter p xs) → IsMember x xs × (p x ≡ true)
-filter_parts p x [] m = absurd m
-filter_parts p x (y ∷ xs) m = by (p y) refl m (filter_parts p x xs)
-  where
-    by : (b : Bool) → p y ≡ b → IsMember x (cond b (y ∷ filter p xs) (filter p xs)) → (IsMember x (filter p xs) → IsMember x xs × (p x ≡ true))
-        → IsMember x (y ∷ xs) × (p x ≡ true)
-    by true is (inl equal) rest = (inl equal, ap p equal ∙ is)
-    by true is (inr later) rest = let h = rest later in (inr h.0, h.1)
-    by false is later rest = let h = rest later in (inr h.0, h.1)
-
 module _ (query : Query) (tables : List Table) (rows : List ℕ) where
   all_hold : (es : List Equality) → list_all (holds query tables rows) es ≡ true → AllByRecursion (Holds query tables rows) es
   all_hold [] e = tt
@@ -105,10 +72,10 @@ pub witnesses_are : (query : Query) (tables : List Table) (rows : List ℕ) → 
 witnesses_are query tables rows =
     let counts = row_counts query.items tables in (
       λ m.
-          let p = filter_parts (λ r. list_all (holds query tables r) query.equalities) rows (combinations counts) m in
+          let p = kept_member (λ r. list_all (holds query tables r) query.equalities) rows (combinations counts) m in
           (only_combinations counts rows p.0, all_hold query tables rows query.equalities p.1),
       λ w.
-          filter_member (λ r. list_all (holds query tables r) query.equalities) rows (combinations counts)
+          member_kept (λ r. list_all (holds query tables r) query.equalities) rows (combinations counts)
           (all_combinations counts rows w.0) (hold_all query tables rows query.equalities w.1),
     )
 

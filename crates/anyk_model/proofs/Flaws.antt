@@ -1,7 +1,7 @@
 -- The flaws of records: the first of a list's, and what records without one are like.
 use Rattle.std.proofs.Common.{◌≡◌, ◌≤◌, ◌<◌, ◌+◌, ◌==◌, ℕ, zero, suc, Bool, true, false, cond, nat_lt, if◌then◌else◌, List, [], ◌∷◌, ◌++◌, length, take, drop, get_or, Option, Some, None, refl, sym, ap, ◌∙◌, arith, add-one, drop-cons}
 use Rattle.std.specs.Option.{option_or}
-use Rattle.std.specs.List.{AllByRecursion, list_any}
+use Rattle.std.specs.List.{list_any}
 use Rattle.std.specs.Str.{bytes_eq}
 use Rattle.std.proofs.lemmas.Bool.{eqb-true, ltb-false}
 use Rattle.std.proofs.lemmas.List.{take_more}
@@ -72,8 +72,3 @@ pub rows_width : (width n : ℕ) (rows : List Fields) (i : ℕ) → rows_flaw wi
 rows_width width n [] i e inside = absurd (omega arith)
 rows_width width n (row ∷ rows) zero e inside = row_width width n row (rows_first width n row rows e)
 rows_width width n (row ∷ rows) (suc i) e inside = rows_width width (n + 1) rows i (rows_rest width n row rows e) (omega arith)
-
--- each row has the width
-pub all_width : (width n : ℕ) (rows : List Fields) → rows_flaw width n rows ≡ None → AllByRecursion (λ row. length row ≡ width) rows
-all_width width n [] e = tt
-all_width width n (row ∷ rows) e = (row_width width n row (rows_first width n row rows e), all_width width (n + 1) rows (rows_rest width n row rows e))

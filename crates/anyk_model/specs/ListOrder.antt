@@ -1,4 +1,5 @@
 -- The order of lists of whole numbers is strict and total, as sorting by it needs.
+-- A proof, and not a definition: the definition of a union's ranking is made with it, so it stands here.
 use Rattle.std.proofs.Common.{◌≡◌, ◌∙◌, inl, inr, refl, sym, subst, arith, ℤ, ◌<ℤ◌, Bool, true, false, if◌then◌else◌, List, [], ◌∷◌, int_lt}
 use Rattle.std.proofs.lemmas.Int.{ints}
 use Rattle.anyk_model.specs.Ranking.{IsBefore, is_before}

@@ -1,4 +1,5 @@
 -- The order of the members of a union is a strict total order, as sorting by it needs.
+-- A proof, and not a definition: the definition of a union's ranking is made with it, so it stands here.
 use Rattle.std.proofs.Common.{◌≡◌, ◌⊎◌, ◌∙◌, ℕ, ℤ, pos, Bool, true, false, List, [], ◌∷◌, map, nat_abs, inl, inr, refl, sym, ap, subst}
 use Rattle.std.proofs.lemmas.Bool.{false≢true}
 use Rattle.rankings.specs.Order.{IsOrder}

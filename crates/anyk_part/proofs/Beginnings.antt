@@ -1,5 +1,5 @@
 -- The first candidate of a tree, and the ranking that it holds.
-use Rattle.std.proofs.Common.{◌≡◌, ℕ, zero, suc, ◌-◌, ◌<◌, ◌≤◌, cond, nat_eq, nat_lt, List, [], ◌∷◌, length, get_or, refl, sym, ap, ◌∙◌, subst, arith}
+use Rattle.std.proofs.Common.{◌≡◌, ℕ, zero, suc, ◌-◌, ◌<◌, ◌≤◌, cond, nat_eq, nat_lt, None, List, [], ◌∷◌, length, get_or, refl, sym, ap, ◌∙◌, subst, arith}
 use Rattle.std.specs.List.{All}
 use Rattle.std.specs.List.Sorted.{IsPermutation}
 use Rattle.std.proofs.lemmas.List.{get_or_past}
@@ -34,7 +34,7 @@ use Rattle.anyk_part.proofs.LiveTrees.{tree, staged}
 
 -- the entry of the region with every solution
 abbrev pub first_entry : {R : Type 0} → R → Entry R Candidate
-first_entry r = record { rank = r; tag = record { position = 0; place = 0; before = 0 } }
+first_entry r = record { rank = r; tag = record { position = 0; place = 0; before = None } }
 
 module _ {R : Type 0} (d : ℕ) (key : R → KeyOf d 16) (t : List (NodeView R)) (formed : IsFormed d key t) (live : 0 < group_count t 0) where
   abbrev pub K : Type 0
@@ -81,7 +81,7 @@ module _ {R : Type 0} (d : ℕ) (key : R → KeyOf d 16) (t : List (NodeView R))
       let full : 0 < length (followers t []) = (staged d key t formed live).inhabited (length t - 1) [] reach in
       record {
         position = some;
-        chained = tt;
+        chained = refl;
         reached = (omega arith, λ q l. absurd (omega arith));
         place = full;
         ranked = k ∙ ap (λ z. best t d key 0 z) e ∙ sym (least_first (get_or (members t 0 0) 0 0) (member_is_row d key t formed 0 0 0 some full));

@@ -1,5 +1,6 @@
 -- Chains of links stay what they are when the store grows.
-use Rattle.std.proofs.Common.{◌≡◌, ℕ, zero, suc, ◌+◌, ◌-◌, ◌<◌, ◌≤◌, List, [], ◌∷◌, ◌++◌, length, take, drop, refl, sym, ap, ◌∙◌, subst, arith}
+use Rattle.std.proofs.Common.{◌≡◌, ℕ, zero, suc, ◌+◌, ◌-◌, ◌<◌, ◌≤◌, Option, Some, None, is_some, List, [], ◌∷◌, ◌++◌, length, take, drop, refl, sym, ap, ◌∙◌, subst, arith}
+use Rattle.std.proofs.lemmas.Bool.{false≢true}
 use Rattle.std.proofs.Math.ListN.{get_or-append, set}
 use Rattle.std.proofs.lemmas.List.{get_or_at, length-append}
 use Rattle.stream_store.specs.declared.linked.Linked.{Linked}
@@ -7,60 +8,85 @@ use Rattle.anyk_part.specs.declared.candidate.Link.{Link}
 use Rattle.tdp_model.proofs.Sums.{length_end}
 use Rattle.anyk_part.specs.Chains.{link_at, chain, IsChain}
 
-pub chain_length : (links : List (Linked Link)) (n last : ℕ) → IsChain links n last → length (chain links n last) ≡ n
+pub chain_length : (links : List (Linked Link)) (n : ℕ) (last : Option ℕ) → IsChain links n last → length (chain links n last) ≡ n
 unfolding chain IsChain
 chain_length links zero last h = refl
-chain_length links (suc n) last h = length_end (chain links n (link_at links last).before) (link_at links last).row ∙ ap suc (chain_length links n (link_at links last).before h.1)
+chain_length links (suc n) last h =
+    ap (λ o. length (chain links (suc n) o)) h.1 ∙ length_end (chain links n (link_at links h.0).before) (link_at links h.0).row ∙ ap suc (chain_length links n (link_at links h.0).before h.3)
 
 link_kept : (links more : List (Linked Link)) (id : ℕ) → id < length links → link_at (links ++ more) id ≡ link_at links id
 link_kept links more id l = ap (λ e. e.value) (get_or-append links more _ id l)
 
-pub IsChain-kept : (links more : List (Linked Link)) (n last : ℕ) → IsChain links n last → IsChain (links ++ more) n last
+pub IsChain-kept : (links more : List (Linked Link)) (n : ℕ) (last : Option ℕ) → IsChain links n last → IsChain (links ++ more) n last
 unfolding IsChain
-IsChain-kept links more zero last h = tt
-IsChain-kept links more (suc n) last h =
-    (omega (arith, length-append links more, h.0), subst (λ k. IsChain (links ++ more) n k.before) (sym (link_kept links more last h.0)) (IsChain-kept links more n (link_at links last).before h.1))
+IsChain-kept links more zero last h = h
+IsChain-kept links more (suc n) last h = (
+  h.0,
+  h.1,
+  omega (arith, length-append links more, h.2),
+  subst (λ k. IsChain (links ++ more) n k.before) (sym (link_kept links more h.0 h.2)) (IsChain-kept links more n (link_at links h.0).before h.3),
+)
 
-pub chain_kept : (links more : List (Linked Link)) (n last : ℕ) → IsChain links n last → chain (links ++ more) n last ≡ chain links n last
+pub chain_kept : (links more : List (Linked Link)) (n : ℕ) (last : Option ℕ) → IsChain links n last → chain (links ++ more) n last ≡ chain links n last
 unfolding chain IsChain
 chain_kept links more zero last h = refl
 chain_kept links more (suc n) last h =
-    ap (λ k. chain (links ++ more) n k.before ++ (k.row ∷ [])) (link_kept links more last h.0)
-    ∙ ap (λ z. z ++ ((link_at links last).row ∷ [])) (chain_kept links more n (link_at links last).before h.1)
+    ap (λ o. chain (links ++ more) (suc n) o) h.1
+    ∙ ap (λ k. chain (links ++ more) n k.before ++ (k.row ∷ [])) (link_kept links more h.0 h.2)
+    ∙ ap (λ z. z ++ ((link_at links h.0).row ∷ [])) (chain_kept links more n (link_at links h.0).before h.3)
+    ∙ sym (ap (λ o. chain links (suc n) o) h.1)
 
 link_new : (links : List (Linked Link)) (e : Linked Link) → link_at (links ++ (e ∷ [])) (length links) ≡ e.value
 link_new links e = ap (λ x. x.value) (get_or_at links e [] _ (length links) refl)
 
 -- a chain that a new link ends
-pub IsChain-new : (links : List (Linked Link)) (e : Linked Link) (n : ℕ) → IsChain links n e.value.before → IsChain (links ++ (e ∷ [])) (suc n) (length links)
+pub IsChain-new : (links : List (Linked Link)) (e : Linked Link) (n : ℕ) → IsChain links n e.value.before → IsChain (links ++ (e ∷ [])) (suc n) (Some (length links))
 unfolding IsChain
-IsChain-new links e n h =
-    (omega (arith, length-append links (e ∷ [])), subst (λ k. IsChain (links ++ (e ∷ [])) n k.before) (sym (link_new links e)) (IsChain-kept links (e ∷ []) n e.value.before h))
+IsChain-new links e n h = (
+  length links,
+  refl,
+  omega (arith, length-append links (e ∷ [])),
+  subst (λ k. IsChain (links ++ (e ∷ [])) n k.before) (sym (link_new links e)) (IsChain-kept links (e ∷ []) n e.value.before h),
+)
 
 pub chain_new : (links : List (Linked Link)) (e : Linked Link) (n : ℕ) → IsChain links n e.value.before
-    → chain (links ++ (e ∷ [])) (suc n) (length links) ≡ chain links n e.value.before ++ (e.value.row ∷ [])
+    → chain (links ++ (e ∷ [])) (suc n) (Some (length links)) ≡ chain links n e.value.before ++ (e.value.row ∷ [])
 unfolding chain
 chain_new links e n h =
     ap (λ k. chain (links ++ (e ∷ [])) n k.before ++ (k.row ∷ [])) (link_new links e)
     ∙ ap (λ z. z ++ (e.value.row ∷ [])) (chain_kept links (e ∷ []) n e.value.before h)
 
+-- # Where a chain has a last link
+
+abbrev id_of : Option ℕ → ℕ
+id_of None = 0
+id_of (Some id) = id
+
+-- a chain has none exactly if it has no link
+pub chain_ends : (links : List (Linked Link)) (n : ℕ) → IsChain links n None → n ≡ 0
+unfolding IsChain
+chain_ends links zero h = refl
+chain_ends links (suc n) h = absurd (false≢true (ap is_some h.1))
+
+pub chain_begins : (links : List (Linked Link)) (last : Option ℕ) → IsChain links 0 last → last ≡ None
+unfolding IsChain
+chain_begins links last h = h
+
 -- # A prefix read from its last link on
 
-pub chain_names : (links : List (Linked Link)) (n last : ℕ) → 0 < n → IsChain links n last → last < length links
+pub chain_rest : (links : List (Linked Link)) (n id : ℕ) → IsChain links n (Some id) → (0 < n) × (id < length links) × IsChain links (n - 1) (link_at links id).before
 unfolding IsChain
-chain_names links zero last p h = absurd (omega arith)
-chain_names links (suc n) last p h = h.0
+chain_rest links zero id h = absurd (false≢true (sym (ap is_some h)))
+chain_rest links (suc n) id h =
+    let k : suc n - 1 ≡ n = omega arith in
+    let same : h.0 ≡ id = sym (ap id_of h.1) in
+    (omega arith, subst (λ i. i < length links) same h.2, subst (λ z. IsChain links z (link_at links id).before) (sym k) (subst (λ i. IsChain links n (link_at links i).before) same h.3))
 
-pub chain_rest : (links : List (Linked Link)) (n last : ℕ) → 0 < n → IsChain links n last → IsChain links (n - 1) (link_at links last).before
-unfolding IsChain
-chain_rest links zero last p h = absurd (omega arith)
-chain_rest links (suc n) last p h = let k : suc n - 1 ≡ n = omega arith in subst (λ z. IsChain links z (link_at links last).before) (sym k) h.1
-
-pub chain_split : (links : List (Linked Link)) (n last : ℕ) → 0 < n → chain links n last ≡ chain links (n - 1) (link_at links last).before ++ ((link_at links last).row ∷ [])
+pub chain_split : (links : List (Linked Link)) (n id : ℕ) → 0 < n → chain links n (Some id) ≡ chain links (n - 1) (link_at links id).before ++ ((link_at links id).row ∷ [])
 unfolding chain
-chain_split links zero last p = absurd (omega arith)
-chain_split links (suc n) last p =
-    let k : suc n - 1 ≡ n = omega arith in ap (λ z. chain links z (link_at links last).before ++ ((link_at links last).row ∷ [])) (sym k)
+chain_split links zero id p = absurd (omega arith)
+chain_split links (suc n) id p =
+    let k : suc n - 1 ≡ n = omega arith in ap (λ z. chain links z (link_at links id).before ++ ((link_at links id).row ∷ [])) (sym k)
 
 pub drop_set : (xs : List ℕ) (k count r : ℕ) → k < count → count ≤ length xs → drop k (take count (set xs k r)) ≡ r ∷ drop (k + 1) (take count xs)
 drop_set [] k count r l h = absurd (omega arith)
@@ -74,22 +100,22 @@ append_one : (xs : List ℕ) (r : ℕ) (ys : List ℕ) → (xs ++ (r ∷ [])) ++
 append_one [] r ys = refl
 append_one (x ∷ xs) r ys = ap (λ z. x ∷ z) (append_one xs r ys)
 
-pub prefix_turn : (links : List (Linked Link)) (chosen all : List ℕ) (n count last : ℕ) → 0 < n → n ≤ count → count ≤ length chosen
-    → all ≡ chain links n last ++ drop n (take count chosen)
-    → all ≡ chain links (n - 1) (link_at links last).before ++ drop (n - 1) (take count (set chosen (n - 1) (link_at links last).row))
-prefix_turn links chosen all n count last p l h h0 =
-    let row : ℕ = (link_at links last).row in
+pub prefix_turn : (links : List (Linked Link)) (chosen all : List ℕ) (n count id : ℕ) → 0 < n → n ≤ count → count ≤ length chosen
+    → all ≡ chain links n (Some id) ++ drop n (take count chosen)
+    → all ≡ chain links (n - 1) (link_at links id).before ++ drop (n - 1) (take count (set chosen (n - 1) (link_at links id).row))
+prefix_turn links chosen all n count id p l h h0 =
+    let row : ℕ = (link_at links id).row in
     let k : n ≡ (n - 1) + 1 = omega arith in
     h0
-    ∙ ap (λ z. z ++ drop n (take count chosen)) (chain_split links n last p)
-    ∙ append_one (chain links (n - 1) (link_at links last).before) row (drop n (take count chosen))
-    ∙ ap (λ m. chain links (n - 1) (link_at links last).before ++ (row ∷ drop m (take count chosen))) k
-    ∙ ap (λ z. chain links (n - 1) (link_at links last).before ++ z) (sym (drop_set chosen (n - 1) count row (omega arith) h))
+    ∙ ap (λ z. z ++ drop n (take count chosen)) (chain_split links n id p)
+    ∙ append_one (chain links (n - 1) (link_at links id).before) row (drop n (take count chosen))
+    ∙ ap (λ m. chain links (n - 1) (link_at links id).before ++ (row ∷ drop m (take count chosen))) k
+    ∙ ap (λ z. chain links (n - 1) (link_at links id).before ++ z) (sym (drop_set chosen (n - 1) count row (omega arith) h))
 
-pub prefix_end : (links : List (Linked Link)) (all ys : List ℕ) (n last : ℕ) → n ≤ 0 → all ≡ chain links n last ++ drop n ys → ys ≡ all
+pub prefix_end : (links : List (Linked Link)) (all ys : List ℕ) (n : ℕ) → n ≡ 0 → all ≡ chain links n None ++ drop n ys → ys ≡ all
 unfolding chain
-prefix_end links all ys zero last l e = sym e
-prefix_end links all ys (suc n) last l e = absurd (omega arith)
+prefix_end links all ys zero l e = sym e
+prefix_end links all ys (suc n) l e = absurd (omega (arith, l))
 
 -- ---- the beginning, where no row is read yet
 

@@ -186,7 +186,7 @@ module _ {R : Type 0} (d : ℕ) (key : R → KeyOf d 16) (t : List (NodeView R))
     made = link_of d key t whole w chosen links at below c.row ∷ []
 
     abbrev end : Walk
-    end = record { node = w.node + 1; place = 0; before = length links; top_stands = c.top_stands }
+    end = record { node = w.node + 1; place = 0; before = Some (length links); top_stands = c.top_stands }
 
     at_end : IsAt d key t whole end rows (links ++ made)
     at_end = at_after d key t whole w chosen links at below (length links) c.row rows (links ++ made) c.top_stands k.row k.put refl refl

@@ -63,7 +63,7 @@ module _ {R : Type 0} (d : ℕ) (key : R → KeyOf d 16) (t : List (NodeView R))
             ∙ sym (slot_zero (key_add d 16) (key_none d 16) (length t) (parent t) (rank t d key) (group t) (item t) (number t) (slot_of d 16) (tie_free_of d key t formed apart) i (λ q. rank t d key q (get_or s q 0)) (length s) 0
             (λ j a b.
             let below : j < length t = omega (arith, size, b) in
-            (formed.rows_fit j (get_or s j 0) below (subst (λ z. z < rows t j) (sym (get_or-take (length t) chosen j 0 below)) (in_rows j below))).2 i (omega (arith, l, long))
+            (formed.rows_fit j (get_or s j 0) below (subst (λ z. z < rows t j) (sym (get_or-take (length t) chosen j 0 below)) (in_rows j below))).slots i (omega (arith, l, long))
             ∙ cond-false (nat_eq i (item t j)) (number t j (get_or s j 0)) 0 (ne_eqb i (item t j) (no_one j below))))
             ∙ sym (rows_of_key_at d 16 i k)
       ])

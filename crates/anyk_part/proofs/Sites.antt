@@ -1,5 +1,5 @@
 -- The candidates that deviate at one node.
-use Rattle.std.proofs.Common.{◌≡◌, ℕ, suc, ◌+◌, ◌-◌, ◌^◌, ◌<◌, ◌≤◌, Bool, true, false, cond, List, [], ◌∷◌, ◌++◌, length, take, get_or, refl, sym, ap, ◌∙◌, subst, arith}
+use Rattle.std.proofs.Common.{◌≡◌, ◌↔◌, None, ℕ, suc, ◌+◌, ◌-◌, ◌^◌, ◌<◌, ◌≤◌, Bool, true, false, cond, List, [], ◌∷◌, ◌++◌, length, take, get_or, refl, sym, ap, ◌∙◌, subst, arith}
 use Rattle.std.specs.List.{sum_by, All}
 use Rattle.std.specs.List.Sorted.{IsPermutation}
 use Rattle.std.proofs.lemmas.List.Sums.{sum_by-cons}
@@ -17,10 +17,10 @@ use Rattle.tdp_core.proofs.TreeFacts as facts
 use Rattle.anyk_part.specs.declared.candidate.Link.{Link}
 use Rattle.anyk_part.specs.declared.candidate.Candidate.{Candidate}
 use Rattle.anyk_part.specs.declared.candidate.Site.{Site}
-use Rattle.anyk_part.specs.Chains.{chain}
+use Rattle.anyk_part.specs.Chains.{chain, IsChain}
 use Rattle.anyk_part.specs.Regions.{followers, Reached, least, region_of, region_at, held_by, IsEntry}
 use Rattle.anyk_part.specs.Walks.{IsSite}
-use Rattle.anyk_part.proofs.ChainLemmas.{chain_length}
+use Rattle.anyk_part.proofs.ChainLemmas.{chain_length, chain_ends, chain_begins}
 use Rattle.anyk_part.proofs.LiveTrees.{tree, other}
 
 pub sum_by_first : {X : Type 0} (f : X → ℕ) (xs : List X) (d : X) → 0 < length xs → sum_by f (take 1 xs) ≡ f (get_or xs 0 d)
@@ -73,6 +73,10 @@ module _ {R : Type 0} (d : ℕ) (key : R → KeyOf d 16) (t : List (NodeView R))
         facts.group_rows_within d key t h.formed s.node s.group h.node,
         facts.rows_within d key t h.formed s.node h.node,
       )
+
+  -- no link is before the site exactly if it is at the first position
+  pub site_begins : (s.before ≡ None) ↔ (s.node ≡ 0)
+  site_begins = (λ e. chain_ends links s.node (subst (λ o. IsChain links s.node o) e h.chained), λ e. chain_begins links s.before (subst (λ n. IsChain links n s.before) e h.chained))
 
   -- the candidate at a place of the site
   abbrev pub candidate_at : ℕ → Candidate

@@ -1,5 +1,5 @@
 -- One node of the division of a region.
-use Rattle.std.proofs.Common.{◌≡◌, ℕ, suc, ◌+◌, ◌-◌, ◌*◌, ◌<◌, ◌≤◌, Bool, true, false, cond, nat_eq, None, List, [], ◌∷◌, ◌++◌, length, take, get_or, refl, sym, ap, ◌∙◌, subst, inl, inr, arith}
+use Rattle.std.proofs.Common.{◌≡◌, ℕ, suc, Some, ◌+◌, ◌-◌, ◌*◌, ◌<◌, ◌≤◌, Bool, true, false, cond, nat_eq, None, List, [], ◌∷◌, ◌++◌, length, take, get_or, refl, sym, ap, ◌∙◌, subst, inl, inr, arith}
 use Rattle.std.specs.List.{All}
 use Rattle.std.proofs.Math.ListN.{set, length-set}
 use Rattle.std.proofs.Math.Seq.{take-suc-set}
@@ -162,8 +162,8 @@ module _ {R : Type 0} (d : ℕ) (key : R → KeyOf d 16) (t : List (NodeView R))
   abbrev pub linked : Linked Link
   linked = link_of row
 
-  pub chain_next : chain (links ++ (linked ∷ [])) (w.node + 1) (length links) ≡ so_far ++ (row ∷ [])
-  chain_next = subst (λ n. chain (links ++ (linked ∷ [])) n (length links) ≡ so_far ++ (row ∷ [])) next_size (chain_new links linked w.node h.chained)
+  pub chain_next : chain (links ++ (linked ∷ [])) (w.node + 1) (Some (length links)) ≡ so_far ++ (row ∷ [])
+  chain_next = subst (λ n. chain (links ++ (linked ∷ [])) n (Some (length links)) ≡ so_far ++ (row ∷ [])) next_size (chain_new links linked w.node h.chained)
 
   abbrev pub law : IsStaged (KeyOf d 16) (key_below d 16) (followers t) (least d key t) (Reached t)
   law = staged d key t h.formed h.live
@@ -177,14 +177,14 @@ module _ {R : Type 0} (d : ℕ) (key : R → KeyOf d 16) (t : List (NodeView R))
   open_reach : w.node + 1 < length t → Reached t (suc (length t - (w.node + 2))) (so_far ++ (row ∷ []))
   open_reach m = (omega (arith, next_reach.0), next_reach.1)
 
-  pub at_next : (stands : Bool) → IsAt d key t whole (record { node = w.node + 1; place = 0; before = length links; top_stands = stands }) (set chosen w.node row) (links ++ (linked ∷ []))
+  pub at_next : (stands : Bool) → IsAt d key t whole (record { node = w.node + 1; place = 0; before = Some (length links); top_stands = stands }) (set chosen w.node row) (links ++ (linked ∷ []))
   at_next stands =
       let few = h.formed.shaped.few_nodes in record {
         formed = h.formed;
         live = h.live;
         to = omega (arith, l);
         long = length-set chosen w.node row ∙ h.long;
-        chained = subst (λ n. IsChain (links ++ (linked ∷ [])) n (length links)) next_size (IsChain-new links linked w.node h.chained);
+        chained = subst (λ n. IsChain (links ++ (linked ∷ [])) n (Some (length links))) next_size (IsChain-new links linked w.node h.chained);
         rows =
             subst (λ n. take n (set chosen w.node row) ≡ so_far ++ (row ∷ [])) next_size (take-suc-set chosen w.node row (omega (arith, h.long, l, few)) ∙ ap (λ xs. xs ++ (row ∷ [])) h.rows)
             ∙ sym chain_next;
@@ -196,17 +196,17 @@ module _ {R : Type 0} (d : ℕ) (key : R → KeyOf d 16) (t : List (NodeView R))
       }
 
   pub at_after : (id r : ℕ) (rows : List ℕ) (grown : List (Linked Link)) (stands : Bool) → r ≡ row → rows ≡ set chosen w.node r → grown ≡ links ++ (link_of r ∷ []) → id ≡ length links
-      → IsAt d key t whole (record { node = w.node + 1; place = 0; before = id; top_stands = stands }) rows grown
+      → IsAt d key t whole (record { node = w.node + 1; place = 0; before = Some id; top_stands = stands }) rows grown
   at_after id r rows grown stands same put more named =
-      let At : ℕ → List ℕ → List (Linked Link) → Type 0 = λ i xs ls. IsAt d key t whole (record { node = w.node + 1; place = 0; before = i; top_stands = stands }) xs ls in
+      let At : ℕ → List ℕ → List (Linked Link) → Type 0 = λ i xs ls. IsAt d key t whole (record { node = w.node + 1; place = 0; before = Some i; top_stands = stands }) xs ls in
       subst (λ ls. At id rows ls) (sym more)
       (subst (λ xs. At id xs (links ++ (link_of r ∷ []))) (sym put)
       (subst (λ i. At i (set chosen w.node r) (links ++ (link_of r ∷ []))) (sym named)
       (subst (λ z. At (length links) (set chosen w.node z) (links ++ (link_of z ∷ []))) (sym same) (at_next stands))))
 
-  pub chain_after : (id r : ℕ) (grown : List (Linked Link)) → r ≡ row → grown ≡ links ++ (link_of r ∷ []) → id ≡ length links → chain grown (w.node + 1) id ≡ so_far ++ (row ∷ [])
+  pub chain_after : (id r : ℕ) (grown : List (Linked Link)) → r ≡ row → grown ≡ links ++ (link_of r ∷ []) → id ≡ length links → chain grown (w.node + 1) (Some id) ≡ so_far ++ (row ∷ [])
   chain_after id r grown same more named =
-      let At : ℕ → List (Linked Link) → Type 0 = λ i ls. chain ls (w.node + 1) i ≡ so_far ++ (row ∷ []) in
+      let At : ℕ → List (Linked Link) → Type 0 = λ i ls. chain ls (w.node + 1) (Some i) ≡ so_far ++ (row ∷ []) in
       subst (λ ls. At id ls) (sym more)
       (subst (λ i. At i (links ++ (link_of r ∷ []))) (sym named)
       (subst (λ z. At (length links) (links ++ (link_of z ∷ []))) (sym same) chain_next))

@@ -64,8 +64,13 @@ impl<R: Rank, A: Allocator + Clone> Frontier<R, A> {
         self.links.reserve(nodes as usize)
     }
 
-    /// The first rows of a solution, by node; `last` names the last of them.
-    pub fn prefix<L: Ledger>(&self, count: u32, last: EntryId, steps: &mut Steps<L>) -> [u32; 16]
+    /// The first `count` rows of a solution, by node; `last` names the link of the last of them.
+    pub fn prefix<L: Ledger>(
+        &self,
+        count: u32,
+        last: Option<EntryId>,
+        steps: &mut Steps<L>,
+    ) -> [u32; 16]
         requires count { count ≤ 16 }
         requires chained { IsChain self.now.links.entries count last }
         ensures rows { take count result ≡ chain self.now.links.entries count last }
@@ -74,9 +79,9 @@ impl<R: Rank, A: Allocator + Clone> Frontier<R, A> {
         let mut chosen = [0; 16];
         let mut node = count as usize;
         let mut before = last;
-        while node > 0 {
+        while let Some(id) = before {
             node -= 1;
-            let link = *self.links.get(before, steps);
+            let link = *self.links.get(id, steps);
             chosen[node] = link.row;
             before = link.before;
         }
@@ -235,7 +240,7 @@ impl<R: Rank, A: Allocator + Clone> Frontier<R, A> {
         Walk {
             node: walk.node + 1,
             place: 0,
-            before: last,
+            before: Some(last),
             top_stands: choice.top_stands,
         }
     }

@@ -21,7 +21,7 @@ use std::alloc::Allocator;
 use std::marker::Model;
 use std::sync::ledger::Ledger;
 use step_counter::{NoMemory, Steps};
-use stream_store::{EntryId, Store};
+use stream_store::Store;
 use take2_heap::HeapOf;
 use tdp_core::{Answer, Ranked, Tree};
 
@@ -79,7 +79,7 @@ fn first_queue<R: Rank, A: Allocator, L: Ledger>(
     queue.reserve(1)?;
     let row = tree.member(0, 0, 0, steps);
     let best = tree.best(0, row, steps);
-    let whole = Candidate::new(0, 0, EntryId::first());
+    let whole = Candidate::new(0, 0, None);
     queue.push_reserved(best, whole, steps);
     Ok(queue)
 }

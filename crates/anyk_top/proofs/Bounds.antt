@@ -12,6 +12,7 @@ use Rattle.outer_io.specs.Files.{Files}
 use Rattle.bound_query.specs.Shape.{Shape}
 use Rattle.refusals.specs.Reason.{Reason}
 use Rattle.output_model.specs.SessionCalls.{session_reach}
+use Rattle.output_model.specs.SessionPieces.{pieces_in}
 use Rattle.anyk_model.specs.TaggedRows.{Tagged, branch_at}
 use Rattle.anyk_model.specs.Union.{union_of}
 use Rattle.anyk_model.specs.UnionOutput.{union_output_of}
@@ -21,11 +22,11 @@ use Rattle.plan_build.specs.Plans.{ArePrepared, preparation_of}
 use Rattle.verdict.specs.Bound.{IsBounded, IsPaced, IsPrompt, IsWithin, cost_of}
 use Rattle.verdict.specs.AcceptedInput.{Found, found_of, is_union, queries_in, query_of, structure_of}
 use Rattle.verdict.specs.Loading.{are_several}
-use Rattle.verdict.specs.Output.{answers_text, asked_list, style_of, tagged_of}
+use Rattle.verdict.specs.Output.{answers_text, asked_list, members_of, style_of, tagged_of}
 use Rattle.verdict.specs.Stages.{followed}
 use Rattle.verdict.specs.UnionBound.{HaveShapes, union_cost, union_records}
 use Rattle.verdict.specs.Verdict.{IsStructured}
-use Rattle.verdict.specs.Words.{Asked, Command, Words, built, run, plan, session, load, prove, verify}
+use Rattle.verdict.specs.Words.{Asked, Command, Words, a_command, run, plan, session, load, prove, verify}
 use Rattle.verdict.proofs.Structure.{shapes_had}
 use Rattle.anyk_top.specs.Plans.{IsEarlyFor, IsEarlyWithin}
 use Rattle.anyk_top.proofs.Prepared.{prepared_over, union_prepared}
@@ -77,7 +78,10 @@ paced_prepared : (command : Command) (found : Found) (old new : Option (List ℕ
 paced_prepared (run words) found old new before now have h =
     λ start part is_old is_new. run_prepared found _ before now _ have h
 paced_prepared (plan words) found old new before now have h = tt
-paced_prepared (session script words) found old new before now have h = tt
+paced_prepared (session script words) found old new before now have h = λ start part is_old is_new.
+    let least = prepared_over (query_of found) found.tables (structure_of found) before now
+    (pieces_in (query_of found) found.tables (style_of words) (members_of found) found.steps part + 1) h in
+    omega (arith, least)
 paced_prepared (load number rows) found old new before now have h = tt
 paced_prepared (prove words) found old new before now have h = tt
 paced_prepared (verify proof words) found old new before now have h = tt
@@ -93,17 +97,17 @@ found_shaped asked files found (followed {a = loaded} loads (followed {a = shape
     (shapes_had (are_several loaded.queries) 1 loaded.tables loaded.queries shapes are)
 
 pub bounded_early : (command : Command) (told : Option Files) (before now : ℕ) → IsEarlyWithin command told before now
-    → IsBounded (built command) told before now
+    → IsBounded (a_command command) told before now
 bounded_early command None before now h = tt
 bounded_early command (Some files) before now h = λ found verdict.
-    within_prepared command found before now (found_shaped (built command) files found (verdict_structured command files found verdict)) (h found verdict)
+    within_prepared command found before now (found_shaped (a_command command) files found (verdict_structured command files found verdict)) (h found verdict)
 
 pub prompt_early : (command : Command) (told : Option Files) (old new : Option (List ℕ)) (before now : ℕ)
     → IsEarlyWithin command told before now
-    → IsPrompt (built command) told old new before now
+    → IsPrompt (a_command command) told old new before now
 prompt_early command None old new before now h = tt
 prompt_early command (Some files) old new before now h = λ found verdict.
-    paced_prepared command found old new before now (found_shaped (built command) files found (verdict_structured command files found verdict)) (h found verdict)
+    paced_prepared command found old new before now (found_shaped (a_command command) files found (verdict_structured command files found verdict)) (h found verdict)
 
 -- # Several queries
 

@@ -19,7 +19,7 @@ use Rattle.verdict.specs.MadeFiles.{known_to}
 use Rattle.verdict.specs.StageResults.{Shelved}
 use Rattle.verdict.specs.Stages.{followed}
 use Rattle.verdict.specs.Verdict.{IsLoaded, IsStructured}
-use Rattle.verdict.specs.Words.{Command, built, run, plan, session, load, prove, verify}
+use Rattle.verdict.specs.Words.{Command, a_command, run, plan, session, load, prove, verify}
 use Rattle.verdict.proofs.One.{one_loading}
 use Rattle.command_input.specs.Judgement.{HasOne, IsLooked}
 use Rattle.anyk_top.specs.Plans.{IsEarlyFor, IsEarlyWithin}
@@ -63,24 +63,24 @@ input_prepared (load number rows) input shapes before now one h =
     one_prepared (queries_in input.queries) input.tables before now (count_queries input one) h
 
 looked_loads : (command : Command) (old new : Shelved) (loaded : Loaded) → IsLooked command old new (Ok loaded)
-    → IfSome (known_to (built command) old.files) (λ files. IsLoaded (built command) files (Ok loaded))
-looked_loads (run words) old new loaded h = h.fits
-looked_loads (plan words) old new loaded h = h.fits
-looked_loads (session script words) old new loaded h = h.fits
-looked_loads (prove words) old new loaded h = h.fits
-looked_loads (verify proof words) old new loaded h = h.fits
+    → IfSome (known_to (a_command command) old.files) (λ files. IsLoaded (a_command command) files (Ok loaded))
+looked_loads (run words) old new loaded h = h.staged.fits
+looked_loads (plan words) old new loaded h = h.staged.fits
+looked_loads (session script words) old new loaded h = h.staged.fits
+looked_loads (prove words) old new loaded h = h.staged.fits
+looked_loads (verify proof words) old new loaded h = h.staged.fits
 looked_loads (load number rows) old new loaded h = h.0
 
 same_loaded : {a b : Loaded} → ◌≡◌ {A = Result Loaded Reason} (Ok a) (Ok b) → a ≡ b
 same_loaded e = cc
 
 accepted_prepared : (command : Command) (files : Files) (input : InputView) (before now : ℕ)
-    → IsLoaded (built command) files (Ok (loaded_of input))
+    → IsLoaded (a_command command) files (Ok (loaded_of input))
     → HasOne command input → ArePrepared (queries_in input.queries) input.tables before now
-    → (found : Found) → IsStructured (built command) files (Ok found) → IsEarlyFor command found before now
+    → (found : Found) → IsStructured (a_command command) files (Ok found) → IsEarlyFor command found before now
 accepted_prepared command files input before now h one prepared found
     (followed {a = loaded} loads (followed {a = shapes} are same)) =
-    let is_input = same_loaded (one_loading (built command) files (Ok (loaded_of input)) (Ok loaded) h loads) in
+    let is_input = same_loaded (one_loading (a_command command) files (Ok (loaded_of input)) (Ok loaded) h loads) in
     let whole : found_of (loaded_of input) shapes ≡ found =
     ap (λ (l : Loaded). found_of l shapes) is_input ∙ sym (same_found same) in
     subst (λ (f : Found). IsEarlyFor command f before now) whole
@@ -89,11 +89,11 @@ accepted_prepared command files input before now h one prepared found
 pub early_prepared : (command : Command) (old new : Shelved) (input : InputView) (before now : ℕ)
     → IsLooked command old new (Ok (loaded_of input))
     → HasOne command input → ArePrepared (queries_in input.queries) input.tables before now
-    → IsEarlyWithin command (known_to (built command) old.files) before now
+    → IsEarlyWithin command (known_to (a_command command) old.files) before now
 early_prepared command old new input before now h one prepared =
-    by (known_to (built command) old.files) (looked_loads command old new (loaded_of input) h)
+    by (known_to (a_command command) old.files) (looked_loads command old new (loaded_of input) h)
   where
-    by : (told : Option Files) → IfSome told (λ files. IsLoaded (built command) files (Ok (loaded_of input)))
+    by : (told : Option Files) → IfSome told (λ files. IsLoaded (a_command command) files (Ok (loaded_of input)))
         → IsEarlyWithin command told before now
     by None loads = tt
     by (Some files) loads = λ found verdict.

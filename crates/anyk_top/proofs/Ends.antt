@@ -1,5 +1,5 @@
 -- How a call ended, from the results of its parts.
-use Rattle.std.proofs.Common.{◌≡◌, ℕ, List, Option, Result, Ok, Err, OnOk, IfErr, inl, inr, refl, sym, subst, ap, ◌∙◌}
+use Rattle.std.proofs.Common.{◌≡◌, ℕ, List, Option, Result, Ok, Err, inl, inr, refl, sym, subst, ap, ◌∙◌}
 use Rattle.outer_io.specs.Files.{Files}
 use Rattle.outer_io.specs.declared.writing.Unwritten.{Unwritten}
 use Rattle.refusals.specs.declared.refusal.Refusal.{Refusal}
@@ -8,8 +8,10 @@ use Rattle.refusals.specs.Reason.{Reason, line_of, status_of}
 use Rattle.refusals.specs.RefusalReasons.{reason_of}
 use Rattle.outer_io.specs.SinkText.{Sent}
 use Rattle.outer_io.specs.SinkState.{SinkState}
-use Rattle.verdict.specs.Outcome.{GotNothing, HasLine, IsReason, IsCaused, IsComplete, IsCut, Outcome, Outside}
-use Rattle.verdict.specs.Words.{Asked, Command, no_command, built}
+use Rattle.verdict.specs.Execution.{IsExecuted}
+use Rattle.verdict.specs.Outcome.{GotNothing, HasLine, IsCaused, IsCut, IsCutShort, Outcome, Outside}
+use Rattle.verdict.specs.Words.{Asked, Command, no_command, a_command, run, plan, session, load, prove, verify}
+use Rattle.verdict.proofs.Complete.{silent_cut}
 use Rattle.verdict.proofs.Whole.{done_outcome, ended_outcome}
 use Rattle.cmd_words.specs.declared.fault.WordsFault.{WordsFault}
 use Rattle.cmd_words.specs.declared.fault.WordsFault.TheVariants as fault
@@ -34,45 +36,53 @@ has_line old new line h = line_sent old new line h.result h.sent
 abbrev Same : Asked → Asked → Type 0
 Same a b = a ≡ b
 
-built_no_command : {A : Type 0} {k : Command} → Same (built k) no_command → A
-built_no_command h = cc
+differ_none : {A : Type 0} {k : Command} → Same (a_command k) no_command → A
+differ_none h = cc
 
 -- the outside with another sink for errors
 abbrev with_errors : Outside → SinkState → Outside
 with_errors outside errors = record outside { errors = errors.written; error_faults = errors.faults }
 
-caused_same : (old new : Outside) (e e' : SinkState) (a : Reason) → IsCaused old new a → IsCaused (with_errors old e) (with_errors new e') a
-caused_same old new e e' (reason.NoFile name) h = h
-caused_same old new e e' (reason.ReadFault name) h = h
-caused_same old new e e' (reason.TooLarge name) h = h
-caused_same old new e e' reason.WriteFault h = h
-caused_same old new e e' a h = tt
+caused_same : (asked : Asked) (old new : Outside) (e e' : SinkState) (a : Reason) → IsCaused asked old new a → IsCaused asked (with_errors old e) (with_errors new e') a
+caused_same asked old new e e' (reason.NoFile name) h = h
+caused_same asked old new e e' (reason.ReadFault name) h = h
+caused_same asked old new e e' (reason.TooLarge name) h = h
+caused_same asked old new e e' reason.WriteFault h = h
+caused_same asked old new e e' a h = tt
+
+short_same : (asked : Asked) (told : Option Files) (old new : Outside) (e e' : SinkState)
+    → IsCutShort asked told old new → IsCutShort asked told (with_errors old e) (with_errors new e')
+short_same no_command told old new e e' h = h
+short_same (a_command (run words)) told old new e e' h = h
+short_same (a_command (plan words)) told old new e e' h = h
+short_same (a_command (session script words)) told old new e e' h = h
+short_same (a_command (load number rows)) told old new e e' h = h
+short_same (a_command (prove words)) told old new e e' h = h
+short_same (a_command (verify proof words)) told old new e e' h = h
 
 cut_same : (asked : Asked) (told : Option Files) (old new : Outside) (e e' : SinkState) (a : Reason)
     → IsCut asked told old new a → IsCut asked told (with_errors old e) (with_errors new e') a
 cut_same no_command told old new e e' reason.WriteFault h = h
-cut_same (built command) told old new e e' reason.WriteFault h = h
-cut_same no_command told old new e e' reason.NoMemory h = h
-cut_same (built command) told old new e e' reason.NoMemory h = h
+cut_same (a_command command) told old new e e' reason.WriteFault h = h
+cut_same asked told old new e e' reason.NoMemory h = short_same asked told old new e e' h
 cut_same asked told old new e e' a h = h
 
-pub built_outcome : (command : Command) (told : Option Files) (old new : Outside) (e e' : SinkState) (r : Result (Unit {0}) Refusal) (status : ℕ)
-    → OnOk r (IsComplete (built command) told old new) → IfErr r (λ refusal. IsReason (built command) told (reason_of refusal))
-    → IfErr r (λ refusal. IsCaused old new (reason_of refusal)) → IfErr r (λ refusal. IsCut (built command) told old new (reason_of refusal))
-    → Finished e e' r status → Outcome (built command) told (with_errors old e) (with_errors new e') status
-built_outcome command told old new e e' (Ok done) status complete fits caused cut (zero, quiet) =
-    let P : ℕ → Type 0 = Outcome (built command) told (with_errors old e) (with_errors new e') in
-    subst P (sym zero) (done_outcome (built command) told (with_errors old e) (with_errors new e') complete quiet)
-built_outcome command told old new e e' (Err refusal) status complete fits caused cut (is, sent) =
-    let P : ℕ → Type 0 = Outcome (built command) told (with_errors old e) (with_errors new e') in
-    subst P (sym is) (ended_outcome (built command) told (with_errors old e) (with_errors new e') (reason_of refusal)
+pub command_outcome : (command : Command) (told : Option Files) (old new : Outside) (e e' : SinkState) (before now : ℕ) (r : Result (Unit {0}) Refusal)
+    (status : ℕ) → IsExecuted command told old new before now r → Finished e e' r status
+    → Outcome (a_command command) told (with_errors old e) (with_errors new e') status
+command_outcome command told old new e e' before now (Ok done) status h (zero, quiet) =
+    let P : ℕ → Type 0 = Outcome (a_command command) told (with_errors old e) (with_errors new e') in
+    subst P (sym zero) (done_outcome (a_command command) told (with_errors old e) (with_errors new e') h.done quiet)
+command_outcome command told old new e e' before now (Err refusal) status h (is, sent) =
+    let P : ℕ → Type 0 = Outcome (a_command command) told (with_errors old e) (with_errors new e') in
+    subst P (sym is) (ended_outcome (a_command command) told (with_errors old e) (with_errors new e') (reason_of refusal)
     (record {
-      fits = fits;
-      caused = caused_same old new e e' (reason_of refusal) caused;
-      cut = cut_same (built command) told old new e e' (reason_of refusal) cut;
+      fits = h.fits;
+      caused = caused_same (a_command command) old new e e' (reason_of refusal) h.caused;
+      cut = cut_same (a_command command) told old new e e' (reason_of refusal) h.cut;
       line = has_line (with_errors old e) (with_errors new e') (line_of (reason_of refusal)) sent;
     })
-    (λ h. built_no_command h))
+    (λ none. differ_none none))
 
 -- ---- how a call ends if its arguments are not a command
 
@@ -81,7 +91,7 @@ early_reason : (asked : Asked) (told : Option Files) (old new : Outside) (f : Wo
 early_reason asked told old new fault.Usage early nothing line =
     ended_outcome asked told old new reason.Usage (record { fits = early; caused = tt; cut = nothing; line = line }) (λ h. inl refl)
 early_reason asked told old new fault.NoMemory early nothing line =
-    ended_outcome asked told old new reason.NoMemory (record { fits = tt; caused = tt; cut = inl nothing; line = line }) (λ h. inr refl)
+    ended_outcome asked told old new reason.NoMemory (record { fits = tt; caused = tt; cut = silent_cut asked told old new nothing; line = line }) (λ h. inr refl)
 
 pub early_outcome : (asked : Asked) (told : Option Files) (old new : Outside) (f : WordsFault) (refusal : Refusal) (status : ℕ) → IsEarly asked f
     → reason_of refusal ≡ rejected_as f → GotNothing old new → Finished (errors_of old) (errors_of new) (Err refusal) status → Outcome asked told old new status

@@ -122,9 +122,6 @@ module _ {R : Type 0} (d : ℕ) (key : R → KeyOf d 16) (tables : List Table) w
   pub unplanned_cost : (queries : List BoundQuery) (before : ℕ) → ArePrepared (queries_in queries) tables before before
   unplanned_cost queries before = omega arith
 
-  pub none_planned : (queries : List BoundQuery) (before : ℕ) → HasPlanned queries 0 [] before before
-  none_planned queries before = record { made = tt; count = refl; cost = omega arith }
-
   pub planned_more : (queries : List BoundQuery) (n : ℕ) (plans : List (PlanView R)) (before now new : ℕ)
       (query : BoundQuery) (plan : PlanView R)
       → HasPlanned queries n plans before now → n < length queries → query ≡ get_or queries n query

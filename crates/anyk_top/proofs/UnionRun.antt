@@ -299,13 +299,6 @@ module _ {R : Type 0} (d : ℕ) (key : R → KeyOf d 16) where
           let all = begun_within list 0 queries plans engines news shapes fits have was begun has in
           omega (arith, prepared, cost, first, spent, all)
 
--- when memory ran out for the arenas
-pub prepared_any : (tables : List Table) (queries : List Query) (before now : ℕ)
-    → ArePrepared queries tables before now → (list : List Tagged) (shapes : List Shape)
-    → HaveShapes tables queries shapes → now ≤ before + union_cost tables list 0 queries shapes
-prepared_any tables queries before now prepared list shapes has =
-    let all = union_prepared tables list 0 queries shapes has in omega (arith, prepared, all)
-
 -- the limit of the union is that of the first query
 pub first_limit : (queries : List BoundQuery) (query : BoundQuery) → 1 ≤ length queries → query ≡ get_or queries 0 query
     → query.query.limit ≡ (branch_at (queries_in queries) 0).limit

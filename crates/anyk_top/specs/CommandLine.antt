@@ -4,28 +4,32 @@ use Rattle.refusals.specs.Reason as reason
 use Rattle.refusals.specs.Reason.{Reason}
 use Rattle.cmd_words.specs.declared.fault.WordsFault.{WordsFault}
 use Rattle.cmd_words.specs.declared.fault.WordsFault.TheVariants as fault
-use Rattle.cmd_words.specs.Commands.{CommandSaid, run_said, session_said, plan_said, prove_said, verify_said, load_said}
+use Rattle.cmd_words.specs.Commands.{CommandSaid, said_of, run_said, session_said, plan_said, prove_said, verify_said, load_said}
 use Rattle.command_input.specs.Tasks.{words_of}
-use Rattle.verdict.specs.Words.{Words, Asked, no_command, built, run, plan, session, load, prove, verify}
+use Rattle.verdict.specs.Words.{Words, Asked, no_command, a_command, run, plan, session, load, prove, verify}
 
 -- `clap` accepts the arguments of a session only if a script is among them
 abbrev pub asked_session : Option (List ℕ) → Words → Asked
 asked_session None words = no_command
-asked_session (Some script) words = built (session script words)
+asked_session (Some script) words = a_command (session script words)
 
 -- and those of `verify` only if a certificate is among them
 abbrev pub asked_verify : Option (List ℕ) → Words → Asked
 asked_verify None words = no_command
-asked_verify (Some proof) words = built (verify proof words)
+asked_verify (Some proof) words = a_command (verify proof words)
 
 abbrev pub asked_of : Option CommandSaid → Asked
 asked_of None = no_command
-asked_of (Some (run_said said)) = built (run (words_of said))
+asked_of (Some (run_said said)) = a_command (run (words_of said))
 asked_of (Some (session_said said)) = asked_session said.script (words_of said)
-asked_of (Some (plan_said said)) = built (plan (words_of said))
-asked_of (Some (prove_said said)) = built (prove (words_of said))
+asked_of (Some (plan_said said)) = a_command (plan (words_of said))
+asked_of (Some (prove_said said)) = a_command (prove (words_of said))
 asked_of (Some (verify_said said)) = asked_verify said.proof (words_of said)
-asked_of (Some (load_said engine number rows)) = built (load number rows)
+asked_of (Some (load_said engine number rows)) = a_command (load number rows)
+
+-- what these arguments ask for
+abbrev pub asked_in : List (List ℕ) → Asked
+asked_in words = asked_of (said_of words)
 
 -- why a call ends if its arguments are rejected
 abbrev pub rejected_as : WordsFault → Reason

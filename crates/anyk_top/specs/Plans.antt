@@ -26,7 +26,7 @@ use Rattle.command_input.specs.Input.{InputView, loaded_of}
 use Rattle.verdict.specs.AcceptedInput.{Found, found_of, query_of}
 use Rattle.verdict.specs.Loading.{Loaded}
 use Rattle.verdict.specs.Verdict.{IsVerdict}
-use Rattle.verdict.specs.Words.{Command, built, run, plan, session, load, prove, verify}
+use Rattle.verdict.specs.Words.{Command, a_command, run, plan, session, load, prove, verify}
 use Rattle.anyk_top.specs.declared.planning.Planned.{Planned}
 use Rattle.anyk_top.specs.declared.planning.Unplanned.{Unplanned}
 use Rattle.anyk_top.specs.declared.planning.Plans.{Plans}
@@ -130,5 +130,5 @@ IsEarlyFor (load number rows) found before now = IsPrepared (query_of found) fou
 -- if the files are known and the input is accepted, preparation took no more steps than it may take
 abbrev pub IsEarlyWithin : Command → Option Files → ℕ → ℕ → Type 0
 IsEarlyWithin command told before now =
-    IfSome told (λ files. (found : Found) → IsVerdict (built command) files (Ok found)
+    IfSome told (λ files. (found : Found) → IsVerdict (a_command command) files (Ok found)
     → IsEarlyFor command found before now)

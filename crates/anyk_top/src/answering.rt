@@ -1,21 +1,20 @@
-//! A command that plans its queries, from its input to its output.
-ghost use Rattle.std.specs.Prelude.{◌<◌, [], ◌∷◌, IfErr, OnOk, length};
+//! A command, from its input to its output.
+ghost use Rattle.std.specs.Prelude.{◌<◌, [], ◌∷◌, length};
 ghost use Rattle.command_input.specs.Input.{loaded_of};
 ghost use Rattle.plan_build.specs.Plan.{IsPlanOf, shape_of};
 ghost use Rattle.plan_build.specs.Plans.{ArePrepared, HavePlans};
 ghost use Rattle.proof_model.specs.Certificate.{Certificate};
 ghost use Rattle.bound_query.specs.WeighedQuery.{Fits};
-ghost use Rattle.refusals.specs.RefusalReasons.{reason_of};
 ghost use Rattle.outer_io.specs.SinkState.{state_of};
 ghost use Rattle.session_script.specs.Script.{KeepsRules};
 ghost use Rattle.bound_query.specs.RunBounds.{IsPrepared};
-ghost use Rattle.verdict.specs.Bound.{IsBounded, IsPrompt};
 ghost use Rattle.verdict.specs.AcceptedInput.{found_of, queries_in};
 ghost use Rattle.verdict.specs.MadeFiles.{known_to};
-ghost use Rattle.verdict.specs.Outcome.{IsReason, IsCaused, IsComplete, IsCut};
-ghost use Rattle.verdict.specs.Words.{built};
-ghost use Rattle.anyk_top.specs.Answered.{IsAnswered};
-ghost use Rattle.command_input.specs.Judgement.{HasOne, IsUnnamed};
+ghost use Rattle.verdict.specs.Execution.{IsExecuted};
+ghost use Rattle.verdict.specs.Outcome.{IsUntouched};
+ghost use Rattle.verdict.specs.Words.{a_command};
+ghost use Rattle.anyk_top.specs.OutputPrinting.{PrintsOutput};
+ghost use Rattle.command_input.specs.Judgement.{HasOne, IsPlanned, IsUnnamed};
 ghost use Rattle.anyk_top.specs.Plans.{ArePlans, IsOnePlan, IsOnePlanOf, found_by};
 ghost use Rattle.anyk_top.specs.Plans.{found_in, shape_in, shapes_of};
 ghost use Rattle.command_input.specs.Tasks.{command_of};
@@ -31,6 +30,7 @@ use crate::session::print_script;
 use crate::style::style_in;
 use crate::union::print_union_run;
 use command_input::{Input, Task};
+use command_verify::execute_verify;
 use hash_keys::Keys;
 use outer_io::{PrintFault, Shelf, Sink};
 use plan_build::{Plan, RankedPlan};
@@ -41,10 +41,10 @@ use std::alloc::Global;
 use std::sync::ledger::Ledger;
 use step_counter::Steps;
 
-/// Reads or makes the input of the command, plans its query, and prints the command's output. The
-/// result is an error if the input is refused, if a read or a write failed, or if memory is
-/// refused.
-pub fn answer_task<'a, F: Shelf, S: Sink, L: Ledger>(
+/// Reads or makes the input of the command, plans its query or checks its certificate, and prints
+/// the command's output. The result is an error if the input is refused, if a read or a write
+/// failed, or if memory is refused.
+pub(crate) fn execute<'a, F: Shelf, S: Sink, L: Ledger>(
     alloc: Global,
     task: &'a Task,
     shelf: &mut F,
@@ -52,24 +52,37 @@ pub fn answer_task<'a, F: Shelf, S: Sink, L: Ledger>(
     keys: Keys,
     steps: &mut Steps<L>,
 ) -> Result<(), Refusal<'a>>
-    ensures done { OnOk result (IsComplete (built (command_of task.now))
-        (known_to (built (command_of task.now)) (F.files shelf.old))
-        (seen_by F.Shelf S.Sink shelf.old out.old)
-        (seen_by F.Shelf S.Sink shelf.new out.new)) }
-    ensures fits { IfErr result (λ refusal. IsReason (built (command_of task.now))
-        (known_to (built (command_of task.now)) (F.files shelf.old)) (reason_of refusal)) }
-    ensures caused { IfErr result (λ refusal. IsCaused
-        (seen_by F.Shelf S.Sink shelf.old out.old)
-        (seen_by F.Shelf S.Sink shelf.new out.new) (reason_of refusal)) }
-    ensures cut { IfErr result (λ refusal. IsCut (built (command_of task.now))
-        (known_to (built (command_of task.now)) (F.files shelf.old))
-        (seen_by F.Shelf S.Sink shelf.old out.old)
-        (seen_by F.Shelf S.Sink shelf.new out.new) (reason_of refusal)) }
-    ensures bounded { IsBounded (built (command_of task.now))
-        (known_to (built (command_of task.now)) (F.files shelf.old)) steps.old steps.new }
-    ensures prompt { IsPrompt (built (command_of task.now))
-        (known_to (built (command_of task.now)) (F.files shelf.old)) (S.written out.old)
-        (S.written out.new) steps.old steps.new }
+    ensures executed { let command = command_of task.now in
+        IsExecuted command (known_to (a_command command) (F.files shelf.old))
+        (seen_by F.Shelf S.Sink shelf.old out.old) (seen_by F.Shelf S.Sink shelf.new out.new)
+        steps.old steps.new result }
+    ensures untouched { IsUntouched (a_command (command_of task.now)) shelf.old shelf.new }
+{
+    match task {
+        Task::Verify { proof, words } => {
+            execute_verify(alloc, proof.as_str(), words, shelf, out, keys, steps)
+        }
+        _ => execute_planned(alloc, task, shelf, out, keys, steps),
+    }
+}
+
+/// Reads or makes the input of the command, plans its query, and prints the command's output. The
+/// result is an error if the input is refused, if a read or a write failed, or if memory is
+/// refused.
+pub fn execute_planned<'a, F: Shelf, S: Sink, L: Ledger>(
+    alloc: Global,
+    task: &'a Task,
+    shelf: &mut F,
+    out: &mut S,
+    keys: Keys,
+    steps: &mut Steps<L>,
+) -> Result<(), Refusal<'a>>
+    requires { IsPlanned (command_of task.now) }
+    ensures executed { let command = command_of task.now in
+        IsExecuted command (known_to (a_command command) (F.files shelf.old))
+        (seen_by F.Shelf S.Sink shelf.old out.old) (seen_by F.Shelf S.Sink shelf.new out.new)
+        steps.old steps.new result }
+    ensures untouched { IsUntouched (a_command (command_of task.now)) shelf.old shelf.new }
 {
     match plan_task(alloc, task, shelf, keys, steps) {
         Ok(planned) => refused(print_planned(alloc, task, &planned, out, steps)),
@@ -87,7 +100,8 @@ fn print_planned<S: Sink, L: Ledger>(
 ) -> Result<(), PrintFault>
     requires plans { ArePlans planned.now.input planned.now.plans }
     requires alone { HasOne (command_of task.now) planned.now.input }
-    ensures { IsAnswered (command_of task.now) (found_in planned.now)
+    requires planned { IsPlanned (command_of task.now) }
+    ensures { PrintsOutput (command_of task.now) (found_in planned.now)
         (λ before. ArePrepared (queries_in planned.now.input.queries) planned.now.input.tables
         before steps.old)
         (state_of S.Sink out.old) (state_of S.Sink out.new) steps.new result }
@@ -111,7 +125,8 @@ fn print_one<S: Sink, L: Ledger>(
 ) -> Result<(), PrintFault>
     requires plan { IsOnePlan input.now.queries input.now.tables input.now.best plan.now }
     requires alone { HasOne (command_of task.now) input.now }
-    ensures { IsAnswered (command_of task.now)
+    requires planned { IsPlanned (command_of task.now) }
+    ensures { PrintsOutput (command_of task.now)
         (found_of (loaded_of input.now) (shape_in plan.now ∷ []))
         (λ before. ArePrepared (queries_in input.now.queries) input.now.tables before steps.old)
         (state_of S.Sink out.old) (state_of S.Sink out.new) steps.new result }
@@ -137,7 +152,8 @@ fn print_plan<R: Rank, S: Sink, L: Ledger>(
     requires plan { IsOnePlanOf R.KEYS R.key input.now.queries input.now.tables input.now.best
         plan.now }
     requires alone { HasOne (command_of task.now) input.now }
-    ensures { IsAnswered (command_of task.now)
+    requires planned { IsPlanned (command_of task.now) }
+    ensures { PrintsOutput (command_of task.now)
         (found_of (loaded_of input.now) (shape_of plan.now ∷ []))
         (λ before. ArePrepared (queries_in input.now.queries) input.now.tables before steps.old)
         (state_of S.Sink out.old) (state_of S.Sink out.new) steps.new result }
@@ -165,7 +181,7 @@ fn print_branches<R: Rank, S: Sink, L: Ledger>(
     requires several { 1 < length input.now.queries }
     requires alone { HasOne (command_of task.now) input.now }
     requires plans { HavePlans R.KEYS R.key input.now.tables input.now.queries plans.now }
-    ensures { IsAnswered (command_of task.now)
+    ensures { PrintsOutput (command_of task.now)
         (found_of (loaded_of input.now) (shapes_of plans.now))
         (λ before. ArePrepared (queries_in input.now.queries) input.now.tables before steps.old)
         (state_of S.Sink out.old) (state_of S.Sink out.new) steps.new result }
@@ -181,7 +197,7 @@ fn print_branches<R: Rank, S: Sink, L: Ledger>(
             };
             print_union_run(alloc, words.engine, &style, &asked, out, steps)
         }
-        _ => Err(PrintFault::NoMemory),
+        _ => unreachable!(),
     }
 }
 
@@ -199,7 +215,8 @@ fn print_output<R: Rank, S: Sink, L: Ledger>(
     requires plan { IsPlanOf R.KEYS R.key asked.now.query.now asked.now.tables.now asked.now.best
         asked.now.plan.now }
     requires unnamed { IsUnnamed (command_of task.now) asked.now.best }
-    ensures { (proof : Certificate) → IsAnswered (command_of task.now)
+    requires planned { IsPlanned (command_of task.now) }
+    ensures { (proof : Certificate) → PrintsOutput (command_of task.now)
         (found_by asked.now.query.now asked.now.tables.now asked.now.best script.now proof
         (shape_of asked.now.plan.now))
         (λ before. IsPrepared asked.now.query.now.query asked.now.tables.now before steps.old)
@@ -211,7 +228,7 @@ fn print_output<R: Rank, S: Sink, L: Ledger>(
             print_run(alloc, words.engine, &style, asked, out, steps)
         }
         Task::Plan(_) => print_report(alloc, asked.plan, asked.query, asked.tables, out),
-        Task::Session(_, words) => {
+        Task::Session { words, .. } => {
             let style = style_in(words);
             print_script(alloc, words.engine, &style, asked, script, out, steps)
         }
@@ -219,5 +236,6 @@ fn print_output<R: Rank, S: Sink, L: Ledger>(
         Task::Prove(words) => {
             print_certificate(alloc, words.engine, asked.plan, asked.query, out, steps)
         }
+        Task::Verify { .. } => unreachable!(),
     }
 }

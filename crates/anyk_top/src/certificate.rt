@@ -9,12 +9,14 @@ ghost use Rattle.outer_io.specs.SinkState.{state_of};
 ghost use Rattle.tdp_core.specs.AnswerView.{answers_of};
 ghost use Rattle.tdp_core.specs.Solutions.{IsTreeRanking};
 ghost use Rattle.tdp_model.specs.KeyTuple.{KeyOf};
+ghost use Rattle.verdict.specs.Silence.{IsSilent};
 
+use crate::once::print_once;
 use bound_query::Query;
 use bumpalo::Bump;
 use cmd_words::Engine;
 use engine_choice::engine_over;
-use outer_io::{PrintFault, Sink, print};
+use outer_io::{PrintFault, Sink};
 use plan_build::Plan;
 use rank_key::Rank;
 use std::alloc::Global;
@@ -40,6 +42,7 @@ pub fn print_certificate<R: Rank, S: Sink, L: Ledger>(
         → IsPlan R.KEYS R.key query.now tables plan.now
         → PrintedSome (IsProofText query.now.query tables) (state_of S.Sink out.old)
         (state_of S.Sink out.new) result }
+    ensures silent { IsSilent (state_of S.Sink out.old) (state_of S.Sink out.new) result }
 {
     let arena = Bump::new(alloc);
     let mut chosen = engine_over(alloc, engine, plan, None, &arena, steps)?;
@@ -68,7 +71,8 @@ pub fn print_proof<R: Rank, E: Ranked<Key = R>, S: Sink, L: Ledger>(
         → IsPlan R.KEYS R.key query.now tables plan → plan.tree ≡ tree.now
         → PrintedSome (IsProofText query.now.query tables) (state_of S.Sink out.old)
         (state_of S.Sink out.new) result }
+    ensures silent { IsSilent (state_of S.Sink out.old) (state_of S.Sink out.new) result }
 {
     let text = prove(alloc, query, tree, engine, steps)?;
-    print(out, &text)
+    print_once(out, &text)
 }

@@ -9,10 +9,11 @@ ghost use Rattle.refusals.specs.RefusalReasons.{reason_of};
 ghost use Rattle.bound_query.specs.RunBounds.{IsPrepared};
 ghost use Rattle.verdict.specs.AcceptedInput.{queries_in};
 ghost use Rattle.verdict.specs.MadeFiles.{known_to};
+ghost use Rattle.verdict.specs.Outcome.{IsUntouched};
 ghost use Rattle.verdict.specs.StageResults.{Pure, shelved};
 ghost use Rattle.verdict.specs.Verdict.{AreStructures, IsShaped, IsStructure};
-ghost use Rattle.verdict.specs.Words.{built};
-ghost use Rattle.command_input.specs.Judgement.{HasOne, IsJudged};
+ghost use Rattle.verdict.specs.Words.{a_command};
+ghost use Rattle.command_input.specs.Judgement.{HasOne, IsJudged, IsPlanned};
 ghost use Rattle.anyk_top.specs.Plans.{ArePlans, IsEarlyWithin, plan_reason};
 ghost use Rattle.anyk_top.specs.Plans.{plans_result_view, planned_result_view, shapes_result_view};
 ghost use Rattle.command_input.specs.Tasks.{command_of};
@@ -47,9 +48,9 @@ pub enum Plans {
     Lexes(Vec<Plan<LexRank>>),
 }
 
-/// The input of the command with the plans of its queries, or the first refusal. `Cyclic` if a
-/// query has no join tree, and `TooManyNodeRows` if more of its rows pass than the limit, in all
-/// nodes together.
+/// The input of a command that plans its queries, with their plans, or the first refusal. `Cyclic`
+/// if a query has no join tree, and `TooManyNodeRows` if more of its rows pass than the limit, in
+/// all nodes together.
 pub fn plan_task<'a, F: Shelf, L: Ledger>(
     alloc: Global,
     task: &'a Task,
@@ -57,15 +58,17 @@ pub fn plan_task<'a, F: Shelf, L: Ledger>(
     keys: Keys,
     steps: &mut Steps<L>,
 ) -> Result<Planned, Refusal<'a>>
+    requires { IsPlanned (command_of task.now) }
     ensures judged { IsJudged (command_of task.now)
         (shelved F.Shelf shelf.old) (shelved F.Shelf shelf.new)
         (planned_result_view result) }
+    ensures untouched { IsUntouched (a_command (command_of task.now)) shelf.old shelf.new }
     ensures plans { IfOk result (λ p. ArePlans p.input p.plans) }
     ensures alone { IfOk result (λ p. HasOne (command_of task.now) p.input) }
     ensures cost { IfOk result (λ p.
         ArePrepared (queries_in p.input.queries) p.input.tables steps.old steps.new) }
     ensures early { IfErr result (λ refusal. IsEarlyWithin (command_of task.now)
-        (known_to (built (command_of task.now)) (F.files shelf.old)) steps.old steps.new) }
+        (known_to (a_command (command_of task.now)) (F.files shelf.old)) steps.old steps.new) }
 {
     let input = look_at(alloc, task, shelf, keys)?;
     match plans_of(alloc, &input, steps) {

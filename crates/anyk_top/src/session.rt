@@ -10,7 +10,7 @@ ghost use Rattle.outer_io.specs.SinkState.{state_of};
 ghost use Rattle.session_script.specs.Script.{KeepsRules};
 ghost use Rattle.bound_query.specs.RunBounds.{IsPrepared};
 ghost use Rattle.output_model.specs.Session.{session_text};
-ghost use Rattle.verdict.specs.SessionBound.{KeepsSessionBound};
+ghost use Rattle.verdict.specs.SessionBound.{KeepsSessionBound, KeepsSessionPace};
 
 use crate::planned_query::PlannedQuery;
 use answer_print::Style;
@@ -26,9 +26,9 @@ use std::sync::ledger::Ledger;
 use step_counter::Steps;
 
 /// Prints the header with the title of the cursors' names, and then what the steps of the script
-/// print of the query's answers, as far as the limit allows: of all of them, or of the best answer
-/// of each row of the item, if one is named. `Write` if a write failed, and
-/// `NoMemory` if memory is refused.
+/// print of the query's answers, as far as the limit allows, each as soon as it is known: of all of
+/// them, or of the best answer of each row of the item, if one is named. `Write` if a write failed,
+/// and `NoMemory` if memory is refused.
 pub fn print_script<R: Rank, S: Sink, L: Ledger>(
     alloc: Global,
     engine: Engine,
@@ -51,6 +51,11 @@ pub fn print_script<R: Rank, S: Sink, L: Ledger>(
         → KeepsSessionBound asked.now.query.now.query asked.now.tables.now
         (list_of asked.now.query.now.query asked.now.tables.now asked.now.best) script.now before
         steps.new }
+    ensures paced { (before : ℕ)
+        → IsPrepared asked.now.query.now.query asked.now.tables.now before steps.old
+        → KeepsSessionPace asked.now.query.now.query asked.now.tables.now
+        (list_of asked.now.query.now.query asked.now.tables.now asked.now.best)
+        (style_view style.now) script.now (S.written out.old) (S.written out.new) before steps.new }
 {
     let arena = Bump::new(alloc);
     let chosen = engine_over(alloc, engine, asked.plan, asked.best, &arena, steps)?;

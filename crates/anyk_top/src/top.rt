@@ -1,16 +1,15 @@
 //! The top call of the program.
 ghost use Rattle.std.specs.Prelude.{◌≡◌, ◌<◌, map};
 ghost use Rattle.std.specs.String.{string_bytes};
-ghost use Rattle.cmd_words.specs.Commands.{said_of};
 ghost use Rattle.verdict.specs.Bound.{IsBounded, IsPrompt};
 ghost use Rattle.verdict.specs.MadeFiles.{known_to};
-ghost use Rattle.verdict.specs.Outcome.{Outcome};
-ghost use Rattle.anyk_top.specs.CommandLine.{asked_of};
+ghost use Rattle.verdict.specs.Outcome.{IsUntouched, Outcome};
+ghost use Rattle.anyk_top.specs.CommandLine.{asked_in};
 ghost use Rattle.verdict.specs.Sides.{outside};
 
-use crate::asking::read_request;
+use crate::answering::execute;
+use crate::asking::read_task;
 use crate::ending::{finish, refusal_of};
-use crate::request_answer::answer;
 use hash_keys::Keys;
 use outer_io::{Shelf, Sink};
 use std::alloc::Global;
@@ -28,16 +27,16 @@ pub fn run_words<F: Shelf, S: Sink, E: Sink, L: Ledger>(
     err: &mut E,
     steps: &mut Steps<L>,
 ) -> u8
-    ensures outcome { Outcome (asked_of (said_of (map string_bytes words.now)))
-        (known_to (asked_of (said_of (map string_bytes words.now))) (F.files shelf.old))
+    ensures outcome { let asked = asked_in (map string_bytes words.now) in
+        Outcome asked (known_to asked (F.files shelf.old))
         (outside F.Shelf S.Sink E.Sink shelf.old out.old err.old)
         (outside F.Shelf S.Sink E.Sink shelf.new out.new err.new) result }
-    ensures bounded { IsBounded (asked_of (said_of (map string_bytes words.now)))
-        (known_to (asked_of (said_of (map string_bytes words.now)))
-        (F.files shelf.old)) steps.old steps.new }
-    ensures prompt { IsPrompt (asked_of (said_of (map string_bytes words.now)))
-        (known_to (asked_of (said_of (map string_bytes words.now))) (F.files shelf.old))
-        (S.written out.old) (S.written out.new) steps.old steps.new }
+    ensures bounded { let asked = asked_in (map string_bytes words.now) in
+        IsBounded asked (known_to asked (F.files shelf.old)) steps.old steps.new }
+    ensures prompt { let asked = asked_in (map string_bytes words.now) in
+        IsPrompt asked (known_to asked (F.files shelf.old)) (S.written out.old) (S.written out.new)
+        steps.old steps.new }
+    ensures untouched { IsUntouched (asked_in (map string_bytes words.now)) shelf.old shelf.new }
 {
     run_keyed(alloc, words, shelf, out, err, Keys::Known, steps)
 }
@@ -54,21 +53,21 @@ pub fn run_keyed<F: Shelf, S: Sink, E: Sink, L: Ledger>(
     keys: Keys,
     steps: &mut Steps<L>,
 ) -> u8
-    ensures outcome { Outcome (asked_of (said_of (map string_bytes words.now)))
-        (known_to (asked_of (said_of (map string_bytes words.now))) (F.files shelf.old))
+    ensures outcome { let asked = asked_in (map string_bytes words.now) in
+        Outcome asked (known_to asked (F.files shelf.old))
         (outside F.Shelf S.Sink E.Sink shelf.old out.old err.old)
         (outside F.Shelf S.Sink E.Sink shelf.new out.new err.new) result }
-    ensures bounded { IsBounded (asked_of (said_of (map string_bytes words.now)))
-        (known_to (asked_of (said_of (map string_bytes words.now)))
-        (F.files shelf.old)) steps.old steps.new }
-    ensures prompt { IsPrompt (asked_of (said_of (map string_bytes words.now)))
-        (known_to (asked_of (said_of (map string_bytes words.now))) (F.files shelf.old))
-        (S.written out.old) (S.written out.new) steps.old steps.new }
+    ensures bounded { let asked = asked_in (map string_bytes words.now) in
+        IsBounded asked (known_to asked (F.files shelf.old)) steps.old steps.new }
+    ensures prompt { let asked = asked_in (map string_bytes words.now) in
+        IsPrompt asked (known_to asked (F.files shelf.old)) (S.written out.old) (S.written out.new)
+        steps.old steps.new }
+    ensures untouched { IsUntouched (asked_in (map string_bytes words.now)) shelf.old shelf.new }
 {
-    match read_request(alloc, words) {
-        Ok(request) => {
-            let status = finish(err, answer(alloc, &request, shelf, out, keys, steps));
-            drop(request);
+    match read_task(alloc, words) {
+        Ok(task) => {
+            let status = finish(err, execute(alloc, &task, shelf, out, keys, steps));
+            drop(task);
             status
         }
         Err(fault) => finish(err, Err(refusal_of(fault))),
@@ -88,10 +87,11 @@ pub fn run_uncounted<F: Shelf, S: Sink, E: Sink, L: Ledger>(
     requires name { blank.name ≡ L.name }
     requires parts { blank.parts ≡ L.parts }
     requires some_part { 0 < blank.parts }
-    ensures outcome { Outcome (asked_of (said_of (map string_bytes words.now)))
-        (known_to (asked_of (said_of (map string_bytes words.now))) (F.files shelf.old))
+    ensures outcome { let asked = asked_in (map string_bytes words.now) in
+        Outcome asked (known_to asked (F.files shelf.old))
         (outside F.Shelf S.Sink E.Sink shelf.old out.old err.old)
         (outside F.Shelf S.Sink E.Sink shelf.new out.new err.new) result }
+    ensures untouched { IsUntouched (asked_in (map string_bytes words.now)) shelf.old shelf.new }
 {
     let mut steps = Steps::<L>::new(blank);
     run_keyed(alloc, words, shelf, out, err, keys, &mut steps)

@@ -1,5 +1,5 @@
 //! The command `run` over several queries.
-ghost use Rattle.std.specs.Prelude.{◌≡◌, ◌≤◌, ◌+◌, None, IfOk, length, vec_len, ℕ};
+ghost use Rattle.std.specs.Prelude.{◌≤◌, ◌+◌, None, IfOk, length, ℕ};
 ghost use Rattle.std.specs.List.{All};
 ghost use Rattle.anyk_model.specs.Output.{cut};
 ghost use Rattle.answer_print.specs.StyleView.{style_view};
@@ -59,8 +59,8 @@ pub fn print_union_run<R: Rank, S: Sink, L: Ledger>(
         (cut (branch_at all 0).limit (union_of all asked.now.tables.now))
         (style_view style.now) (S.written out.old) (S.written out.new) before steps.new }
 {
-    let arenas = arenas_for(alloc, asked.plans.len())?;
-    let engines = engines_over(alloc, engine, asked.plans, arenas.as_slice(), steps)?;
+    let arena = Bump::new(alloc);
+    let engines = engines_over(alloc, engine, asked.plans, &arena, steps)?;
     let mut merge = Merge::new(alloc, asked.queries, asked.tables, engines, steps)?;
     print_union(
         alloc,
@@ -74,34 +74,21 @@ pub fn print_union_run<R: Rank, S: Sink, L: Ledger>(
     )
 }
 
-/// This many arenas. `NoMemory` if memory is refused.
-fn arenas_for(alloc: Global, count: usize) -> Result<Vec<Bump>, NoMemory>
-    ensures { IfOk result (λ arenas. vec_len arenas ≡ count) }
-{
-    let mut arenas = Vec::with_capacity(alloc, count)?;
-    for _ in 0..count {
-        arenas.push(Bump::new(alloc))?;
-    }
-    Ok(arenas)
-}
-
-/// The engine over each plan, before its first answer, with the arena at its place. `NoMemory` if
-/// memory is refused.
+/// The engine over each plan, before its first answer. All take their memory from one arena.
+/// `NoMemory` if memory is refused.
 fn engines_over<'t, R: Rank, L: Ledger>(
     alloc: Global,
     engine: Engine,
     plans: &'t [Plan<R>],
-    arenas: &'t [Bump],
+    arena: &'t Bump,
     steps: &mut Steps<L>,
 ) -> Result<Vec<ChosenEngine<'t, R>>, NoMemory>
-    requires each { length arenas.now ≡ length plans.now }
     requires tie_free { All (λ p. IsTieFreeTree p.tree) plans.now }
     ensures started { IfOk result (λ engines. AreStarted R.KEYS R.key plans.now engines.items) }
     ensures cost { steps.new ≤ steps.old + starts_of plans.now }
 {
     let mut engines = Vec::with_capacity(alloc, plans.len())?;
     for plan in plans {
-        let arena = &arenas[engines.len()];
         let started = engine_over(alloc, engine, plan, None, arena, steps)?;
         engines.push(started)?;
     }

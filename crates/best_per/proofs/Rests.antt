@@ -72,9 +72,6 @@ entries_within {R} n (e ∷ es) i h = elim (cases_lt 0 (holds n e.tag i)) [
 ]
 
 module _ {R : Type 0} (d : ℕ) (key : R → KeyOf d 16) (t : List (NodeView R)) where
-  K : Type 0
-  K = KeyOf d 16
-
   -- the rest is the ranking of the keys of the places that the entries hold
   rest_ranks : (es : List (Entry R ℕ)) → IsRanking (KeyOf d 16) (key_below d 16) (λ k. (i : ℕ) × (0 < held_by (root_len t) es i) × (place_key d key t i ≡ k)) (rest_keys d key t es)
   rest_ranks es =

@@ -1,27 +1,13 @@
 -- The items of a core ascend, and they are its atoms with their numbers from 1.
-use Rattle.std.proofs.Common.{◌≡◌, ◌↔◌, ◌+◌, ◌<◌, ◌≤◌, ◌^◌, ℕ, zero, suc, List, [], ◌∷◌, map, filter, subst, inl, inr, arith}
+use Rattle.std.proofs.Common.{◌≡◌, ◌↔◌, ◌+◌, ◌<◌, ◌^◌, ℕ, zero, suc, List, [], ◌∷◌, map, filter, subst, arith}
 use Rattle.std.specs.List.{range_with_len}
-use Rattle.std.proofs.lemmas.Bool.{cases_lt}
 use Rattle.hyper_graph.proofs.Bits.{in_below}
 use Rattle.hyper_graph.specs.Graph.{is_in}
 use Rattle.hyper_graph.specs.Items.{items_below, items_of}
 use Rattle.rankings.specs.Order.{IsMember, IsAscending}
 use Rattle.rankings.proofs.Ascending.{ascending_filter, below_all}
-use Rattle.rankings.proofs.Members.{below_member, kept_member, member_kept, member_map, member_unmap}
+use Rattle.rankings.proofs.Members.{below_member, kept_member, member_kept, member_map, member_unmap, range_bounds, range_member}
 use Rattle.bound_query.specs.Shape.{IsInCore}
-
-range_bounds : (a n k : ℕ) → IsMember k (range_with_len a n) → (a ≤ k) × (k < a + n)
-range_bounds a zero k m = absurd m
-range_bounds a (suc n) k (inl e) = (omega arith, omega arith)
-range_bounds a (suc n) k (inr m) = let h = range_bounds (a + 1) n k m in (omega (arith, h.0), omega (arith, h.1))
-
-range_member : (a n k : ℕ) → a ≤ k → k < a + n → IsMember k (range_with_len a n)
-range_member a zero k low high = absurd (omega arith)
-range_member a (suc n) k low high =
-    elim (cases_lt a k) [
-      | inl above ↦ inr (range_member (a + 1) n k (omega arith) (omega arith))
-      | inr here ↦ inl (omega arith)
-    ]
 
 range_ascending : (a n : ℕ) → IsAscending (λ x y. x < y) (range_with_len a n)
 range_ascending a zero = tt

@@ -85,8 +85,7 @@ module _ (bound : BoundQuery) (tables : List Table) (fits : Fits bound tables) w
 
   pub sets_within : (n count : ℕ) (sets : List ℕ) → AreItemSets bound.lists n count sets → All (λ set. set < 2 ^ n) sets
   sets_within n count sets known k d h =
-      let count_is = known.count in
-      let l : slice_index sets k < 2 ^ n = (known.each k (omega (arith, h, count_is))).within in
+      let l : slice_index sets k < 2 ^ n = (known.each k (omega (arith, h, known.count))).within in
       subst (λ (z : ℕ). z < 2 ^ n) (at_any sets k 0 d h) l
 
   pub graph_of : (n : ℕ) (sets : List ℕ) → n ≡ length bound.query.items → 1 ≤ n → n ≤ 16 → AreItemSets bound.lists n (length bound.variables) sets

@@ -58,7 +58,7 @@ module _ (es : List Equality) where
     }
   ]
 
-member_at : (c : Column) (list : List Column) → IsMember c list → (n : ℕ) × (n < length list) × (variable_at list n ≡ c)
+pub member_at : (c : Column) (list : List Column) → IsMember c list → (n : ℕ) × (n < length list) × (variable_at list n ≡ c)
 member_at c [] m = absurd m
 member_at c (x ∷ list) (inl e) = (0, omega arith, sym e)
 member_at c (x ∷ list) (inr m) = let p = member_at c list m in let h = p.1 in (suc p.0, omega (arith, h), p.2)

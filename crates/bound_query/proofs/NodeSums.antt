@@ -4,6 +4,8 @@ use Rattle.std.specs.List.{range_with_len, sum_by}
 use Rattle.std.proofs.lemmas.Bool.Decides.{Decides-eqb}
 use Rattle.std.proofs.lemmas.List.Sums.{sum_by-cons}
 use Rattle.tdp_model.specs.TreeProblem.{sum_from}
+pub use Rattle.tdp_model.proofs.Sums.{sum_fewer}
+use Rattle.tdp_model.proofs.Sums.{same_sums}
 use Rattle.tdp_model.proofs.Ranges as ranges
 use Rattle.bound_query.specs.Parts.{sum_of_all}
 use Rattle.bound_query.proofs.Sums.{sum_ap}
@@ -17,26 +19,7 @@ sum_none f = refl
 
 pub sum_same : (f g : ℕ → ℕ) (n q : ℕ) → ((u : ℕ) → q ≤ u → u < q + n → f u ≡ g u)
     → sum_from ◌+◌ 0 f n q ≡ sum_from ◌+◌ 0 g n q
-unfolding sum_from
-sum_same f g zero q h = refl
-sum_same f g (suc n) q h =
-    omega (
-      arith,
-      h q (omega arith) (omega arith),
-      sum_same f g n (suc q) (λ u a b. h u (omega arith) (omega arith)),
-    )
-
--- if each node has at most this many, so have all together
-pub sum_fewer : (few many : ℕ → ℕ) (n q : ℕ) → ((u : ℕ) → q ≤ u → u < q + n → few u ≤ many u)
-    → sum_from ◌+◌ 0 few n q ≤ sum_from ◌+◌ 0 many n q
-unfolding sum_from
-sum_fewer few many zero q h = omega arith
-sum_fewer few many (suc n) q h =
-    omega (
-      arith,
-      h q (omega arith) (omega arith),
-      sum_fewer few many n (suc q) (λ u a b. h u (omega arith) (omega arith)),
-    )
+sum_same f g n q h = same_sums ◌+◌ 0 f g n q h
 
 -- the sums of ranges
 pub sum_range : (f : ℕ → ℕ) (n q : ℕ) → ranges.sum_of f n q ≡ sum_from ◌+◌ 0 f n q

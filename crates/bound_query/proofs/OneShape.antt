@@ -18,12 +18,7 @@ use Rattle.bound_query.specs.Parts.{sum_of_all}
 use Rattle.bound_query.specs.Shape.{Flaw, cyclic, too_many_rows, IsInCore, IsCyclic, Shape, HasNodeRows, HasTree, HasShape, IsShape}
 use Rattle.tdp_model.specs.NodeRows.{most_node_rows}
 use Rattle.bound_query.proofs.Alike.{runs_same, ends_same, core_same}
-
-before_asym : (a b : Column) → ColumnBefore a b → ColumnBefore b a → ⊥
-before_asym a b (inl x) (inl y) = omega (arith, x, y)
-before_asym a b (inl x) (inr y) = omega (arith, x, y.0)
-before_asym a b (inr x) (inl y) = omega (arith, x.0, y)
-before_asym a b (inr x) (inr y) = omega (arith, x.1, y.1)
+use Rattle.bound_query.proofs.ColumnOrder.{before_asym}
 
 one_variables : (es : List Equality) (a b : List Column) → AreVariables es a → AreVariables es b → a ≡ b
 one_variables es a b x y = ascending_unique_lem ColumnBefore before_asym a b x.ascending y.ascending

@@ -1,5 +1,5 @@
 -- The parts of a key add up to it, and the caps bound them.
-use Rattle.std.proofs.Common.{◌≡◌, ◌⊎◌, ◌+◌, ◌-◌, ◌<◌, ◌≤◌, ◌==◌, ℕ, zero, suc, Bool, true, false, cond, if◌then◌else◌, ℤ, pos, negsuc, ◌+ℤ◌, neg_ℤ, nat_abs, List, [], ◌∷◌, map, length, get_or, slice_index, Option, Some, None, unwrap_or, refl, ap, ◌∙◌, inl, inr, arith}
+use Rattle.std.proofs.Common.{◌≡◌, ◌⊎◌, ◌+◌, ◌-◌, ◌<◌, ◌≤◌, ◌==◌, ℕ, zero, suc, Bool, true, false, cond, if◌then◌else◌, ℤ, pos, negsuc, ◌+ℤ◌, neg_ℤ, nat_abs, List, [], ◌∷◌, map, length, get_or, slice_index, Option, Some, None, unwrap_or, refl, sym, ap, ◌∙◌, inl, inr, arith}
 use Rattle.std.specs.List.{AllByRecursion, range_with_len}
 use Rattle.std.proofs.lemmas.Int.{ints}
 use Rattle.std.proofs.lemmas.Bool.Decides.{Decides-eqb}
@@ -20,35 +20,45 @@ eq_or_not m a = by_test (m == a) refl
     by_test true e = inl e
     by_test false e = inr e
 
-module _ (m : ℕ) (v f : ℕ → ℤ) where
-  abbrev picked : ℕ → ℤ
-  picked i = cond (m == i) (v i +ℤ f i) (f i)
+-- a sum in which the number m counts for more, by what is added to it
+module _ {K : Type 0} (add : K → K → K) (sum : List K → K) (cons : (x : K) (xs : List K) → sum (x ∷ xs) ≡ add x (sum xs))
+    (regroup : (a b c : K) → add (add a b) c ≡ add a (add b c)) (swap : (a b c : K) → add a (add b c) ≡ add b (add a c)) (m : ℕ) (v f : ℕ → K) where
+  abbrev picked : ℕ → K
+  picked i = cond (m == i) (add (v i) (f i)) (f i)
 
-  past : (a n : ℕ) → m < a → total (map picked (range_with_len a n)) ≡ total (map f (range_with_len a n))
+  -- what the number a adds, by what the test gives
+  one_step : (a n : ℕ) (b : Bool) → (m == a) ≡ b
+      → sum (map picked (range_with_len a (suc n))) ≡ add (cond b (add (v a) (f a)) (f a)) (sum (map picked (range_with_len (a + 1) n)))
+  one_step a n b e =
+      cons (picked a) (map picked (range_with_len (a + 1) n))
+      ∙ ap (λ (t : Bool). add (cond t (add (v a) (f a)) (f a)) (sum (map picked (range_with_len (a + 1) n)))) e
+
+  past : (a n : ℕ) → m < a → sum (map picked (range_with_len a n)) ≡ sum (map f (range_with_len a n))
   past a zero h = refl
   past a (suc n) h =
       let differ : (m == a) ≡ false = elim (eq_or_not m a) [ inl e ↦ absurd (let s : m ≡ a = (Decides-eqb m a).0 e in omega (arith, s)) | inr e ↦ e ] in
-      ap (λ (b : Bool). cond b (v a +ℤ f a) (f a) +ℤ total (map picked (range_with_len (a + 1) n))) differ
-      ∙ ap (λ (z : ℤ). f a +ℤ z) (past (a + 1) n (omega (arith, h)))
+      one_step a n false differ ∙ ap (add (f a)) (past (a + 1) n (omega (arith, h))) ∙ sym (cons (f a) (map f (range_with_len (a + 1) n)))
 
-  pub picks : (a n : ℕ) → a ≤ m → m < a + n → total (map picked (range_with_len a n)) ≡ v m +ℤ total (map f (range_with_len a n))
-  picks a zero low high = absurd (omega arith)
-  picks a (suc n) low high = elim (eq_or_not m a) [
+  sum_picked : (a n : ℕ) → a ≤ m → m < a + n → sum (map picked (range_with_len a n)) ≡ add (v m) (sum (map f (range_with_len a n)))
+  sum_picked a zero low high = absurd (omega arith)
+  sum_picked a (suc n) low high = elim (eq_or_not m a) [
     | inl e ↦
         let same : m ≡ a = (Decides-eqb m a).0 e in
-        let step : total (map picked (range_with_len a (suc n))) ≡ (v a +ℤ f a) +ℤ total (map f (range_with_len (a + 1) n)) =
-        ap (λ (b : Bool). cond b (v a +ℤ f a) (f a) +ℤ total (map picked (range_with_len (a + 1) n))) e
-        ∙ ap (λ (z : ℤ). (v a +ℤ f a) +ℤ z) (past (a + 1) n (omega (arith, same))) in
-        let at : v m ≡ v a = ap v same in
-        omega (arith, ints, step, at)
+        one_step a n true e ∙ ap (add (add (v a) (f a))) (past (a + 1) n (omega (arith, same))) ∙ regroup (v a) (f a) (sum (map f (range_with_len (a + 1) n)))
+        ∙ ap (add (v a)) (sym (cons (f a) (map f (range_with_len (a + 1) n)))) ∙ ap (λ (k : ℕ). add (v k) (sum (map f (range_with_len a (suc n))))) (sym same)
     | inr e ↦
         let other : m ≡ a → ⊥ = λ s. let t : (m == a) ≡ true = (Decides-eqb m a).1 s in cc in
-        let above : a + 1 ≤ m = omega (arith, other) in
-        let rest = picks (a + 1) n above (omega (arith, high)) in
-        let step : total (map picked (range_with_len a (suc n))) ≡ f a +ℤ total (map picked (range_with_len (a + 1) n)) =
-        ap (λ (b : Bool). cond b (v a +ℤ f a) (f a) +ℤ total (map picked (range_with_len (a + 1) n))) e in
-        omega (arith, ints, step, rest)
+        one_step a n false e ∙ ap (add (f a)) (sum_picked (a + 1) n (omega (arith, other)) (omega (arith, high))) ∙ swap (f a) (v m) (sum (map f (range_with_len (a + 1) n)))
+        ∙ ap (add (v m)) (sym (cons (f a) (map f (range_with_len (a + 1) n))))
   ]
+
+pub picks : (m : ℕ) (v f : ℕ → ℤ) (a n : ℕ) → a ≤ m → m < a + n
+    → total (map (λ i. cond (m == i) (v i +ℤ f i) (f i)) (range_with_len a n)) ≡ v m +ℤ total (map f (range_with_len a n))
+picks m v f a n low high = sum_picked ◌+ℤ◌ total (λ x xs. refl) (λ x y z. omega (arith, ints)) (λ x y z. omega (arith, ints)) m v f a n low high
+
+pub counts : (m : ℕ) (v f : ℕ → ℕ) (a n : ℕ) → a ≤ m → m < a + n
+    → sum_of_all (map (λ i. cond (m == i) (v i + f i) (f i)) (range_with_len a n)) ≡ v m + sum_of_all (map f (range_with_len a n))
+counts m v f a n low high = sum_picked ◌+◌ sum_of_all (λ x xs. refl) (λ x y z. omega arith) (λ x y z. omega arith) m v f a n low high
 
 total_zero : (ns : List ℕ) → total (map (λ (i : ℕ). pos 0) ns) ≡ pos 0
 total_zero [] = refl
@@ -81,9 +91,8 @@ module _ (tables : List Table) (items : List Item) (rows : List ℕ) where
   pub terms_add : (terms : List Term) → AllByRecursion (TermInside tables items) terms → total (map (added terms) (numbers_of items)) ≡ total (map whole terms)
   terms_add [] h = total_zero (numbers_of items)
   terms_add (t ∷ terms) h =
-      let inside = h.0.item in
-      total_ap (added (t ∷ terms)) (picked t.column.item (λ i. row_term tables items (slice_index rows i) t) (added terms)) (numbers_of items) (added_cons t terms)
-      ∙ picks t.column.item (λ i. row_term tables items (slice_index rows i) t) (added terms) 0 (length items) (omega arith) (omega (arith, inside))
+      total_ap (added (t ∷ terms)) (λ i. cond (t.column.item == i) (row_term tables items (slice_index rows i) t +ℤ added terms i) (added terms i)) (numbers_of items) (added_cons t terms)
+      ∙ picks t.column.item (λ i. row_term tables items (slice_index rows i) t) (added terms) 0 (length items) (omega arith) (omega (arith, h.0.item))
       ∙ ap (λ (z : ℤ). whole t +ℤ z) (terms_add terms h.1)
 
 -- the parts of a combination add up to the key's sum, negated if the order descends
@@ -97,36 +106,6 @@ parts_add query tables rows key h = by_order key.descending
     by_order false = terms_add tables query.items rows key.terms h
 
 -- ---- caps
-
-module _ (m : ℕ) (v f : ℕ → ℕ) where
-  abbrev counted : ℕ → ℕ
-  counted i = cond (m == i) (v i + f i) (f i)
-
-  not_counted : (a n : ℕ) → m < a → sum_of_all (map counted (range_with_len a n)) ≡ sum_of_all (map f (range_with_len a n))
-  not_counted a zero h = refl
-  not_counted a (suc n) h =
-      let differ : (m == a) ≡ false = elim (eq_or_not m a) [ inl e ↦ absurd (let s : m ≡ a = (Decides-eqb m a).0 e in omega (arith, s)) | inr e ↦ e ] in
-      ap (λ (b : Bool). cond b (v a + f a) (f a) + sum_of_all (map counted (range_with_len (a + 1) n))) differ
-      ∙ ap (λ (z : ℕ). f a + z) (not_counted (a + 1) n (omega (arith, h)))
-
-  pub counts : (a n : ℕ) → a ≤ m → m < a + n → sum_of_all (map counted (range_with_len a n)) ≡ v m + sum_of_all (map f (range_with_len a n))
-  counts a zero low high = absurd (omega arith)
-  counts a (suc n) low high = elim (eq_or_not m a) [
-    | inl e ↦
-        let same : m ≡ a = (Decides-eqb m a).0 e in
-        let step : sum_of_all (map counted (range_with_len a (suc n))) ≡ (v a + f a) + sum_of_all (map f (range_with_len (a + 1) n)) =
-        ap (λ (b : Bool). cond b (v a + f a) (f a) + sum_of_all (map counted (range_with_len (a + 1) n))) e
-        ∙ ap (λ (z : ℕ). (v a + f a) + z) (not_counted (a + 1) n (omega (arith, same))) in
-        let at : v m ≡ v a = ap v same in
-        omega (arith, step, at)
-    | inr e ↦
-        let other : m ≡ a → ⊥ = λ s. let t : (m == a) ≡ true = (Decides-eqb m a).1 s in cc in
-        let above : a + 1 ≤ m = omega (arith, other) in
-        let rest = counts (a + 1) n above (omega (arith, high)) in
-        let step : sum_of_all (map counted (range_with_len a (suc n))) ≡ f a + sum_of_all (map counted (range_with_len (a + 1) n)) =
-        ap (λ (b : Bool). cond b (v a + f a) (f a) + sum_of_all (map counted (range_with_len (a + 1) n))) e in
-        omega (arith, step, rest)
-  ]
 
 module _ (tables : List Table) (items : List Item) where
   abbrev size_in : List Term → ℕ → ℕ
@@ -144,9 +123,8 @@ module _ (tables : List Table) (items : List Item) where
   sizes_add : (terms : List Term) → AllByRecursion (TermInside tables items) terms → sum_of_all (map (size_in terms) (numbers_of items)) ≡ terms_size tables items terms
   sizes_add [] h = sum_zero (numbers_of items)
   sizes_add (t ∷ terms) h =
-      let inside = h.0.item in
-      sum_ap (size_in (t ∷ terms)) (counted t.column.item (λ i. column_size tables items t.column) (size_in terms)) (numbers_of items) (size_cons t terms)
-      ∙ counts t.column.item (λ i. column_size tables items t.column) (size_in terms) 0 (length items) (omega arith) (omega (arith, inside))
+      sum_ap (size_in (t ∷ terms)) (λ i. cond (t.column.item == i) (column_size tables items t.column + size_in terms i) (size_in terms i)) (numbers_of items) (size_cons t terms)
+      ∙ counts t.column.item (λ i. column_size tables items t.column) (size_in terms) 0 (length items) (omega arith) (omega (arith, h.0.item))
       ∙ ap (λ (z : ℕ). column_size tables items t.column + z) (sizes_add terms h.1)
 
   -- the caps of all items add up to the sum of the greatest weights

@@ -98,8 +98,7 @@ module _ (query : Query) (tables : List Table) (within : IsWithin query tables) 
 pub stored_filter : (bound : BoundQuery) (tables : List Table) → Fits bound tables → (filters : List Filter) → map filter_view filters ≡ bound.filters
     → (item : ℕ) (f : Filter) → item < length bound.query.items → f ≡ get_or filters item f → IsFilterOf bound.query.equalities item (filter_view f)
 stored_filter bound tables fits filters shown item f h is =
-    let count = fits.filtered in
-    let inside : item < length filters = omega (arith, length-map filters filter_view, ap length shown, count, h) in
+    let inside : item < length filters = omega (arith, length-map filters filter_view, ap length shown, fits.filtered, h) in
     let at : filter_at bound.filters item ≡ filter_view f =
     ap (λ (l : List ItemFilter). filter_at l item) (sym shown) ∙ get_or-map filter_view filters item f (record { pairs = []; constants = [] }) inside ∙ ap filter_view (sym is) in
     subst (λ (g : ItemFilter). IsFilterOf bound.query.equalities item g) at (fits.filters item h)

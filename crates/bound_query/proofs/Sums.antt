@@ -1,12 +1,6 @@
 -- Sums of numbers in a list.
-use Rattle.std.proofs.Common.{◌≡◌, ◌+◌, ℕ, List, [], ◌∷◌, map, sum, refl, sym, ap, ◌∙◌, arith}
-use Rattle.std.proofs.lemmas.List.Sums.{sum_by-cons}
+use Rattle.std.proofs.Common.{◌≡◌, ◌+◌, ℕ, List, [], ◌∷◌, map, refl, arith}
 use Rattle.bound_query.specs.Parts.{sum_of_all}
-
--- the sum is the library's
-pub same_sum : (xs : List ℕ) → sum_of_all xs ≡ sum xs
-same_sum [] = refl
-same_sum (x ∷ xs) = ap (λ (n : ℕ). x + n) (same_sum xs) ∙ sym (sum_by-cons (λ (n : ℕ). n) x xs)
 
 pub sum_zero : (ns : List ℕ) → sum_of_all (map (λ (i : ℕ). 0) ns) ≡ 0
 sum_zero [] = refl

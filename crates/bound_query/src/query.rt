@@ -152,13 +152,13 @@ impl Query {
     }
 
     /// What a row of an item adds to a key, negated if the order descends. Rows count from 1.
-    pub fn part(&self, _tables: &Tables, item: u32, row: u32, key: u32) -> i128
-        requires fits { Fits self.now _tables.now }
+    pub fn part(&self, tables: &Tables, item: u32, row: u32, key: u32) -> i128
+        requires fits { Fits self.now tables.now }
         requires item { item < length self.now.query.items }
         requires first { 1 ≤ row }
-        requires row { row ≤ length (table_in _tables.now self.now.query.items item).rows }
+        requires row { row ≤ length (table_in tables.now self.now.query.items item).rows }
         requires key { key < length self.now.query.order }
-        ensures { result ≡ part_of _tables.now self.now.query.items item row
+        ensures { result ≡ part_of tables.now self.now.query.items item row
             (key_at self.now.query.order key) }
     {
         let parts = &self.weighed[key as usize][item as usize].parts;

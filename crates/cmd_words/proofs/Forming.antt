@@ -10,9 +10,6 @@ use Rattle.cmd_words.specs.declared.arguments.Taken.{Taken}
 use denote.Ref.{Bor}
 
 module _ (taken : Taken) (new arg made : Arg) (is : rule_of new ≡ new_rule taken.name.now) (acts : arg ≡ record new { action = Some taken.action }) where
-  abbrev first : Arg → Arg
-  first a = record a { action = Some taken.action }
-
   abbrev base : Rule → Rule
   base r = record r { action = Some taken.action }
 

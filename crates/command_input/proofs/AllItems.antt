@@ -8,13 +8,13 @@ use Rattle.outer_io.specs.Files.{bytes_of}
 use Rattle.query_select.specs.declared.select.ItemRef.{ItemRef}
 use Rattle.query_select.specs.declared.select.Select.{Select}
 use Rattle.refusals.specs.Reason as reason
-use Rattle.refusals.specs.Reason.{Reason, UnknownTable}
+use Rattle.refusals.specs.Reason.{Reason}
 use Rattle.verdict.specs.Loading.{all_items, unknown_table, unknown_with}
 use Rattle.verdict.specs.StageResults.{Pure}
 use Rattle.session_script.specs.Script.{unless}
 use Rattle.verdict.specs.Stages.{Is}
 use Rattle.command_input.specs.Entries.{HasUses}
-use Rattle.command_input.proofs.FirstUses.{few_uses, no_uses}
+use Rattle.command_input.proofs.FirstUses.{few_uses}
 
 pub all_items_flat : (selects : List Select) → all_items selects ≡ flat_map (λ (s : Select). s.items) selects
 all_items_flat [] = refl
@@ -78,9 +78,6 @@ some_unless (Some x) e b h = let same : e ≡ x = cc in ap Some (sym same)
 pub record HasAllUses (named : List (List ℕ × List ℕ)) (selects : List Select) (i : ℕ) (firsts : List (List ℕ × List ℕ)) (numbers : List ℕ) : Type 0 where
   pub known : unknown_table named (all_items (drop i selects)) ≡ unknown_table named (all_items selects)
   pub uses : HasUses named (all_items (take i selects)) firsts numbers
-
-pub all_begun : (named : List (List ℕ × List ℕ)) (selects : List Select) → HasAllUses named selects 0 [] []
-all_begun named selects = record { known = refl; uses = no_uses named }
 
 module _ (named : List (List ℕ × List ℕ)) (selects : List Select) (i : ℕ) (select : Select) (firsts : List (List ℕ × List ℕ)) (numbers : List ℕ)
     (inside : i < length selects) (is : select ≡ get_or selects i select) (so_far : HasAllUses named selects i firsts numbers) where

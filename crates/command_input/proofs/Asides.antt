@@ -26,9 +26,6 @@ module _ {A : Type 0} (with : A → Beside) where
   said_refused x reason.Usage h = h
   said_refused x e h = ap (λ (r : Result A Reason). then_by r (λ a. Ok (with a))) h
 
-  pub said_found : (x : Result A Reason) (a : A) → Is x (Ok a) → Is (then_by x (λ a. Ok (with a))) (Ok (with a))
-  said_found x a h = ap (λ (r : Result A Reason). then_by r (λ a. Ok (with a))) h
-
 -- ---- the file, and then what its bytes say
 
 -- none is named

@@ -1,5 +1,5 @@
 -- How a command ended, from the result of reading and planning its input.
-use Rattle.std.proofs.Common.{◌≡◌, [], ℕ, List, Option, Some, None, IfSome, Result, Ok, Err, inl, refl, sym, subst}
+use Rattle.std.proofs.Common.{◌≡◌, [], ℕ, List, Option, Some, None, IfSome, Result, Ok, Err, refl, sym, subst}
 use Rattle.outer_io.specs.Files.{Files}
 use Rattle.query_select.specs.declared.select.Select.{Select}
 use Rattle.rankings.specs.Order.{IsMember}
@@ -10,12 +10,13 @@ use Rattle.verdict.specs.AcceptedInput.{Found}
 use Rattle.verdict.specs.Loading.{all_items, files_read, first_uses, unknown_table}
 use Rattle.verdict.specs.MadeFiles.{known_to}
 use Rattle.verdict.specs.Outcome.{GotNothing, IsCaused, IsCut, IsReason, IsTurn, IsTurnOf, Outside, aside_turn, query_turn, table_turn}
-use Rattle.verdict.specs.StageResults.{Fits, Pure, Shelved, Staged, first_turn, second_turn}
+use Rattle.verdict.specs.StageResults.{Fits, Pure, Shelved, first_turn, second_turn}
 use Rattle.session_script.specs.Script.{unless}
 use Rattle.verdict.specs.Verdict.{IsVerdict}
-use Rattle.verdict.specs.Words.{Asked, Command, Sought, built, run, plan, session, load, prove, verify, sought_by}
+use Rattle.verdict.specs.Words.{Asked, Command, IsNamed, IsNamedBy, Sought, a_command, run, plan, session, load, prove, verify, sought_by}
+use Rattle.verdict.proofs.Complete.{silent_cut}
 use Rattle.verdict.proofs.Printed.{Accepts}
-use Rattle.command_input.specs.Judgement.{IsJudged}
+use Rattle.command_input.specs.Judgement.{IsJudged, IsJudgedOn}
 
 unless_ok : {A : Type 0} (o : Option Reason) (a k : A) → Ok k ≡ unless o a → (o ≡ None) × (k ≡ a)
 unless_ok None a k e = (refl, cc)
@@ -38,12 +39,12 @@ turn_told sought None name h = tt
 turn_told sought (Some files) name h = turn_of sought files name h
 
 pub judged_accepts : (command : Command) (old new : Shelved) (found : Found) → IsJudged command old new (Ok found)
-    → Accepts command (known_to (built command) old.files) found
-judged_accepts (run words) old new found h = h.fits
-judged_accepts (plan words) old new found h = h.fits
-judged_accepts (session script words) old new found h = h.fits
-judged_accepts (prove words) old new found h = h.fits
-judged_accepts (verify proof words) old new found h = h.fits
+    → Accepts command (known_to (a_command command) old.files) found
+judged_accepts (run words) old new found h = h.staged.fits
+judged_accepts (plan words) old new found h = h.staged.fits
+judged_accepts (session script words) old new found h = h.staged.fits
+judged_accepts (prove words) old new found h = h.staged.fits
+judged_accepts (verify proof words) old new found h = h.staged.fits
 judged_accepts (load number rows) old new found h = h.0
 
 -- a refusal that does not speak of the outside is the verdict
@@ -67,79 +68,76 @@ pure_reason asked G told reason.NoMemory gives h = tt
 pure_reason asked G told a gives h = gives h
 
 staged_reason : (command : Command) (told : Option Files) (a : Reason)
-    → ((name : List ℕ) → IfSome told (λ files. IsTurnOf (sought_by command) files name) → IsTurn (built command) told name)
-    → Fits (IsVerdict (built command)) (IsLoadTurn (sought_by command)) told (Err a) → IsReason (built command) told a
+    → ((name : List ℕ) → IfSome told (λ files. IsTurnOf (sought_by command) files name) → IsTurn (a_command command) told name)
+    → Fits (IsVerdict (a_command command)) (IsLoadTurn (sought_by command)) told (Err a) → IsReason (a_command command) told a
 staged_reason command told a turns h =
-    fits_reason (built command) (IsVerdict (built command)) (IsLoadTurn (sought_by command)) told a (λ g. g)
+    fits_reason (a_command command) (IsVerdict (a_command command)) (IsLoadTurn (sought_by command)) told a (λ g. g)
     (λ name turn. turns name (turn_told (sought_by command) told name turn)) h
 
 pub judged_reason : (command : Command) (old new : Shelved) (a : Reason) → IsJudged command old new (Err a)
-    → IsReason (built command) (known_to (built command) old.files) a
-judged_reason (run words) old new a h = staged_reason (run words) old.files a (λ name turn. turn) h.fits
-judged_reason (plan words) old new a h = staged_reason (plan words) old.files a (λ name turn. turn) h.fits
-judged_reason (session script words) old new a h = staged_reason (session script words) old.files a (λ name turn. turn) h.fits
-judged_reason (prove words) old new a h = staged_reason (prove words) old.files a (λ name turn. turn) h.fits
-judged_reason (verify proof words) old new a h = staged_reason (verify proof words) old.files a (λ name turn. turn) h.fits
+    → IsReason (a_command command) (known_to (a_command command) old.files) a
+judged_reason (run words) old new a h = staged_reason (run words) old.files a (λ name turn. turn) h.staged.fits
+judged_reason (plan words) old new a h = staged_reason (plan words) old.files a (λ name turn. turn) h.staged.fits
+judged_reason (session script words) old new a h = staged_reason (session script words) old.files a (λ name turn. turn) h.staged.fits
+judged_reason (prove words) old new a h = staged_reason (prove words) old.files a (λ name turn. turn) h.staged.fits
+judged_reason (verify proof words) old new a h = staged_reason (verify proof words) old.files a (λ name turn. turn) h.staged.fits
 judged_reason (load number rows) old new a h =
-    pure_reason (built (load number rows)) (IsVerdict (built (load number rows)) []) (Some []) a (λ g. g) h.0
+    pure_reason (a_command (load number rows)) (IsVerdict (a_command (load number rows)) []) (Some []) a (λ g. g) h.0
 
 -- the counts of the shelf, as the outside has them
 abbrev shelf_of : Option Files → Outside → Shelved
 shelf_of files outside =
     record { files = files; misses = outside.misses; faults = outside.read_faults; taken = outside.taken }
 
-staged_caused : (G : Files → Result Found Reason → Type 0) (T : Files → List ℕ → Type 0) (old new : Outside) (files files' : Option Files) (a : Reason)
-    → Staged G T (shelf_of files old) (shelf_of files' new) (Err a) → IsCaused old new a
-staged_caused G T old new files files' reason.WriteFault h = absurd h.fits
-staged_caused G T old new files files' (reason.NoFile name) h = h.caused
-staged_caused G T old new files files' (reason.ReadFault name) h = h.caused
-staged_caused G T old new files files' (reason.TooLarge name) h = h.caused
-staged_caused G T old new files files' a h = tt
+judged_on_caused : (command : Command) (old new : Outside) (files files' : Option Files) (a : Reason)
+    → ((name : List ℕ) → IsNamed (sought_by command) name → IsNamedBy (a_command command) name)
+    → IsJudgedOn command (shelf_of files old) (shelf_of files' new) (Err a) → IsCaused (a_command command) old new a
+judged_on_caused command old new files files' reason.WriteFault named h = absurd h.staged.fits
+judged_on_caused command old new files files' (reason.NoFile name) named h = (h.staged.caused, named name h.tells)
+judged_on_caused command old new files files' (reason.ReadFault name) named h = (h.staged.caused, named name h.tells)
+judged_on_caused command old new files files' (reason.TooLarge name) named h = (h.staged.caused, named name h.tells)
+judged_on_caused command old new files files' a named h = tt
 
-pure_caused : (G : Result Found Reason → Type 0) (old new : Outside) (a : Reason) → Pure G (Err a) → IsCaused old new a
-pure_caused G old new reason.WriteFault h = absurd h
-pure_caused G old new (reason.NoFile name) h = absurd h
-pure_caused G old new (reason.ReadFault name) h = absurd h
-pure_caused G old new (reason.TooLarge name) h = absurd h
-pure_caused G old new a h = tt
+pure_caused : (asked : Asked) (G : Result Found Reason → Type 0) (old new : Outside) (a : Reason) → Pure G (Err a) → IsCaused asked old new a
+pure_caused asked G old new reason.WriteFault h = absurd h
+pure_caused asked G old new (reason.NoFile name) h = absurd h
+pure_caused asked G old new (reason.ReadFault name) h = absurd h
+pure_caused asked G old new (reason.TooLarge name) h = absurd h
+pure_caused asked G old new a h = tt
 
-pub judged_caused : (command : Command) (old new : Outside) (files files' : Option Files) (a : Reason) → IsJudged command (shelf_of files old) (shelf_of files' new) (Err a) → IsCaused old new a
-judged_caused (run words) old new files files' a h =
-    staged_caused (IsVerdict (built (run words))) (IsLoadTurn (sought_by (run words))) old new files files' a h
-judged_caused (plan words) old new files files' a h =
-    staged_caused (IsVerdict (built (plan words))) (IsLoadTurn (sought_by (plan words))) old new files files' a h
-judged_caused (session script words) old new files files' a h =
-    staged_caused (IsVerdict (built (session script words))) (IsLoadTurn (sought_by (session script words))) old new files files' a h
-judged_caused (prove words) old new files files' a h =
-    staged_caused (IsVerdict (built (prove words))) (IsLoadTurn (sought_by (prove words))) old new files files' a h
-judged_caused (verify proof words) old new files files' a h =
-    staged_caused (IsVerdict (built (verify proof words))) (IsLoadTurn (sought_by (verify proof words))) old new files files' a h
+pub judged_caused : (command : Command) (old new : Outside) (files files' : Option Files) (a : Reason) → IsJudged command (shelf_of files old) (shelf_of files' new) (Err a)
+    → IsCaused (a_command command) old new a
+judged_caused (run words) old new files files' a h = judged_on_caused (run words) old new files files' a (λ name named. named) h
+judged_caused (plan words) old new files files' a h = judged_on_caused (plan words) old new files files' a (λ name named. named) h
+judged_caused (session script words) old new files files' a h = judged_on_caused (session script words) old new files files' a (λ name named. named) h
+judged_caused (prove words) old new files files' a h = judged_on_caused (prove words) old new files files' a (λ name named. named) h
+judged_caused (verify proof words) old new files files' a h = judged_on_caused (verify proof words) old new files files' a (λ name named. named) h
 judged_caused (load number rows) old new files files' a h =
-    pure_caused (IsVerdict (built (load number rows)) []) old new a h.0
+    pure_caused (a_command (load number rows)) (IsVerdict (a_command (load number rows)) []) old new a h.0
 
 -- nothing was written
 fits_cut : (asked : Asked) (G : Files → Result Found Reason → Type 0) (T : Files → List ℕ → Type 0) (told : Option Files) (old new : Outside) (a : Reason)
     → Fits G T told (Err a) → GotNothing old new → IsCut asked told old new a
 fits_cut asked G T told old new reason.WriteFault h nothing = absurd h
-fits_cut asked G T told old new reason.NoMemory h nothing = inl nothing
+fits_cut asked G T told old new reason.NoMemory h nothing = silent_cut asked told old new nothing
 fits_cut asked G T told old new a h nothing = nothing
 
 pure_cut : (asked : Asked) (G : Result Found Reason → Type 0) (told : Option Files) (old new : Outside) (a : Reason) → Pure G (Err a) → GotNothing old new → IsCut asked told old new a
 pure_cut asked G told old new reason.WriteFault h nothing = absurd h
-pure_cut asked G told old new reason.NoMemory h nothing = inl nothing
+pure_cut asked G told old new reason.NoMemory h nothing = silent_cut asked told old new nothing
 pure_cut asked G told old new a h nothing = nothing
 
 pub judged_cut : (command : Command) (s t : Shelved) (old new : Outside) (a : Reason) → IsJudged command s t (Err a) → GotNothing old new
-    → IsCut (built command) (known_to (built command) s.files) old new a
+    → IsCut (a_command command) (known_to (a_command command) s.files) old new a
 judged_cut (run words) s t old new a h =
-    fits_cut (built (run words)) (IsVerdict (built (run words))) (IsLoadTurn (sought_by (run words))) s.files old new a h.fits
+    fits_cut (a_command (run words)) (IsVerdict (a_command (run words))) (IsLoadTurn (sought_by (run words))) s.files old new a h.staged.fits
 judged_cut (plan words) s t old new a h =
-    fits_cut (built (plan words)) (IsVerdict (built (plan words))) (IsLoadTurn (sought_by (plan words))) s.files old new a h.fits
+    fits_cut (a_command (plan words)) (IsVerdict (a_command (plan words))) (IsLoadTurn (sought_by (plan words))) s.files old new a h.staged.fits
 judged_cut (session script words) s t old new a h =
-    fits_cut (built (session script words)) (IsVerdict (built (session script words))) (IsLoadTurn (sought_by (session script words))) s.files old new a h.fits
+    fits_cut (a_command (session script words)) (IsVerdict (a_command (session script words))) (IsLoadTurn (sought_by (session script words))) s.files old new a h.staged.fits
 judged_cut (prove words) s t old new a h =
-    fits_cut (built (prove words)) (IsVerdict (built (prove words))) (IsLoadTurn (sought_by (prove words))) s.files old new a h.fits
+    fits_cut (a_command (prove words)) (IsVerdict (a_command (prove words))) (IsLoadTurn (sought_by (prove words))) s.files old new a h.staged.fits
 judged_cut (verify proof words) s t old new a h =
-    fits_cut (built (verify proof words)) (IsVerdict (built (verify proof words))) (IsLoadTurn (sought_by (verify proof words))) s.files old new a h.fits
+    fits_cut (a_command (verify proof words)) (IsVerdict (a_command (verify proof words))) (IsLoadTurn (sought_by (verify proof words))) s.files old new a h.staged.fits
 judged_cut (load number rows) s t old new a h =
-    pure_cut (built (load number rows)) (IsVerdict (built (load number rows)) []) (Some []) old new a h.0
+    pure_cut (a_command (load number rows)) (IsVerdict (a_command (load number rows)) []) (Some []) old new a h.0

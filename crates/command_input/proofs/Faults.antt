@@ -15,10 +15,8 @@ use Rattle.anyk_model.specs.Query.{Query}
 use Rattle.anyk_model.specs.Table.{Flaw, Table, flaw_of, records_of, table_of, no_header, too_many_columns, duplicate_name, too_many_rows, ragged}
 use Rattle.session_script.specs.declared.script_fault.ScriptFault.{ScriptFault}
 use Rattle.session_script.specs.declared.script_fault.ScriptFault.TheVariants as script
-use Rattle.session_script.specs.declared.step.Step.{Step}
 use Rattle.proof_model.specs.declared.fault.ProofFault.{ProofFault}
 use Rattle.proof_model.specs.declared.fault.ProofFault.TheVariants as proof
-use Rattle.proof_model.specs.Certificate.{Certificate}
 use Rattle.proof_model.specs.Reading.{Fails as FailsToRead, proof_of}
 use Rattle.session_script.specs.Script.{Fails, steps_of}
 use Rattle.verdict.specs.Faults.{of_bind, of_flaw, of_parse, of_proof, of_script}
@@ -86,10 +84,6 @@ pub bind_refused : (told : Option ℕ) (first : Option BindFault) (bound : Query
 bind_refused told first bound fault (inl e) = rw e tt
 bind_refused told first bound fault (inr e) = rw e (bind_fault_refused told bound fault)
 
--- the first fault of a script
-pub script_told : (bytes : List ℕ) (steps : List Step) → steps_of bytes ≡ Ok steps → Pure (Is (steps_said bytes)) (Ok steps)
-script_told bytes steps h = sym (ap told_steps h)
-
 pub script_refused : (bytes : List ℕ) (fault : ScriptFault) → Fails (steps_of bytes) fault → Pure (Is (steps_said bytes)) (Err (of_script fault))
 script_refused bytes fault (inl e) = rw e tt
 script_refused bytes script.NoMemory (inr e) = tt
@@ -98,10 +92,6 @@ script_refused bytes (script.BadLine line) (inr e) = sym (ap told_steps e)
 script_refused bytes (script.UnknownCursor line) (inr e) = sym (ap told_steps e)
 script_refused bytes (script.CursorExists line) (inr e) = sym (ap told_steps e)
 script_refused bytes (script.TooManyOpen line) (inr e) = sym (ap told_steps e)
-
--- the first fault of the form of a certificate
-pub proof_told : (bytes : List ℕ) (read : Certificate) → proof_of bytes ≡ Ok read → Pure (Is (proof_said bytes)) (Ok read)
-proof_told bytes read h = sym (ap told_proof h)
 
 pub proof_refused : (bytes : List ℕ) (fault : ProofFault) → FailsToRead (proof_of bytes) fault → Pure (Is (proof_said bytes)) (Err (of_proof fault))
 proof_refused bytes fault (inl e) = rw e tt

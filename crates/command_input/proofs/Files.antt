@@ -7,7 +7,6 @@ use Rattle.outer_io.specs.declared.reading.FileFault.{FileFault}
 use Rattle.outer_io.specs.declared.reading.FileFault.TheVariants as file
 use Rattle.std.specs.Prelude.{length}
 use Rattle.refusals.specs.Reason as reason
-use Rattle.refusals.specs.Reason.{Reason}
 use Rattle.verdict.specs.Loading.{file_in, file_with, most_bytes, short_enough}
 use Rattle.verdict.specs.StageResults.{Fits, Causes, Shelved, Staged}
 use Rattle.verdict.specs.Stages.{Is}

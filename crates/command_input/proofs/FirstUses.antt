@@ -244,9 +244,6 @@ length_with entries entry = by (has_name entry.0 (tables_of entries))
     by true = omega arith
     by false = let longer = length-append entries (entry ∷ []) in omega (arith, longer)
 
-pub no_uses : (named : List (List ℕ × List ℕ)) → HasUses named [] [] []
-no_uses named = record { tables = refl; entries = tt; numbers = refl }
-
 uses_more : (named : List (List ℕ × List ℕ)) (done : List ItemRef) (item : ItemRef) (firsts now : List (List ℕ × List ℕ)) (numbers : List ℕ) (entry : List ℕ × List ℕ) (n : ℕ)
     → entry.0 ≡ item.table → IsEntryOf named entry → now ≡ with_entry firsts entry → n ≡ position_or_len (λ other. bytes_eq other entry.0) (tables_of now)
     → HasUses named done firsts numbers → HasUses named (done ++ item ∷ []) now (numbers ++ n ∷ [])

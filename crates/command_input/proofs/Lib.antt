@@ -8,6 +8,7 @@ pub mod Best
 pub mod BoundQueries
 pub mod Faults
 pub mod Files
+pub mod Telling
 pub mod FirstUses
 pub mod MadeShelf
 pub mod NoneRefused

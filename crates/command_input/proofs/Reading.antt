@@ -1,5 +1,5 @@
 -- Tables that are read one after another.
-use Rattle.std.proofs.Common.{◌≡◌, ◌+◌, ◌<◌, ◌≤◌, ◌∷◌, ◌++◌, [], ℕ, List, length, drop, get_or, unwrap_or, Option, Some, None, Result, Ok, Err, refl, sym, ap, subst, ◌∙◌, arith, inl, inr, IfOk, OnOk}
+use Rattle.std.proofs.Common.{◌≡◌, ◌+◌, ◌<◌, ◌≤◌, ◌∷◌, ◌++◌, [], ℕ, List, length, drop, get_or, unwrap_or, Option, Result, Ok, Err, refl, sym, ap, subst, ◌∙◌, inl, inr, IfOk, OnOk}
 use Rattle.std.proofs.lemmas.List.{append_assoc, append-nil, drop_all, drop_more}
 use Rattle.outer_io.specs.Files.{Files}
 use Rattle.anyk_model.specs.Table.{Table}
@@ -8,7 +8,7 @@ use Rattle.std.specs.Result.{result_and}
 use Rattle.refusals.specs.declared.refusal.Refusal.{Refusal}
 use Rattle.refusals.specs.Reason.{Reason}
 use Rattle.verdict.specs.Loading.{file_in, files_read, go_on, known_file, sound_table, table_in, tables_in}
-use Rattle.verdict.specs.StageResults.{Fits, Pure, Shelved, Staged, NoTurn}
+use Rattle.verdict.specs.StageResults.{Pure, Shelved, Staged, NoTurn}
 use Rattle.verdict.specs.Stages.{Is, then_by}
 use Rattle.verdict.proofs.Staging.{found_within, pure_staged, refusal_within, wider_staged}
 use Rattle.command_input.specs.Entries.{IsEntryOf, table_after, tables_of}
@@ -136,29 +136,6 @@ reached_end named all i tables old new end =
     (λ files reached. sym (sym reached.0 ∙ ap (λ (l : List (List ℕ × List ℕ)). behind tables (tables_in files named (tables_of l))) (drop_all i all end)
     ∙ ap Ok (append-nil tables)))
     (λ files file m. m)
-
--- nothing was read yet
-pub reached_none : (named all : List (List ℕ × List ℕ)) (s : Shelved)
-    → Staged (IsReached named all 0) (λ files file. IsMember file (files_read files named (tables_of all))) s s (Ok [])
-reached_none named all s = record {
-  fits = by s.files;
-  caused = tt;
-  files = refl;
-  misses = omega arith;
-  faults = omega arith;
-  taken = omega arith;
-}
-  where
-    none : (files : Files) → behind [] (tables_in files named (tables_of all)) ≡ tables_in files named (tables_of all)
-    none files = by_result (tables_in files named (tables_of all))
-      where
-        by_result : (r : Result (List Table) Reason) → behind [] r ≡ r
-        by_result (Ok tables) = refl
-        by_result (Err e) = refl
-
-    by : (told : Option Files) → Fits (IsReached named all 0) (λ files file. IsMember file (files_read files named (tables_of all))) told (Ok [])
-    by None = tt
-    by (Some files) = (none files, λ file m. m)
 
 -- the tables are handed on if none was refused
 pub handed_tables : {U : Type 0} (r : Result U Refusal) (tables : List Table) → tables_result_view (result_and r (Ok tables)) ≡ said_as tables r

@@ -38,8 +38,5 @@ module _ {X : Type 0} (p : X → Bool) (xs : List X) (i : ℕ) where
   pub any_none : length xs ≤ i → list_any p (drop i xs) ≡ list_any p xs → false ≡ list_any p xs
   any_none end so_far = sym (ap (list_any p) (drop_all i xs end)) ∙ so_far
 
-  pub place_none : length xs ≤ i → position_or_len p (drop i xs) + i ≡ position_or_len p xs → i ≡ position_or_len p xs
-  place_none end so_far = let none = ap (position_or_len p) (drop_all i xs end) in omega (arith, none, so_far)
-
   pub found_none : length xs ≤ i → find p (drop i xs) ≡ find p xs → None ≡ find p xs
   found_none end so_far = sym (ap (find p) (drop_all i xs end)) ∙ so_far

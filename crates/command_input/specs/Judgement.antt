@@ -1,14 +1,14 @@
 -- What reading the input of a command and planning its query give.
-use Rattle.std.specs.Prelude.{◌≡◌, ℕ, Bool, List, [], None, Option, Result, length}
+use Rattle.std.specs.Prelude.{◌≡◌, ℕ, Bool, List, [], None, Option, Result, IfErr, length}
 use Rattle.command_input.specs.Input.{InputView}
 use Rattle.command_input.specs.Turns.{IsTurn}
 use Rattle.refusals.specs.Reason.{Reason}
 use Rattle.verdict.specs.AcceptedInput.{Found}
 use Rattle.verdict.specs.Loading.{Loaded}
 use Rattle.verdict.specs.MadeFiles.{made_files}
-use Rattle.verdict.specs.StageResults.{Pure, Shelved, Staged}
+use Rattle.verdict.specs.StageResults.{Pure, Shelved, Staged, TellsOne}
 use Rattle.verdict.specs.Verdict.{IsLoadedOn, IsVerdict}
-use Rattle.verdict.specs.Words.{Aside, Command, Sought, Words, built, run, plan, session, load, prove, verify, sought_by}
+use Rattle.verdict.specs.Words.{Aside, Command, IsNamed, Sought, Words, a_command, run, plan, session, load, prove, verify, sought_by}
 
 -- what words name, with several branches if they are allowed, and with this script or certificate
 -- and this alias
@@ -22,9 +22,12 @@ sought_in words several aside best_of =
       best_of = best_of;
     }
 
--- the input that the files of the shelf have, or a cause on the way
-abbrev pub IsLookedUp : Sought → Shelved → Shelved → Result Loaded Reason → Type 0
-IsLookedUp sought old new result = Staged (IsLoadedOn sought) (IsTurn sought) old new result
+-- the input that the files of the shelf have, or a cause on the way, which tells a file that is
+-- named
+pub record IsLookedUp (sought : Sought) (old new : Shelved)
+    (result : Result Loaded Reason) : Type 0 where
+  pub staged : Staged (IsLoadedOn sought) (IsTurn sought) old new result
+  pub tells : IfErr result (TellsOne (IsNamed sought))
 
 -- `load` reads the files that it makes, and leaves the shelf as it was
 abbrev pub IsLooked : Command → Shelved → Shelved → Result Loaded Reason → Type 0
@@ -38,6 +41,11 @@ IsLooked (verify proof words) old new result = IsLookedUp
 IsLooked (load number rows) old new result =
     Pure (IsLoadedOn (sought_by (load number rows)) (made_files number rows)) result × (new ≡ old)
 
+-- it plans its queries: all commands but `verify` do
+abbrev pub IsPlanned : Command → Type 0
+IsPlanned (verify proof words) = ⊥
+IsPlanned command = Unit {0}
+
 -- There is one query, unless the command is `run`. `prove` and `verify` have no item whose rows are
 -- asked for.
 abbrev pub HasOne : Command → InputView → Type 0
@@ -48,10 +56,11 @@ HasOne (load number rows) input = length input.queries ≡ 1
 HasOne (prove words) input = (length input.queries ≡ 1) × (input.best ≡ None)
 HasOne (verify proof words) input = (length input.queries ≡ 1) × (input.best ≡ None)
 
--- the verdict on the files of the shelf, or a cause on the way
-abbrev pub IsJudgedOn : Command → Shelved → Shelved → Result Found Reason → Type 0
-IsJudgedOn command old new result = Staged (IsVerdict (built command))
-    (IsTurn (sought_by command)) old new result
+-- the verdict on the files of the shelf, or a cause on the way, which tells a file that is named
+pub record IsJudgedOn (command : Command) (old new : Shelved)
+    (result : Result Found Reason) : Type 0 where
+  pub staged : Staged (IsVerdict (a_command command)) (IsTurn (sought_by command)) old new result
+  pub tells : IfErr result (TellsOne (IsNamed (sought_by command)))
 
 abbrev pub IsJudged : Command → Shelved → Shelved → Result Found Reason → Type 0
 IsJudged (run words) old new result = IsJudgedOn (run words) old new result
@@ -59,8 +68,8 @@ IsJudged (plan words) old new result = IsJudgedOn (plan words) old new result
 IsJudged (session script words) old new result = IsJudgedOn (session script words) old new result
 IsJudged (prove words) old new result = IsJudgedOn (prove words) old new result
 IsJudged (verify proof words) old new result = IsJudgedOn (verify proof words) old new result
-IsJudged (load number rows) old new result = Pure (IsVerdict (built (load number rows)) []) result
-    × (new ≡ old)
+IsJudged (load number rows) old new result =
+    Pure (IsVerdict (a_command (load number rows)) []) result × (new ≡ old)
 
 -- no item is named, unless the command may name one
 abbrev pub IsUnnamed : Command → Option ℕ → Type 0

@@ -1,12 +1,12 @@
 //! The script or the certificate, if there is one.
-ghost use Rattle.std.specs.Prelude.{◌≡◌, [], IfOk, Some, option_map};
+ghost use Rattle.std.specs.Prelude.{◌≡◌, [], IfErr, IfOk, Some, option_map};
 ghost use Rattle.refusals.specs.RefusalReasons.{reason_of};
 ghost use Rattle.proof_model.specs.ProofView.{proof_view};
 ghost use Rattle.session_script.specs.Script.{KeepsRules};
 ghost use Rattle.verdict.specs.Faults.{of_proof, of_script};
 ghost use Rattle.verdict.specs.Loading.{beside_in, no_certificate};
 ghost use Rattle.verdict.specs.Stages.{Is};
-ghost use Rattle.verdict.specs.StageResults.{Pure, Staged, shelved};
+ghost use Rattle.verdict.specs.StageResults.{Pure, Staged, TellsOne, shelved};
 ghost use Rattle.verdict.specs.Words.{aside_name};
 ghost use Rattle.command_input.specs.StageViews.{beside_result_view};
 ghost use Rattle.command_input.specs.Sought.{aside_view, beside_said};
@@ -38,6 +38,9 @@ pub(crate) fn load_beside<'a, F: Shelf>(
     ensures staged { let asked = aside_view aside.entry in
         Staged (λ files. Is (beside_in files asked)) (λ files file. aside_name asked ≡ Some file)
         (shelved F.Shelf shelf.old) (shelved F.Shelf shelf.new) (beside_result_view result) }
+    ensures tells { let asked = aside_view aside.entry in
+        IfErr result
+        (λ refusal. TellsOne (λ file. aside_name asked ≡ Some file) (reason_of refusal)) }
     ensures rules { IfOk result (λ beside. KeepsRules [] beside.script.items) }
 {
     let Some(name) = name_of(aside) else {

@@ -1,8 +1,8 @@
 //! Reading one file.
-ghost use Rattle.std.specs.Prelude.{◌≡◌, ◌≤◌, IfOk, length};
+ghost use Rattle.std.specs.Prelude.{◌≡◌, ◌≤◌, IfErr, IfOk, length};
 ghost use Rattle.verdict.specs.Loading.{file_in};
 ghost use Rattle.verdict.specs.Stages.{Is};
-ghost use Rattle.verdict.specs.StageResults.{Staged, shelved};
+ghost use Rattle.verdict.specs.StageResults.{Staged, TellsOne, shelved};
 ghost use Rattle.refusals.specs.RefusalReasons.{reason_of};
 ghost use Rattle.command_input.specs.StageViews.{file_reason, bytes_result_view};
 
@@ -19,6 +19,8 @@ pub(crate) fn load<'a, F: Shelf>(
 ) -> Result<Vec<u8>, Refusal<'a>>
     ensures staged { Staged (λ files. Is (file_in files name.now)) (λ files file. file ≡ name.now)
         (shelved F.Shelf shelf.old) (shelved F.Shelf shelf.new) (bytes_result_view result) }
+    ensures tells { IfErr result
+        (λ refusal. TellsOne (λ file. file ≡ name.now) (reason_of refusal)) }
     ensures short { IfOk result (λ bytes. length bytes.items ≤ 67108864) }
 {
     match read_file(alloc, shelf, name) {

@@ -1,8 +1,10 @@
 //! The stages of loading, one after another.
-ghost use Rattle.std.specs.Prelude.{◌≡◌, None, false, IfOk, length};
+ghost use Rattle.std.specs.Prelude.{◌≡◌, None, false, IfErr, IfOk, length};
+ghost use Rattle.refusals.specs.RefusalReasons.{reason_of};
 ghost use Rattle.verdict.specs.Loading.{Beside as BesideView};
-ghost use Rattle.verdict.specs.StageResults.{Staged, shelved};
+ghost use Rattle.verdict.specs.StageResults.{Staged, TellsOne, shelved};
 ghost use Rattle.verdict.specs.Verdict.{IsAccompanied, IsLoadedOn, IsSelected};
+ghost use Rattle.verdict.specs.Words.{IsNamed};
 ghost use Rattle.command_input.specs.Limits.{AreWithinLimits};
 ghost use Rattle.command_input.specs.StageViews.{input_result_view};
 ghost use Rattle.command_input.specs.Sought.{sought_view};
@@ -33,6 +35,8 @@ pub fn load_input<'a, F: Shelf>(
     ensures staged { let asked = sought_view sought.now in
         Staged (IsLoadedOn asked) (IsTurn asked)
         (shelved F.Shelf shelf.old) (shelved F.Shelf shelf.new) (input_result_view result) }
+    ensures tells { IfErr result
+        (λ refusal. TellsOne (IsNamed (sought_view sought.now)) (reason_of refusal)) }
     // If several branches are not allowed, there is one query, and if no item is named, there is
     // none.
     ensures alone { sought.now.several ≡ false → IfOk result (λ input. length input.queries ≡ 1) }
@@ -58,6 +62,8 @@ fn select_input<'a, F: Shelf>(
         Staged (λ files. IsAccompanied asked files selects.now)
         (λ files. IsAccompaniedTurn asked files selects.now)
         (shelved F.Shelf shelf.old) (shelved F.Shelf shelf.new) (input_result_view result) }
+    ensures tells { IfErr result
+        (λ refusal. TellsOne (IsNamed (sought_view sought.now)) (reason_of refusal)) }
     ensures branches { IfOk result (λ input. length input.queries ≡ length selects.now) }
     ensures unnamed { sought.now.best_of ≡ None → IfOk result (λ input. input.best ≡ None) }
 {
@@ -85,6 +91,8 @@ fn load_bound<'a, F: Shelf>(
         → Staged (λ files. IsSelected asked files selects.now beside)
         (λ files. IsSelectedTurn asked files selects.now)
         (shelved F.Shelf shelf.old) (shelved F.Shelf shelf.new) (bound_result_view beside result) }
+    ensures tells { IfErr result
+        (λ refusal. TellsOne (IsNamed (sought_view sought.now)) (reason_of refusal)) }
     ensures whole { IfOk result IsWhole }
     ensures branches { IfOk result (λ bound. length bound.queries.items ≡ length selects.now) }
     ensures unnamed { sought.now.best_of ≡ None → IfOk result (λ bound. bound.best ≡ None) }

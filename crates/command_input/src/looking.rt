@@ -4,7 +4,9 @@ ghost use Rattle.std.specs.String.{string_bytes};
 ghost use Rattle.cmd_words.specs.ArgumentMeaning.{words_view};
 ghost use Rattle.command_input.specs.StageViews.{input_result_view};
 ghost use Rattle.command_input.specs.Sought.{aside_view};
+ghost use Rattle.verdict.specs.Outcome.{IsUntouched};
 ghost use Rattle.verdict.specs.StageResults.{shelved};
+ghost use Rattle.verdict.specs.Words.{a_command};
 ghost use Rattle.command_input.specs.Tasks.{words_of};
 ghost use Rattle.command_input.specs.Judgement.{HasOne, IsLooked, IsLookedUp, sought_in};
 ghost use Rattle.command_input.specs.Tasks.{command_of};
@@ -30,6 +32,7 @@ pub fn look_at<'a, F: Shelf>(
 ) -> Result<Input, Refusal<'a>>
     ensures looked { IsLooked (command_of task.now)
         (shelved F.Shelf shelf.old) (shelved F.Shelf shelf.new) (input_result_view result) }
+    ensures untouched { IsUntouched (a_command (command_of task.now)) shelf.old shelf.new }
     ensures alone { IfOk result (HasOne (command_of task.now)) }
 {
     match task {
@@ -45,7 +48,7 @@ pub fn look_at<'a, F: Shelf>(
             )
         }
         Task::Plan(words) => { look_up(alloc, words, false, Aside::Nothing, None, shelf, keys) }
-        Task::Session(script, words) => look_up(
+        Task::Session { script, words } => look_up(
             alloc,
             words,
             false,
@@ -56,6 +59,10 @@ pub fn look_at<'a, F: Shelf>(
         ),
         Task::Load(_, made) => load_made(alloc, made),
         Task::Prove(words) => look_up(alloc, words, false, Aside::Nothing, None, shelf, keys),
+        Task::Verify { proof, words } => {
+            let aside = Aside::Certificate(proof.as_str());
+            look_up(alloc, words, false, aside, None, shelf, keys)
+        }
     }
 }
 

@@ -1,5 +1,5 @@
 //! Reading the tables that the query uses.
-ghost use Rattle.std.specs.Prelude.{◌≡◌, ◌≤◌, ◌<◌, ◌+◌, [], IfOk, OnOk, List, ℕ, length, map};
+ghost use Rattle.std.specs.Prelude.{◌≡◌, ◌≤◌, ◌<◌, ◌+◌, [], IfErr, IfOk, OnOk, List, ℕ, length, map};
 ghost use Rattle.std.specs.List.{AllByRecursion};
 ghost use Rattle.std.specs.String.{string_bytes};
 ghost use Rattle.cmd_words.specs.NamedPairs.{named_pair};
@@ -7,18 +7,18 @@ ghost use Rattle.rankings.specs.Order.{IsMember};
 ghost use Rattle.refusals.specs.RefusalReasons.{reason_of};
 ghost use Rattle.verdict.specs.Loading.{files_read, tables_in};
 ghost use Rattle.verdict.specs.Stages.{Is};
-ghost use Rattle.verdict.specs.StageResults.{Staged, shelved};
+ghost use Rattle.verdict.specs.StageResults.{Staged, TellsOne, shelved};
+ghost use Rattle.verdict.specs.Words.{table_file_names};
 ghost use Rattle.command_input.specs.Entries.{IsEntryOf, IsNext, tables_of};
 ghost use Rattle.command_input.specs.StageViews.{said_as, tables_result_view, table_reason};
 
 use crate::file::load;
 use cmd_words::Named;
-use csv_tables::{TableFault, TableReader};
+use csv_tables::{TableFault, Tables};
 use hash_keys::Keys;
 use outer_io::Shelf;
 use refusals::Refusal;
 use std::alloc::Global;
-use table_store::Tables;
 
 /// The tables of these entries, hashed with these keys. The tables are read one after another, and
 /// the error is the refusal of the first bad one, or `NoMemory`.
@@ -27,18 +27,22 @@ pub(crate) fn read_tables<'a, F: Shelf>(
     entries: &[&'a Named],
     shelf: &mut F,
     keys: Keys,
-) -> Result<Tables, Refusal<'a>>
+) -> Result<table_store::Tables, Refusal<'a>>
     requires { length entries.now ≤ 16 }
     ensures staged { let words = map (λ e. named_pair e.now) entries.now in
         (named : List (List ℕ × List ℕ)) → AllByRecursion (IsEntryOf named) words
         → Staged (λ files. Is (tables_in files named (tables_of words)))
         (λ files file. IsMember file (files_read files named (tables_of words)))
         (shelved F.Shelf shelf.old) (shelved F.Shelf shelf.new) (tables_result_view result) }
+    ensures tells { let words = map (λ e. named_pair e.now) entries.now in
+        (named : List (List ℕ × List ℕ)) → AllByRecursion (IsEntryOf named) words
+        → IfErr result (λ refusal.
+        TellsOne (λ file. IsMember file (table_file_names named)) (reason_of refusal)) }
     ensures count { IfOk result (λ tables. length tables ≡ length entries.now) }
 {
-    let mut reader = TableReader::with_keys(alloc, keys);
-    let read = read_each(alloc, entries, shelf, &mut reader);
-    read.and(Ok(reader.into_tables()))
+    let mut tables = Tables::with_keys(alloc, keys);
+    let read = read_each(alloc, entries, shelf, &mut tables);
+    read.and(Ok(tables.into_tables()))
 }
 
 /// Reads the tables of these entries, of which none was read yet.
@@ -46,19 +50,23 @@ fn read_each<'a, F: Shelf>(
     alloc: Global,
     entries: &[&'a Named],
     shelf: &mut F,
-    reader: &mut TableReader,
+    tables: &mut Tables,
 ) -> Result<(), Refusal<'a>>
     requires few { length entries.now ≤ 16 }
-    requires none { reader.old ≡ [] }
+    requires none { tables.old ≡ [] }
     ensures staged { let words = map (λ e. named_pair e.now) entries.now in
         (named : List (List ℕ × List ℕ)) → AllByRecursion (IsEntryOf named) words
         → Staged (λ files. Is (tables_in files named (tables_of words)))
         (λ files file. IsMember file (files_read files named (tables_of words)))
-        (shelved F.Shelf shelf.old) (shelved F.Shelf shelf.new) (said_as reader.new result) }
-    ensures count { OnOk result (length reader.new ≡ length entries.now) }
+        (shelved F.Shelf shelf.old) (shelved F.Shelf shelf.new) (said_as tables.new result) }
+    ensures tells { let words = map (λ e. named_pair e.now) entries.now in
+        (named : List (List ℕ × List ℕ)) → AllByRecursion (IsEntryOf named) words
+        → IfErr result (λ refusal.
+        TellsOne (λ file. IsMember file (table_file_names named)) (reason_of refusal)) }
+    ensures count { OnOk result (length tables.new ≡ length entries.now) }
 {
     for entry in entries {
-        read_entry(alloc, entry, shelf, reader)?;
+        read_entry(alloc, entry, shelf, tables)?;
     }
     Ok(())
 }
@@ -68,17 +76,19 @@ fn read_entry<'a, F: Shelf>(
     alloc: Global,
     entry: &'a Named,
     shelf: &mut F,
-    reader: &mut TableReader,
+    tables: &mut Tables,
 ) -> Result<(), Refusal<'a>>
-    requires few { length reader.old < 16 }
+    requires few { length tables.old < 16 }
     ensures staged { (named : List (List ℕ × List ℕ)) → IsEntryOf named (named_pair entry.now)
-        → Staged (IsNext named (string_bytes entry.now.table) reader.old)
+        → Staged (IsNext named (string_bytes entry.now.table) tables.old)
         (λ files file. file ≡ string_bytes entry.now.file)
-        (shelved F.Shelf shelf.old) (shelved F.Shelf shelf.new) (said_as reader.new result) }
-    ensures longer { OnOk result (length reader.new ≡ length reader.old + 1) }
+        (shelved F.Shelf shelf.old) (shelved F.Shelf shelf.new) (said_as tables.new result) }
+    ensures tells { IfErr result
+        (λ refusal. TellsOne (λ file. file ≡ string_bytes entry.now.file) (reason_of refusal)) }
+    ensures longer { OnOk result (length tables.new ≡ length tables.old + 1) }
 {
     let bytes = load(alloc, shelf, entry.file.as_str())?;
-    match reader.read(&bytes) {
+    match tables.read(&bytes) {
         Ok(_) => Ok(()),
         Err(fault) => Err(table_refusal(entry.table.as_bytes(), fault)),
     }

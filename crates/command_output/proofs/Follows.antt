@@ -3,20 +3,22 @@ use Rattle.std.proofs.Common.{◌≡◌, ◌+◌, ◌-◌, ◌<◌, ◌≤◌, �
 use Rattle.std.specs.Prelude.{slice_get}
 use Rattle.std.proofs.lemmas.List.{drop_all, drop_more, get_or-map, get_or-set_same, get_or-take, set-get_or, set-set, length-drop, length-map, length-take, length-take-le, take_all}
 use Rattle.std.proofs.lemmas.Option.{get_or_from_slice_get, slice_get_within}
-use Rattle.std.specs.List.{AllByRecursion}
+use Rattle.std.specs.List.{AllByRecursion, concat}
 use Rattle.rankings.proofs.Members.{all_member, contains_member}
 use Rattle.anyk_model.specs.Output.{cut}
 use Rattle.output_model.specs.Session.{next_text}
+use Rattle.output_model.specs.SessionPieces.{next_pieces}
+use Rattle.output_model.proofs.SessionPieces.{next_joined}
 
--- ---- the text of what is left
+-- ---- what is left
 
 module _ (line : List ℕ → List ℕ) (ending : List ℕ) (members : List (List ℕ)) where
   -- one member more is printed
-  pub next_member : (p n m : ℕ) (x : List ℕ) → p < length members → n ≡ m + 1
-      → next_text line ending (drop p members) n ≡ line (get_or members p x) ++ next_text line ending (drop (p + 1) members) m
+  next_member : (p n m : ℕ) (x : List ℕ) → p < length members → n ≡ m + 1
+      → next_pieces line ending (drop p members) n ≡ line (get_or members p x) ∷ next_pieces line ending (drop (p + 1) members) m
   next_member p n m x inside more =
       let is : n ≡ suc m = omega (arith, more) in
-      ap (next_text line ending (drop p members)) is ∙ ap (λ (l : List (List ℕ)). next_text line ending l (suc m)) (drop_more members p x inside)
+      ap (next_pieces line ending (drop p members)) is ∙ ap (λ (l : List (List ℕ)). next_pieces line ending l (suc m)) (drop_more members p x inside)
 
   -- none is left
   next_ending : (p n m : ℕ) → length members ≤ p → n ≡ m + 1 → next_text line ending (drop p members) n ≡ ending
@@ -84,14 +86,12 @@ told_all P answers p b all at =
 
 -- ---- one member after another
 
-pub next_start : (P : List ℕ → Type 0) (line : List ℕ → List ℕ) (ending : List ℕ) (members : List (List ℕ)) (p n : ℕ)
-    → P (next_text line ending (drop p members) n) → P (next_text line ending (drop (p + 0) members) (n - 0))
-next_start P line ending members p n h =
-    let same : p ≡ p + 0 = omega arith in
-    let also : n ≡ n - 0 = omega arith in
-    let A : ℕ → Type 0 = λ q. P (next_text line ending (drop q members) n) in
-    let B : ℕ → Type 0 = λ m. P (next_text line ending (drop (p + 0) members) m) in
-    subst B also (subst A same h)
+-- no member was given yet, and all are left to give
+pub next_start : (P : ℕ → ℕ → Type 0) (place count : ℕ) → P place count → P (place + 0) (count - 0)
+next_start P place count h =
+    let same : place ≡ place + 0 = omega arith in
+    let also : count ≡ count - 0 = omega arith in
+    subst (λ n. P (place + 0) n) also (subst (λ p. P p count) same h)
 
 pub always : {A E : Type 0} {P : Type 0} (r : Result A E) → P → OnOk r P
 always (Ok a) h = h
@@ -105,32 +105,41 @@ both_ok (Err e) f p q = tt
 past_start : (members : List (List ℕ)) (p given q : ℕ) → q ≡ p + given → q < length members → given + 1 ≤ length (drop p members)
 past_start members p given q is inside = omega (arith, length-drop p members, is, inside)
 
--- the text of what is left, from the next member
+-- the pieces that are left, from the next member
 next_given : (line : List ℕ → List ℕ) (ending : List ℕ) (limit : Option ℕ) (ranking : List (List ℕ)) (start given count place : ℕ) (x : List ℕ)
     → place ≡ start + given → given < count → IfSome limit (λ n. place < n) → place < length ranking
-    → next_text line ending (drop (start + given) (cut limit ranking)) (count - given)
-    ≡ line (get_or ranking place x) ++ next_text line ending (drop (start + (given + 1)) (cut limit ranking)) (count - (given + 1))
+    → next_pieces line ending (drop (start + given) (cut limit ranking)) (count - given)
+    ≡ line (get_or ranking place x) ∷ next_pieces line ending (drop (start + (given + 1)) (cut limit ranking)) (count - (given + 1))
 next_given line ending limit ranking start given count place x is less below inside =
     let members = cut limit ranking in
     let within = cut_within limit ranking place below inside in
     let more : count - given ≡ (count - (given + 1)) + 1 = omega (arith, less) in
     let on : place + 1 ≡ start + (given + 1) = omega (arith, is) in
-    ap (λ (p : ℕ). next_text line ending (drop p members) (count - given)) (sym is)
+    ap (λ (p : ℕ). next_pieces line ending (drop p members) (count - given)) (sym is)
     ∙ next_member line ending members place (count - given) (count - (given + 1)) x within more
-    ∙ ap (λ (m : List ℕ). line m ++ next_text line ending (drop (place + 1) members) (count - (given + 1))) (cut_at limit ranking place x below)
-    ∙ ap (λ (p : ℕ). line (get_or ranking place x) ++ next_text line ending (drop p members) (count - (given + 1))) on
+    ∙ ap (λ (m : List ℕ). line m ∷ next_pieces line ending (drop (place + 1) members) (count - (given + 1))) (cut_at limit ranking place x below)
+    ∙ ap (λ (p : ℕ). line (get_or ranking place x) ∷ next_pieces line ending (drop p members) (count - (given + 1))) on
 
 -- ---- the answers that stand for members
 
 module _ {B : Type 0} (f : B → List ℕ) (limit : Option ℕ) (answers : List B) (start given place : ℕ) (is : place ≡ start + given) where
-  -- the text of what is left, from the member that the next answer stands for
+  -- the pieces that are left, from the member that the next answer stands for
+  pub pieces_given : (line : List ℕ → List ℕ) (ending : List ℕ) (count : ℕ) (b : B) → given < count → IfSome limit (λ n. place < n) → slice_get answers place ≡ Some b
+      → next_pieces line ending (drop (start + given) (cut limit (map f answers))) (count - given)
+      ≡ line (f b) ∷ next_pieces line ending (drop (start + (given + 1)) (cut limit (map f answers))) (count - (given + 1))
+  pieces_given line ending count b less below at =
+      next_given line ending limit (map f answers) start given count place [] is less below (told_within f answers place b at)
+      ∙ ap (λ (m : List ℕ). line m ∷ next_pieces line ending (drop (start + (given + 1)) (cut limit (map f answers))) (count - (given + 1)))
+      (sym (told_is f answers place b [] at))
+
+  -- the same of their text
   pub answer_given : (line : List ℕ → List ℕ) (ending : List ℕ) (count : ℕ) (b : B) → given < count → IfSome limit (λ n. place < n) → slice_get answers place ≡ Some b
       → next_text line ending (drop (start + given) (cut limit (map f answers))) (count - given)
       ≡ line (f b) ++ next_text line ending (drop (start + (given + 1)) (cut limit (map f answers))) (count - (given + 1))
   answer_given line ending count b less below at =
-      next_given line ending limit (map f answers) start given count place [] is less below (told_within f answers place b at)
-      ∙ ap (λ (m : List ℕ). line m ++ next_text line ending (drop (start + (given + 1)) (cut limit (map f answers))) (count - (given + 1)))
-      (sym (told_is f answers place b [] at))
+      next_joined line ending (drop (start + given) (cut limit (map f answers))) (count - given)
+      ∙ ap concat (pieces_given line ending count b less below at)
+      ∙ ap (λ (text : List ℕ). line (f b) ++ text) (sym (next_joined line ending (drop (start + (given + 1)) (cut limit (map f answers))) (count - (given + 1))))
 
   -- that member is within the list
   pub answer_inside : (b : B) → IfSome limit (λ n. place < n) → slice_get answers place ≡ Some b → given + 1 ≤ length (drop start (cut limit (map f answers)))

@@ -7,6 +7,7 @@ pub mod Left
 pub mod Limits
 pub mod Moves
 pub mod Names
+pub mod Pieces
 pub mod Reach
 pub mod Rows
 pub mod SessionCosts

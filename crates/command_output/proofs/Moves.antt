@@ -47,9 +47,6 @@ module _ (old new : CursorSet) (cursors : List Cursor) (places : Places) (number
     (within : number < length cursors) (only : (j : ℕ) (c : OpenCursor) → IsAt cursors j c → c.name.now ≡ name → j ≡ number)
     (here : (c : OpenCursor) → IsAt cursors number c → c.name.now ≡ name) (named : (c : OpenCursor) → Is now (Some c) → c.name.now ≡ name)
     (moved : new.places ≡ set old.places number (place_of_cursor now)) where
-  after : List Cursor
-  after = set cursors number now
-
   at_number : (c : OpenCursor) → IsAt (set cursors number now) number c → Is now (Some c)
   at_number c at = sym (get_or-set_same cursors number now None within) ∙ at
 

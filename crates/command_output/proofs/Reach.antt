@@ -128,26 +128,25 @@ next_paid P ends members places name place count at h =
 
 -- ---- steps, one after another
 
--- this many steps were taken, and their cost is within that of the whole script
-pub record HasPaid (share : List ℕ → ℕ → ℕ) (ends : Bool) (members : List (List ℕ)) (script : List Step) (i : ℕ) (places : Places) (old now : CursorSet) (before spent : ℕ) : Type 0 where
+-- this many steps were taken with this many calls, and their cost is within that of the whole script
+pub record HasPaid (share : List ℕ → ℕ → ℕ) (ends : Bool) (members : List (List ℕ)) (script : List Step) (i : ℕ) (places : Places) (old now : CursorSet)
+    (calls before spent : ℕ) : Type 0 where
   pub reach : ℕ
-  pub calls : ℕ
   pub paid : Spent share old now reach calls before spent
   pub far : max reach (reach_of_steps ends members places (drop i script)) ≤ reach_of_steps ends members no_cursors script
   pub many : calls + calls_of_steps ends members places (drop i script) ≤ calls_of_steps ends members no_cursors script
 
 module _ (share : List ℕ → ℕ → ℕ) (rises : (s : List ℕ) (c d : ℕ) → c ≤ d → share s c ≤ share s d) (ends : Bool) (members : List (List ℕ)) (script : List Step) where
-  pub paid_start : (set : CursorSet) (n : ℕ) → HasPaid share ends members script 0 no_cursors set set n n
+  pub paid_start : (set : CursorSet) (n : ℕ) → HasPaid share ends members script 0 no_cursors set set 0 n n
   paid_start set n = record {
     reach = 0;
-    calls = 0;
     paid = spent_places share rises set set 0 0 n n refl (omega arith);
     far = omega arith;
     many = omega arith;
   }
 
-  module _ (i : ℕ) (step : Step) (inside : i < length script) (here : get_or script i step ≡ step) (places : Places) (old mid : CursorSet) (before at now : ℕ)
-      (h : HasPaid share ends members script i places old mid before at) where
+  module _ (i : ℕ) (step : Step) (inside : i < length script) (here : get_or script i step ≡ step) (places : Places) (old mid : CursorSet)
+      (calls before at now : ℕ) (h : HasPaid share ends members script i places old mid calls before at) where
     split : drop i script ≡ step ∷ drop (i + 1) script
     split = drop_more script i step inside ∙ ap (λ (s : Step). s ∷ drop (i + 1) script) here
 
@@ -160,7 +159,7 @@ module _ (share : List ℕ → ℕ → ℕ) (rises : (s : List ℕ) (c d : ℕ) 
     calls_split = ap (calls_of_steps ends members places) split
 
     pub paid_more : (new : CursorSet) → Spent share mid new (reach_of_step ends members places step) (calls_of_step ends members places step) at now
-        → HasPaid share ends members script (i + 1) (places_after members places step) old new before now
+        → HasPaid share ends members script (i + 1) (places_after members places step) old new (calls + calls_of_step ends members places step) before now
     paid_more new spent =
         let far = h.far in
         let many = h.many in
@@ -168,8 +167,7 @@ module _ (share : List ℕ → ℕ → ℕ) (rises : (s : List ℕ) (c d : ℕ) 
         let more = calls_of_step ends members places step in
         record {
           reach = max h.reach one;
-          calls = h.calls + more;
-          paid = spent_then share rises old mid h.reach one (max h.reach one) h.calls more (h.calls + more) before at now h.paid (omega arith) (omega arith) (omega arith) new spent;
+          paid = spent_then share rises old mid h.reach one (max h.reach one) calls more (calls + more) before at now h.paid (omega arith) (omega arith) (omega arith) new spent;
           far = omega (arith, far, reach_split);
           many = omega (arith, many, calls_split);
         }
@@ -180,17 +178,17 @@ module _ (share : List ℕ → ℕ → ℕ) (rises : (s : List ℕ) (c d : ℕ) 
     paid_stopped within =
         let far = h.far in
         let many = h.many in
-        within_then share rises old mid h.reach (reach_of_step ends members places step) (reach_of_steps ends members no_cursors script) h.calls
+        within_then share rises old mid h.reach (reach_of_step ends members places step) (reach_of_steps ends members no_cursors script) calls
         (calls_of_step ends members places step) (calls_of_steps ends members no_cursors script) before at now h.paid
         (omega (arith, far)) (omega (arith, far, reach_split)) (omega (arith, many, calls_split)) within
 
   -- the cost is within that of the whole script
-  pub paid_all : (i : ℕ) (places : Places) (old now : CursorSet) (before spent : ℕ) → HasPaid share ends members script i places old now before spent
+  pub paid_all : (i : ℕ) (places : Places) (old now : CursorSet) (calls before spent : ℕ) → HasPaid share ends members script i places old now calls before spent
       → IsWithin share old (reach_of_steps ends members no_cursors script) (calls_of_steps ends members no_cursors script) before spent
-  paid_all i places old now before spent h =
+  paid_all i places old now calls before spent h =
       let far = h.far in
       let many = h.many in
       let reach = reach_of_steps ends members no_cursors script in
-      let calls = calls_of_steps ends members no_cursors script in
-      within_spent share rises old now reach calls before spent
-      (spent_wider share rises old now h.reach reach h.calls calls before spent (omega (arith, far)) (omega (arith, many)) h.paid)
+      let all = calls_of_steps ends members no_cursors script in
+      within_spent share rises old now reach all before spent
+      (spent_wider share rises old now h.reach reach calls all before spent (omega (arith, far)) (omega (arith, many)) h.paid)

@@ -23,11 +23,11 @@ module _ (share : List ℕ → ℕ → ℕ) (rises : (s : List ℕ) (c d : ℕ) 
       let second = mul-le (suc y) (share size (b + (suc y - 1))) (suc y) most (omega arith) (rises size (b + (suc y - 1)) (a + (x + suc y - 1)) (omega (arith, h))) in
       omega (arith, first, second)
 
-  more_steps : (set : CursorSet) (m n : ℕ) → m ≤ n → engine_steps share set m ≤ engine_steps share set n
+  pub more_steps : (set : CursorSet) (m n : ℕ) → m ≤ n → engine_steps share set m ≤ engine_steps share set n
   more_steps set m n h = steps_more (λ k. share set.size (set.calls + k)) (rises_from set.size set.calls) m n h
 
   -- the same from the state that the first x of these calls led to
-  joined_at : (old mid : CursorSet) (x y : ℕ) → mid.size ≡ old.size → mid.calls ≤ old.calls + x
+  pub joined_at : (old mid : CursorSet) (x y : ℕ) → mid.size ≡ old.size → mid.calls ≤ old.calls + x
       → engine_steps share old x + engine_steps share mid y ≤ engine_steps share old (x + y)
   joined_at old mid x y same few =
       subst (λ (size : List ℕ). engine_steps share old x + steps_for (λ n. share size (mid.calls + n)) y ≤ engine_steps share old (x + y)) (sym same)
@@ -57,6 +57,7 @@ module _ (share : List ℕ → ℕ → ℕ) (rises : (s : List ℕ) (c d : ℕ) 
     size = s.size;
     rises = s.rises;
     few = s.few;
+    grown = let grown = s.grown in omega (arith, grown, many);
     far = let far = s.far in omega (arith, far, wide);
     steps = let steps = s.steps in omega (arith, steps, many);
   }
@@ -87,6 +88,7 @@ module _ (share : List ℕ → ℕ → ℕ) (rises : (s : List ℕ) (c d : ℕ) 
           size = second.size ∙ first.size;
           rises = omega (arith, rise, rise');
           few = let f = first.few in let f' = second.few in omega (arith, f, f');
+          grown = let g = first.grown in let g' = second.grown in omega (arith, g, g', few);
           far = let f = first.far in let f' = second.far in omega (arith, f, f', near, next);
           steps =
               let steps = first.steps in
@@ -108,6 +110,7 @@ module _ (share : List ℕ → ℕ → ℕ) (rises : (s : List ℕ) (c d : ℕ) 
         size = ap (λ (s : CursorSet). s.size) same;
         rises = omega (arith, seen);
         few = omega (arith, seen, called);
+        grown = omega (arith, seen);
         far = omega (arith, seen);
         steps = omega (arith, few);
       }
@@ -151,6 +154,9 @@ module _ (share : List ℕ → ℕ → ℕ) (rises : (s : List ℕ) (c d : ℕ) 
             let more = more_steps old 1 (place + 1 - seen_of old) (omega (arith, seen, past)) in
             omega (arith, cost, one, more)
 
+    pub within_one : now ≤ before + engine_steps share old 1 + 4
+    within_one = let one = one_call old in omega (arith, cost, one)
+
     -- if it gave the member or the end at the place
     pub spent_call : (place + 1 ≤ new.known) ⊎ (new.ended ≡ true) → Spent share old new (place + 1) 1 before now
     spent_call found = by (is_known old place)
@@ -170,6 +176,7 @@ module _ (share : List ℕ → ℕ → ℕ) (rises : (s : List ℕ) (c d : ℕ) 
               size = kept.size;
               rises = omega (arith, least);
               few = omega (arith, least, called);
+              grown = grown;
               far = omega (arith, seen, past, grown);
               steps =
                   let one = one_call old in
@@ -179,11 +186,15 @@ module _ (share : List ℕ → ℕ → ℕ) (rises : (s : List ℕ) (c d : ℕ) 
 
   -- ---- a new set
 
+  pub new_steps : (set : CursorSet) (size : List ℕ) (first asked calls before now : ℕ) → set.size ≡ size → set.calls ≡ first
+      → now ≤ before + engine_steps share set asked + 4 * calls → now ≤ before + steps_for (λ n. share size (first + n)) asked + 4 * calls
+  new_steps set size first asked calls before now same called h =
+      let A : List ℕ → Type 0 = λ s. now ≤ before + steps_for (λ n. share s (set.calls + n)) asked + 4 * calls in
+      let B : ℕ → Type 0 = λ k. now ≤ before + steps_for (λ n. share size (k + n)) asked + 4 * calls in
+      subst B called (subst A same h)
+
   pub within_new : (set : CursorSet) (size : List ℕ) (first reach calls before now : ℕ) → set.size ≡ size → set.calls ≡ first → seen_of set ≡ 0
       → IsWithin share set reach calls before now → now ≤ before + steps_for (λ n. share size (first + n)) reach + 4 * calls
   within_new set size first reach calls before now same called none within =
-      let A : ℕ → Type 0 = λ k. now ≤ before + steps_for (λ n. share set.size (set.calls + n)) k + 4 * calls in
-      let B : List ℕ → Type 0 = λ s. now ≤ before + steps_for (λ n. share s (set.calls + n)) reach + 4 * calls in
-      let C : ℕ → Type 0 = λ k. now ≤ before + steps_for (λ n. share size (k + n)) reach + 4 * calls in
       let all : reach - seen_of set ≡ reach = omega (arith, none) in
-      subst C called (subst B same (subst A all within))
+      new_steps set size first reach calls before now same called (subst (λ k. now ≤ before + engine_steps share set k + 4 * calls) all within)

@@ -8,6 +8,7 @@ use Rattle.outer_io.specs.Printing.{Printed}
 use Rattle.outer_io.specs.SinkState.{SinkState}
 use Rattle.session_script.specs.declared.step.Step.{Step}
 use Rattle.session_script.specs.declared.step.Step.TheVariants.{Next}
+use Rattle.output_model.specs.SessionPieces.{next_pieces, step_pieces}
 use Rattle.output_model.specs.Session.{Places, next_text, no_cursors, place_in, places_after, step_text, steps_text, with_cursor}
 use Rattle.command_output.specs.declared.open_cursors.OpenCursor.{OpenCursor}
 use Rattle.command_output.specs.OpenCursors.{IsAt, IsHeld}
@@ -80,13 +81,20 @@ taken_all line members script i places set cursors old now end t =
 
 -- ---- the step `next`
 
+-- what holds of its cursor's place holds of the place by the cursor's name
+at_place : (P : ℕ → Type 0) (places : Places) (name : List ℕ) (place : ℕ) → places name ≡ Some place → P place → P (place_in places name)
+at_place P places name place at h = subst P (ap (λ (o : Option ℕ). unwrap_or o 0) (sym at)) h
+
 -- what it prints, by its cursor's place
 pub next_told : (P : List ℕ → Type 0) (line : List ℕ → List ℕ → List ℕ) (members : List (List ℕ)) (places : Places) (name : List ℕ) (place count : ℕ)
     → places name ≡ Some place → P (next_text (line name) (name ++ 10 ∷ []) (drop place members) count) → P (step_text line members places (Next name count))
-next_told P line members places name place count at h =
-    let B : ℕ → Type 0 = λ p. P (next_text (line name) (name ++ 10 ∷ []) (drop p members) count) in
-    let there : place ≡ place_in places name = ap (λ (o : Option ℕ). unwrap_or o 0) (sym at) in
-    subst B there h
+next_told P line members places name place count at h = at_place (λ p. P (next_text (line name) (name ++ 10 ∷ []) (drop p members) count)) places name place at h
+
+-- its pieces
+pub next_in_pieces : (P : List (List ℕ) → Type 0) (line : List ℕ → List ℕ → List ℕ) (members : List (List ℕ)) (places : Places) (name : List ℕ) (place count : ℕ)
+    → places name ≡ Some place → P (next_pieces (line name) (name ++ 10 ∷ []) (drop place members) count) → P (step_pieces line members places (Next name count))
+next_in_pieces P line members places name place count at h =
+    at_place (λ p. P (next_pieces (line name) (name ++ 10 ∷ []) (drop p members) count)) places name place at h
 
 -- the places of the cursors after it
 pub next_after : (P : Places → Type 0) (members : List (List ℕ)) (places : Places) (name : List ℕ) (place now count : ℕ) → places name ≡ Some place

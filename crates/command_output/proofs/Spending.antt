@@ -1,9 +1,6 @@
 -- Sums on plain numbers: of steps that were counted, and of members that were given.
 use Rattle.std.proofs.Common.{◌≡◌, ◌+◌, ◌-◌, ◌≤◌, ℕ, arith}
 
-pub same_most : (n : ℕ) → n ≤ n
-same_most n = omega arith
-
 pub at_most_one : (n k : ℕ) → n ≤ n + k
 at_most_one n k = omega arith
 

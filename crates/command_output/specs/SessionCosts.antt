@@ -1,5 +1,5 @@
 -- The cost of calls on a set of cursors.
-use Rattle.std.specs.Prelude.{◌≡◌, ◌+◌, ◌-◌, ◌*◌, ◌≤◌, ℕ, List, Option, None, Some, Result, OnOk, nat_lt, max, if◌then◌else◌}
+use Rattle.std.specs.Prelude.{◌≡◌, ◌+◌, ◌-◌, ◌*◌, ◌≤◌, ◌++◌, ℕ, List, Option, None, Some, Result, OnOk, nat_lt, max, if◌then◌else◌}
 use Rattle.cursor_set.specs.CursorSet.{CursorSet, seen_of}
 use Rattle.bound_query.specs.Steps.{steps_for}
 
@@ -14,12 +14,13 @@ IsWithin share set reach calls before now = now
     ≤ before + engine_steps share set (reach - seen_of set) + 4 * calls
 
 -- Such calls lead from one state of the set to another. The engine was called only for what is
--- newly seen, and nothing beyond `reach` was newly seen.
+-- newly seen, each call saw one thing more at most, and nothing beyond `reach` was newly seen.
 pub record Spent (share : List ℕ → ℕ → ℕ) (old new : CursorSet)
     (reach calls before now : ℕ) : Type 0 where
   pub size : new.size ≡ old.size
   pub rises : seen_of old ≤ seen_of new
   pub few : new.calls + seen_of old ≤ old.calls + seen_of new
+  pub grown : seen_of new ≤ seen_of old + calls
   pub far : seen_of new ≤ max (seen_of old) reach
   pub steps : now ≤ before + engine_steps share old (seen_of new - seen_of old) + 4 * calls
 
@@ -28,6 +29,14 @@ pub record Paid {A E : Type 0} (share : List ℕ → ℕ → ℕ) (old new : Cur
     (reach calls before now : ℕ) (result : Result A E) : Type 0 where
   pub spent : OnOk result (Spent share old new reach calls before now)
   pub within : IsWithin share old reach calls before now
+
+-- Pieces were written one by one, with at most one call of the set before each. The steps of the
+-- calls are within those for the whole pieces that were written, and for one call more.
+abbrev pub SetPaced : (List ℕ → ℕ → ℕ) → CursorSet → (List ℕ → ℕ) → Option (List ℕ)
+    → Option (List ℕ) → ℕ → ℕ → Type 0
+SetPaced share set whole_in old new before now = (start part : List ℕ) → old ≡ Some start
+    → new ≡ Some (start ++ part)
+    → now ≤ before + engine_steps share set (whole_in part + 1) + 4 * (whole_in part + 1)
 
 -- the calls for the member at a place: none if the place is at the limit
 abbrev pub calls_at : Option ℕ → ℕ → ℕ

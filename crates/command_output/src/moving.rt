@@ -8,8 +8,10 @@ ghost use Rattle.outer_io.specs.SinkState.{state_of};
 ghost use Rattle.tdp_model.specs.KeyNumbers.{numbers};
 ghost use Rattle.output_model.specs.Session.{next_text};
 ghost use Rattle.output_model.specs.SessionCalls.{calls_among};
+ghost use Rattle.output_model.specs.SessionPieces.{next_pieces};
+ghost use Rattle.bound_query.specs.Steps.{whole_lines};
 ghost use Rattle.witness_key.specs.WitnessKey.{AreCombinations};
-ghost use Rattle.command_output.specs.SessionCosts.{Paid, calls_at};
+ghost use Rattle.command_output.specs.SessionCosts.{Paid, SetPaced, calls_at, engine_steps};
 ghost use Rattle.command_output.specs.SessionListing.{ends_in, line_in, members_in};
 
 use crate::listing::Listing;
@@ -21,9 +23,9 @@ use std::sync::ledger::Ledger;
 use step_counter::{NoMemory, Steps};
 use tdp_core::{Answer, Ranked};
 
-/// Prints at most `count` members from the place of the cursor `id`, and the cursor's name alone if
-/// the list ends before that. The list is the combinations that the set's answers stand for, cut to
-/// the limit.
+/// Prints at most `count` members from the place of the cursor `id`, each before the next call of
+/// the set, and the cursor's name alone if the list ends before that. The list is the combinations
+/// that the set's answers stand for, cut to the limit.
 pub(crate) fn print_next<E: Ranked, S: Sink, L: Ledger>(
     records: &mut RecordWriter,
     listing: &Listing<'_>,
@@ -54,6 +56,10 @@ pub(crate) fn print_next<E: Ranked, S: Sink, L: Ledger>(
         (calls_among (ends_in listing.now set.old.answers)
         (length (drop place.old (members_in listing.now set.old.answers))) count) steps.old
         steps.new result }
+    ensures paced { SetPaced E.share set.old (whole_lines
+        (next_pieces (line_in listing.now name.now) (name.now ++ codes "\n")
+        (drop place.old (members_in listing.now set.old.answers)) count))
+        (S.written out.old) (S.written out.new) steps.old steps.new }
 {
     let named = Style {
         ranks: listing.style.ranks,
@@ -102,6 +108,7 @@ fn next_member<E: Ranked, L: Ledger>(
     ensures kept { set.new.answers ≡ set.old.answers }
     ensures paid { Paid E.share set.old set.new (place.old + calls_at limit place.old)
         (calls_at limit place.old) steps.old steps.new result }
+    ensures once { steps.new ≤ steps.old + engine_steps E.share set.old 1 + 4 }
 {
     if is_reached(limit, *place) {
         return Ok(None);

@@ -1,5 +1,5 @@
 //! A session, one step after another.
-ghost use Rattle.std.specs.Prelude.{◌≡◌, ◌≤◌, ◌+◌, ◌*◌, [], None, OnOk, map, option_map, replicate};
+ghost use Rattle.std.specs.Prelude.{◌≡◌, ◌≤◌, ◌+◌, ◌*◌, ◌++◌, [], List, None, OnOk, Some, map, option_map, replicate, ℕ};
 ghost use Rattle.anyk_model.specs.Output.{cut};
 ghost use Rattle.answer_print.specs.StyleView.{style_view};
 ghost use Rattle.bound_query.specs.WeighedQuery.{Fits};
@@ -8,11 +8,12 @@ ghost use Rattle.outer_io.specs.SinkState.{state_of};
 ghost use Rattle.session_script.specs.Script.{KeepsRules};
 ghost use Rattle.output_model.specs.Session.{Places, no_cursors, session_text};
 ghost use Rattle.output_model.specs.SessionCalls.{calls_of_steps, ends_by_itself, reach_of_steps};
+ghost use Rattle.output_model.specs.SessionPieces.{pieces_in};
 ghost use Rattle.bound_query.specs.Steps.{steps_for};
 ghost use Rattle.witness_key.specs.WitnessKey.{AreCombinations, combinations_in};
 ghost use Rattle.command_output.specs.OpenCursors.{IsHeld};
 ghost use Rattle.command_output.specs.SessionRules.{CanStep};
-ghost use Rattle.command_output.specs.SessionCosts.{IsWithin};
+ghost use Rattle.command_output.specs.SessionCosts.{IsWithin, SetPaced};
 ghost use Rattle.command_output.specs.SessionListing.{ends_in, line_in, members_in};
 ghost use Rattle.command_output.specs.TakenSteps.{IsTaken};
 
@@ -33,7 +34,8 @@ use tdp_core::Ranked;
 /// Prints the header with the title of the cursors' names, and then what the steps of the script
 /// print of the answers that the engine has left, as far as the limit allows. `NoMemory` if memory
 /// is refused, and `Write` if a write failed. The engine is called only for places that a
-/// cursor reaches for the first time. Each call for a member takes at most 4 more counted steps.
+/// cursor reaches for the first time. Each call for a member takes at most 4 more counted steps,
+/// and what it gives is printed before the next call.
 pub fn print_session<E: Ranked + Drop, S: Sink, L: Ledger>(
     alloc: Global,
     query: &Query,
@@ -61,6 +63,14 @@ pub fn print_session<E: Ranked + Drop, S: Sink, L: Ledger>(
         (ends_by_itself query.now.query.limit (combinations_in query.now.query (E.rest engine)))
         (cut query.now.query.limit (combinations_in query.now.query (E.rest engine))) no_cursors
         script.now }
+    ensures prompt { (start part : List ℕ) → S.written out.old ≡ Some start
+        → S.written out.new ≡ Some (start ++ part) → steps.new ≤ steps.old
+        + steps_for (λ n. E.share (E.size engine) (E.calls engine + n))
+        (pieces_in query.now.query tables.now (style_view style.now) (cut query.now.query.limit
+        (combinations_in query.now.query (E.rest engine))) script.now part + 1)
+        + 4 * (pieces_in query.now.query tables.now (style_view style.now)
+        (cut query.now.query.limit (combinations_in query.now.query (E.rest engine))) script.now
+        part + 1) }
 {
     let listing = Listing {
         alloc,
@@ -96,6 +106,10 @@ fn print_steps<E: Ranked, S: Sink, L: Ledger>(
         (members_in listing.now set.old.answers) no_cursors script.now)
         (calls_of_steps (ends_in listing.now set.old.answers)
         (members_in listing.now set.old.answers) no_cursors script.now) steps.old steps.new }
+    ensures paced { SetPaced E.share set.old (pieces_in listing.now.query.now.query
+        listing.now.tables.now (style_view listing.now.style.now)
+        (members_in listing.now set.old.answers) script.now)
+        (S.written out.old) (S.written out.new) steps.old steps.new }
 {
     let titled = Style {
         ranks: listing.style.ranks,

@@ -8,16 +8,13 @@ use Rattle.std.proofs.KnownBytes.{Appends-trans}
 use Rattle.outer_io.specs.declared.fault.PrintFault.{PrintFault}
 use Rattle.outer_io.specs.Printing.{Printed}
 use Rattle.outer_io.specs.SinkState.{SinkState}
-use Rattle.outer_io.proofs.Prints.{appends_nothing, printed_stopped, printed_then, written}
+use Rattle.outer_io.proofs.Prints.{printed_stopped, printed_then, written}
 
 module _ {A : Type 0} (f : A → List ℕ) (list : List A) where
   -- the records of the first i members were printed
   pub record HasPrinted (i : ℕ) (old now : SinkState) : Type 0 where
     pub sent : Appends old.written now.written (flat_map f (take i list))
     pub later : old.faults ≤ now.faults
-
-  pub none_yet : (s : SinkState) → HasPrinted 0 s s
-  none_yet s = record { sent = appends_nothing s.written; later = omega arith }
 
   pub all_printed : (i : ℕ) (old now : SinkState) → length list ≤ i → HasPrinted i old now → Printed old now (flat_map f list) (Ok tt)
   all_printed i old now end h =

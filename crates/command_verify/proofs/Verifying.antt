@@ -1,5 +1,5 @@
 -- An input whose certificate is checked.
-use Rattle.std.proofs.Common.{◌≡◌, ◌∙◌, ℕ, zero, suc, List, [], ◌∷◌, length, map, take, slice_index, inl, inr, Option, None, Result, Ok, Err, IfErr, OnOk, refl, sym, ap, subst, arith}
+use Rattle.std.proofs.Common.{◌≡◌, ◌∙◌, ℕ, zero, suc, List, [], ◌∷◌, length, map, take, slice_index, inl, inr, Option, None, Result, Ok, Err, Some, refl, sym, ap, subst, arith}
 use Rattle.std.specs.List.{AllByRecursion}
 use Rattle.std.proofs.lemmas.List.{length-map}
 use Rattle.anyk_model.specs.Output.{output_of}
@@ -38,17 +38,20 @@ use Rattle.session_script.specs.declared.step.Step.{Step}
 use Rattle.command_input.specs.Input.{InputView, loaded_of}
 use Rattle.command_input.specs.Turns.{IsTurn}
 use Rattle.verdict.specs.Faults.{of_proof}
-use Rattle.verdict.specs.Outcome.{GotNothing, IsCaused, IsComplete, IsCut, IsReason, Outside}
+use Rattle.verdict.specs.Bound.{IsBounded, IsPrompt}
+use Rattle.verdict.specs.Execution.{IsExecuted}
+use Rattle.verdict.specs.Outcome.{GotNothing, Outside}
 use Rattle.verdict.specs.Output.{HasOutput, answers_text, style_of}
 use Rattle.verdict.specs.AcceptedInput.{Found, found_of, queries_in}
 use Rattle.verdict.specs.Loading.{Loaded}
 use Rattle.verdict.specs.StageResults.{NoTurn, Pure, Shelved}
 use Rattle.verdict.specs.Stages.{Then, followed, refused}
 use Rattle.verdict.specs.Verdict.{IsLoadedOn, IsShaped, IsStructure, IsVerdict, IsVerified}
-use Rattle.verdict.specs.Words.{Command, Words, built, verify, sought_by}
+use Rattle.verdict.specs.Words.{IsNamed, Words, a_command, verify, sought_by}
 use Rattle.verdict.proofs.Printed.{printed_caused, printed_complete, printed_cut, printed_fits}
 use Rattle.verdict.proofs.Staging.{found_within, pure_staged}
 use Rattle.command_input.proofs.Ends.{judged_accepts, judged_caused, judged_cut, judged_reason}
+use Rattle.command_input.proofs.Telling.{pure_result}
 use Rattle.command_verify.specs.Verifications.{HasAnswers, IsCheckedFor, IsShown, check_reason, rejected, shape_reason, shown}
 use Rattle.command_verify.specs.declared.fault.CheckFault.{CheckFault}
 use Rattle.command_input.specs.Judgement.{IsJudgedOn, IsLookedUp}
@@ -110,10 +113,14 @@ pub looked_verified : (proof : List ℕ) (words : Words) (old new : Shelved) (lo
     → IsLookedUp (sought_by (verify proof words)) old new (Ok loaded) → Pure (Then (IsShaped loaded) IsVerified) r
     → IsJudgedOn (verify proof words) old new r
 looked_verified proof words old new loaded r h verified =
-    found_within (IsLoadedOn (sought_by (verify proof words))) (IsTurn (sought_by (verify proof words)))
-    (λ files. Then (IsShaped loaded) IsVerified) NoTurn (IsVerdict (built (verify proof words))) (IsTurn (sought_by (verify proof words)))
-    old new new loaded r (λ files g v. then_both (IsLoadedOn (sought_by (verify proof words)) files) IsShaped IsVerified loaded r g v)
-    (λ files name g no_turn. absurd no_turn) h (pure_staged (Then (IsShaped loaded) IsVerified) new r verified)
+    let command = verify proof words in
+    record {
+      staged = found_within (IsLoadedOn (sought_by command)) (IsTurn (sought_by command))
+          (λ files. Then (IsShaped loaded) IsVerified) NoTurn (IsVerdict (a_command command)) (IsTurn (sought_by command))
+          old new new loaded r (λ files g v. then_both (IsLoadedOn (sought_by command) files) IsShaped IsVerified loaded r g v)
+          (λ files name g no_turn. absurd no_turn) h.staged (pure_staged (Then (IsShaped loaded) IsVerified) new r verified);
+      tells = pure_result (IsNamed (sought_by command)) (Then (IsShaped loaded) IsVerified) r verified;
+    }
 
 -- ---- the join tree that is stored is that of the structure
 
@@ -256,11 +263,15 @@ answers_shown words input shape answers h =
 
 -- ---- how the command ends
 
-pub record Ends (command : Command) (told : Option Files) (old new : Outside) (r : Result (Unit {0}) Refusal) : Type 0 where
-  pub done : OnOk r (IsComplete (built command) told old new)
-  pub fits : IfErr r (λ refusal. IsReason (built command) told (reason_of refusal))
-  pub caused : IfErr r (λ refusal. IsCaused old new (reason_of refusal))
-  pub cut : IfErr r (λ refusal. IsCut (built command) told old new (reason_of refusal))
+-- nothing is said of the steps of `verify`
+any_steps : (proof : List ℕ) (words : Words) (told : Option Files) (before now : ℕ) → IsBounded (a_command (verify proof words)) told before now
+any_steps proof words None before now = tt
+any_steps proof words (Some files) before now = λ found verdict. tt
+
+any_pace : (proof : List ℕ) (words : Words) (told : Option Files) (old new : Option (List ℕ)) (before now : ℕ)
+    → IsPrompt (a_command (verify proof words)) told old new before now
+any_pace proof words None old new before now = tt
+any_pace proof words (Some files) old new before now = λ found verdict. tt
 
 -- the counts of the shelf, as the outside has them
 abbrev shelf_of : Option Files → Outside → Shelved
@@ -272,29 +283,29 @@ abbrev sink_of : Outside → SinkState
 sink_of outside = record { written = outside.output; faults = outside.write_faults }
 
 -- the input or its certificate was refused, and nothing was written
-pub refused_ends : (proof : List ℕ) (words : Words) (files files' : Option Files) (old new : Outside) (refusal : Refusal)
+pub refused_ends : (proof : List ℕ) (words : Words) (files files' : Option Files) (old new : Outside) (before now : ℕ) (refusal : Refusal)
     → IsJudgedOn (verify proof words) (shelf_of files old) (shelf_of files' new) (Err (reason_of refusal)) → GotNothing old new
-    → Ends (verify proof words) files old new (Err refusal)
-refused_ends proof words files files' old new refusal judged nothing =
+    → IsExecuted (verify proof words) files old new before now (Err refusal)
+refused_ends proof words files files' old new before now refusal judged nothing =
     let command = verify proof words in
-    let before = shelf_of files old in
-    let after = shelf_of files' new in
     let a = reason_of refusal in
     record {
       done = tt;
-      fits = judged_reason command before after a judged;
+      fits = judged_reason command (shelf_of files old) (shelf_of files' new) a judged;
       caused = judged_caused command old new files files' a judged;
-      cut = judged_cut command before after old new a judged nothing;
+      cut = judged_cut command (shelf_of files old) (shelf_of files' new) old new a judged nothing;
+      bounded = any_steps proof words files before now;
+      prompt = any_pace proof words files old.output new.output before now;
     }
 
 -- after the input was read
-pub verified_ends : (proof : List ℕ) (words : Words) (files files' : Option Files) (old new : Outside) (loaded : Loaded)
+pub verified_ends : (proof : List ℕ) (words : Words) (files files' : Option Files) (old new : Outside) (before now : ℕ) (loaded : Loaded)
     (r : Result (Unit {0}) Refusal) → IsLookedUp (sought_by (verify proof words)) (shelf_of files old) (shelf_of files' new) (Ok loaded)
-    → IsShown words loaded (sink_of old) (sink_of new) r → Ends (verify proof words) files old new r
-verified_ends proof words files files' old new loaded _ looked (rejected {refusal} told nothing) =
-    refused_ends proof words files files' old new refusal
+    → IsShown words loaded (sink_of old) (sink_of new) r → IsExecuted (verify proof words) files old new before now r
+verified_ends proof words files files' old new before now loaded _ looked (rejected {refusal} told nothing) =
+    refused_ends proof words files files' old new before now refusal
     (looked_verified proof words (shelf_of files old) (shelf_of files' new) loaded (Err (reason_of refusal)) looked told) nothing
-verified_ends proof words files files' old new loaded _ looked (shown shape r verified printed) =
+verified_ends proof words files files' old new before now loaded _ looked (shown shape r verified printed) =
     let command = verify proof words in
     let found = found_of loaded (shape ∷ []) in
     let judged = looked_verified proof words (shelf_of files old) (shelf_of files' new) loaded (Ok found) looked verified in
@@ -304,5 +315,7 @@ verified_ends proof words files files' old new loaded _ looked (shown shape r ve
       done = printed_complete command files old new found r accepts some.whole;
       fits = printed_fits command files old new found accepts r some.cause;
       caused = printed_caused command files old new found accepts r some.cause;
-      cut = printed_cut command files old new found accepts r some.cause some.part;
+      cut = printed_cut command files old new found accepts r some.part tt;
+      bounded = any_steps proof words files before now;
+      prompt = any_pace proof words files old.output new.output before now;
     }

@@ -1,15 +1,14 @@
 //! The command `verify`.
-ghost use Rattle.std.specs.Prelude.{◌≡◌, ◌∷◌, [], IfErr, None, OnOk, length};
+ghost use Rattle.std.specs.Prelude.{◌≡◌, ◌∷◌, [], None, length};
 ghost use Rattle.cmd_words.specs.ArgumentMeaning.{words_view};
 ghost use Rattle.command_input.specs.Input.{loaded_of};
 ghost use Rattle.bound_query.specs.Shape.{Shape};
 ghost use Rattle.outer_io.specs.Printing.{Printed};
-ghost use Rattle.refusals.specs.RefusalReasons.{reason_of};
 ghost use Rattle.outer_io.specs.SinkState.{state_of};
 ghost use Rattle.verdict.specs.AcceptedInput.{found_of};
 ghost use Rattle.verdict.specs.Output.{answers_text};
-ghost use Rattle.verdict.specs.Outcome.{IsCaused, IsComplete, IsCut, IsReason};
-ghost use Rattle.verdict.specs.Words.{built, verify};
+ghost use Rattle.verdict.specs.Execution.{IsExecuted};
+ghost use Rattle.verdict.specs.Words.{verify};
 ghost use Rattle.command_input.specs.Tasks.{words_of};
 ghost use Rattle.command_verify.specs.Verifications.{HasAnswers, IsShown};
 ghost use Rattle.verdict.specs.Sides.{seen_by};
@@ -30,7 +29,7 @@ use step_counter::Steps;
 /// Reads the input of `verify`, checks its certificate, and prints the answers that it lists. The
 /// result is an error if the input is refused, if the certificate is not valid, if a read or a
 /// write failed, or if memory is refused.
-pub fn answer_verified<'a, F: Shelf, S: Sink, L: Ledger>(
+pub fn execute_verify<'a, F: Shelf, S: Sink, L: Ledger>(
     alloc: Global,
     proof: &'a str,
     words: &'a Words,
@@ -39,18 +38,9 @@ pub fn answer_verified<'a, F: Shelf, S: Sink, L: Ledger>(
     keys: Keys,
     steps: &mut Steps<L>,
 ) -> Result<(), Refusal<'a>>
-    ensures done { let command = verify proof.now (words_of (words_view words.now)) in
-        OnOk result (IsComplete (built command) (F.files shelf.old)
-        (seen_by F.Shelf S.Sink shelf.old out.old) (seen_by F.Shelf S.Sink shelf.new out.new)) }
-    ensures fits { let command = verify proof.now (words_of (words_view words.now)) in
-        IfErr result (λ refusal. IsReason (built command) (F.files shelf.old) (reason_of refusal)) }
-    ensures caused { IfErr result (λ refusal. IsCaused
-        (seen_by F.Shelf S.Sink shelf.old out.old)
-        (seen_by F.Shelf S.Sink shelf.new out.new) (reason_of refusal)) }
-    ensures cut { let command = verify proof.now (words_of (words_view words.now)) in
-        IfErr result (λ refusal. IsCut (built command) (F.files shelf.old)
-        (seen_by F.Shelf S.Sink shelf.old out.old)
-        (seen_by F.Shelf S.Sink shelf.new out.new) (reason_of refusal)) }
+    ensures { IsExecuted (verify proof.now (words_of (words_view words.now))) (F.files shelf.old)
+        (seen_by F.Shelf S.Sink shelf.old out.old) (seen_by F.Shelf S.Sink shelf.new out.new)
+        steps.old steps.new result }
 {
     let aside = Aside::Certificate(proof);
     match look_up(alloc, words, false, aside, None, shelf, keys) {

@@ -53,9 +53,6 @@ reaches_none (e ∷ ends) text = record { within = omega arith; start = λ _. re
 
 module _ (ends text : List ℕ) (i size : ℕ) (x : List ℕ) (inside : i < length ends) (reaches : Reaches ends text i size)
     (is : x ≡ take (get_or ends i 0 - prev 0 ends i) (drop (prev 0 ends i) text)) (some : 0 < length x) where
-  long : length x ≤ get_or ends i 0 - prev 0 ends i
-  long = omega (arith, ap length is, length-take (get_or ends i 0 - prev 0 ends i) (drop (prev 0 ends i) text))
-
   short : length x ≤ length text - prev 0 ends i
   short = omega (arith, ap length is, length-take (get_or ends i 0 - prev 0 ends i) (drop (prev 0 ends i) text), length-drop (prev 0 ends i) text)
 

@@ -2,5 +2,5 @@ pub mod Faults
 pub mod Fields
 pub mod PlainTables
 pub mod RecordsLeft
-pub mod TableReaders
+pub mod Tables
 pub mod Texts

@@ -18,5 +18,4 @@ mod text;
 mod texts;
 
 pub use fault::TableFault;
-pub use reading::TableReader;
-pub use table_store::Tables;
+pub use reading::Tables;

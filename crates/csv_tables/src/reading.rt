@@ -13,8 +13,8 @@ use csv::ByteRecord;
 use hash_keys::Keys;
 use std::alloc::Global;
 use std::marker::Model;
+use std::ops::Deref;
 use step_counter::NoMemory;
-use table_store::Tables;
 
 /// The greatest number of columns of a table.
 const MAX_COLUMNS: usize = 64;
@@ -22,42 +22,44 @@ const MAX_COLUMNS: usize = 64;
 /// The greatest number of rows of a table.
 const MAX_ROWS: usize = 1_048_576;
 
-/// Tables that are read one after another, with the set of their texts.
+/// The tables of a query, numbered from 0 in the order in which they are read, with the set of
+/// their texts. They are read back by the calls of `table_store::Tables`, to which these tables
+/// dereference.
 #[derive(Drop)]
-pub struct TableReader {
-    tables: Tables,
+pub struct Tables {
+    tables: table_store::Tables,
     texts: Texts,
     alloc: Global,
 }
 
-impl Model for TableReader {
+impl Model for Tables {
     ghost use Rattle.std.specs.Prelude.{List};
     ghost use Rattle.anyk_model.specs.Table.{Table};
-    ghost use Rattle.csv_tables.specs.TableReaders.{KnowsTexts, reader_view};
+    ghost use Rattle.csv_tables.specs.Tables.{KnowsTexts, tables_view};
 
     ghost Value = { List Table };
 
-    ghost view = { reader_view };
+    ghost view = { tables_view };
 
     ghost invariant = { KnowsTexts };
 }
 
-impl TableReader {
+impl Tables {
     ghost use Rattle.table_store.specs.Tables.{IsSound};
 
-    /// A reader that has read no table, and hashes with known keys. Takes no memory.
-    pub fn new(alloc: Global) -> TableReader
+    /// No tables, which will be hashed with known keys. Takes no memory.
+    pub fn new(alloc: Global) -> Tables
         ensures { result ≡ [] }
     {
-        TableReader::with_keys(alloc, Keys::Known)
+        Tables::with_keys(alloc, Keys::Known)
     }
 
-    /// A reader that has read no table, and hashes with these keys. Takes no memory.
-    pub fn with_keys(alloc: Global, keys: Keys) -> TableReader
+    /// No tables, which will be hashed with these keys. Takes no memory.
+    pub fn with_keys(alloc: Global, keys: Keys) -> Tables
         ensures { result ≡ [] }
     {
-        TableReader {
-            tables: Tables::new(alloc, keys),
+        Tables {
+            tables: table_store::Tables::with_keys(alloc, keys),
             texts: Texts::new(alloc, keys),
             alloc,
         }
@@ -105,18 +107,21 @@ impl TableReader {
         Ok(number)
     }
 
-    /// The tables that were read so far.
-    pub fn tables(&self) -> &Tables
-        ensures { result.now ≡ self.now }
-    {
-        &self.tables
-    }
-
     /// The tables that were read, in their order. The set of texts is dropped.
-    pub fn into_tables(self) -> Tables
+    pub fn into_tables(self) -> table_store::Tables
         ensures { result ≡ self }
     {
         self.tables
+    }
+}
+
+impl Deref for Tables {
+    type Target = table_store::Tables;
+
+    ghost deref_gives = { λ read stored. stored ≡ read };
+
+    fn deref(&self) -> &table_store::Tables {
+        &self.tables
     }
 }
 

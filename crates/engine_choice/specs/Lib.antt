@@ -1,3 +1,4 @@
+pub mod AskedKind
 pub mod AskedList
 pub mod BestKey
 pub mod Engines

@@ -1,5 +1,5 @@
 //! The engine that was asked for.
-ghost use Rattle.std.specs.Prelude.{◌≡◌, ◌+◌, ◌*◌, ◌≤◌, IfOk, List, length};
+ghost use Rattle.std.specs.Prelude.{◌≡◌, ◌+◌, ◌*◌, ◌≤◌, IfOk, List, None, Some, length};
 ghost use Rattle.tdp_model.specs.KeyTuple.{KeyOf};
 ghost use Rattle.tdp_core.specs.AnswerView.{answers_of};
 ghost use Rattle.tdp_core.specs.RisingShares.{at_most_itself, shares_rise};
@@ -8,7 +8,7 @@ ghost use Rattle.tdp_core.specs.Solutions.{IsTreeRanking};
 ghost use Rattle.tdp_core.specs.TreeView.{row_count};
 ghost use Rattle.tdp_core.specs.WellFormed.{IsTieFreeTree};
 ghost use Rattle.tree_dp.specs.BestRanking.{IsBestRanking};
-ghost use Rattle.engine_choice.specs.Engines.{calls_of, rest_of, tree_of};
+ghost use Rattle.engine_choice.specs.Engines.{calls_of, kind_of_engine, rest_of, tree_of};
 
 use crate::kind::EngineKind;
 use anyk_part::Part;
@@ -52,6 +52,7 @@ pub fn choose_engine<'t, R: Rank, L: Ledger>(
     steps: &mut Steps<L>,
 ) -> Result<ChosenEngine<'t, R>, NoMemory>
     requires tie_free { IsTieFreeTree tree.now }
+    ensures kind { IfOk result (λ e. kind_of_engine e ≡ Some kind) }
     ensures tree { IfOk result (λ e. tree_of e ≡ tree.now) }
     ensures calls { IfOk result (λ e. calls_of e ≡ 0) }
     ensures ranking { IfOk result
@@ -80,6 +81,7 @@ pub fn best_engine<'t, R: Rank, L: Ledger>(
     steps: &mut Steps<L>,
 ) -> Result<ChosenEngine<'t, R>, NoMemory>
     requires tie_free { IsTieFreeTree tree.now }
+    ensures kind { IfOk result (λ e. kind_of_engine e ≡ None) }
     ensures tree { IfOk result (λ e. tree_of e ≡ tree.now) }
     ensures calls { IfOk result (λ e. calls_of e ≡ 0) }
     ensures best { IfOk result

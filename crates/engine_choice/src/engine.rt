@@ -1,7 +1,8 @@
 //! The engine over a plan.
 ghost use Rattle.std.specs.Prelude.{◌≡◌, ◌+◌, ◌*◌, ◌≤◌, IfOk, List, None, length};
 ghost use Rattle.anyk_model.specs.Table.{Table};
-ghost use Rattle.engine_choice.specs.Engines.{calls_of, rest_of, tree_of};
+ghost use Rattle.engine_choice.specs.AskedKind.{kind_asked, kind_named};
+ghost use Rattle.engine_choice.specs.Engines.{calls_of, kind_of_engine, rest_of, tree_of};
 ghost use Rattle.plan_build.specs.Plan.{IsPlanOf};
 ghost use Rattle.bound_query.specs.WeighedQuery.{BoundQuery};
 ghost use Rattle.tdp_core.specs.AnswerView.{answers_of};
@@ -33,6 +34,7 @@ pub fn engine_over<'t, R: Rank, L: Ledger>(
     steps: &mut Steps<L>,
 ) -> Result<ChosenEngine<'t, R>, NoMemory>
     requires tie_free { IsTieFreeTree plan.now.tree }
+    ensures kind { IfOk result (λ e. kind_of_engine e ≡ kind_asked engine best) }
     ensures tree { IfOk result (λ e. tree_of e ≡ plan.now.tree) }
     ensures calls { IfOk result (λ e. calls_of e ≡ 0) }
     ensures asked { (bound : BoundQuery) (tables : List Table)
@@ -55,8 +57,7 @@ pub fn engine_over<'t, R: Rank, L: Ledger>(
 
 /// The kind of engine with this name on the command line.
 fn kind_of(engine: Engine) -> EngineKind
-    ensures part { engine ≡ Engine.Part → result ≡ EngineKind.Part }
-    ensures rec { engine ≡ Engine.Rec → result ≡ EngineKind.Rec }
+    ensures kind { result ≡ kind_named engine }
 {
     match engine {
         Engine::Part => EngineKind::Part,

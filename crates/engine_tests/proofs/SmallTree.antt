@@ -5,7 +5,7 @@ use Rattle.std.specs.List.Sorted.{IsPermutation}
 use Rattle.std.proofs.lemmas.List.Sorted.{IsPermutation-refl, IsPermutation-swap}
 use Rattle.std.proofs.lemmas.Bool.Decides.{nat_tests}
 use Rattle.tdp_model.specs.Remains.{AtMost}
-use Rattle.tdp_model.specs.KeyTuple.{KeyOf, key_below, key_add, key_none}
+use Rattle.tdp_model.specs.KeyTuple.{KeyOf, key_below, key_add, key_none, slot_of}
 use Rattle.tdp_model.specs.TreeProblem.{sum_from, kid_part, best_by_kids}
 use Rattle.tdp_model.proofs.KeyTuples.{tuple_keys}
 use Rattle.rank_key.specs.Keys.{IsHeld, IsWithin, KeyFits, row_key}
@@ -68,8 +68,8 @@ small_shaped = two_shaped _ _ _ refl refl refl refl (λ i. capped i (get_or smal
 module _ {R : Type 0} {d items limit rows : ℕ} (key : R → KeyOf d 16)
     (holds : (k : KeyOf d 16) → IsWithin d items limit rows k → IsHeld d key k)
     (roomy : 2 ^ 21 ≤ rows) (few : 2 ≤ items) (wide : 100 ≤ limit) where
-  pub small_held : AreShapesHeld d key small_shapes
-  small_held = two_nodes_held key holds roomy few wide _ _ refl refl
+  pub small_held : ((r : R) (i : ℕ) → i < 16 → slot_of d 16 i (key r) < rows) → rows ≤ 2 ^ 32 → AreShapesHeld d key small_shapes
+  small_held low narrow = two_nodes_held key holds roomy few wide low narrow _ _ refl refl
       (λ i. capped i (get_or small_caps i 0) (ten i)) (λ i. capped i (get_or small_caps i 0) (ten i))
 
 pub root_children : shape_children small_shapes 0 ≡ 1
@@ -106,14 +106,14 @@ module _ {R : Type 0} (top later sooner whole : R) where
 
   module _ (d : ℕ) (key : R → KeyOf d 16) (is_top : key top ≡ row_key d [] 1 4) (is_later : key later ≡ row_key d [] 0 3) (is_sooner : key sooner ≡ row_key d [] 0 1) (is_whole : key whole ≡ key_add d 16 (key top) (key sooner))
       (held : AreHeld d key 2 (item small_nodes) (cap small_nodes)) where
-    fits : (cap : ℕ → ℕ) (item row : ℕ) (r : R) → item < 16 → row < 2 ^ 21 → key r ≡ row_key d [] item row → RowFits d item cap row (key r)
-    fits cap item row r l h is = subst (RowFits d item cap row) (sym is) (row_key_fits d [] item row cap l h (λ i b. omega arith))
+    fits : (cap : ℕ → ℕ) (item row : ℕ) (r : R) → item < 16 → key r ≡ row_key d [] item row → RowFits d item cap row (key r)
+    fits cap item row r l is = subst (RowFits d item cap row) (sym is) (row_key_fits d [] item row cap l (λ i b. omega arith))
 
     rows_fit : (v r : ℕ) → v < 2 → r < rows small_nodes v → RowFits d (item small_nodes v) (cap small_nodes v) (number small_nodes v r) (rank small_nodes d key v r)
-    rows_fit zero zero l h = fits (cap small_nodes 0) 1 4 top (omega arith) (omega arith) is_top
+    rows_fit zero zero l h = fits (cap small_nodes 0) 1 4 top (omega arith) is_top
     rows_fit zero (suc r) l h = absurd (omega arith)
-    rows_fit (suc zero) zero l h = fits (cap small_nodes 1) 0 3 later (omega arith) (omega arith) is_later
-    rows_fit (suc zero) (suc zero) l h = fits (cap small_nodes 1) 0 1 sooner (omega arith) (omega arith) is_sooner
+    rows_fit (suc zero) zero l h = fits (cap small_nodes 1) 0 3 later (omega arith) is_later
+    rows_fit (suc zero) (suc zero) l h = fits (cap small_nodes 1) 0 1 sooner (omega arith) is_sooner
     rows_fit (suc zero) (suc (suc r)) l h = absurd (omega arith)
     rows_fit (suc (suc v)) r l h = absurd (omega arith)
 
@@ -209,6 +209,6 @@ module _ {R : Type 0} {d items limit rows : ℕ} (key : R → KeyOf d 16)
       (two_rows_held key holds roomy few wide [] [] 1 4 0 1 tt tt (omega arith) (omega arith) (omega arith) (omega arith))
 
   -- the nodes' shapes are the small ones
-  pub nodes_held : (top later sooner whole : R) → AreHeld d key 2 (item (small_nodes top later sooner whole)) (cap (small_nodes top later sooner whole))
-  nodes_held top later sooner whole = two_nodes_held key holds roomy few wide _ _ refl refl
+  pub nodes_held : ((r : R) (i : ℕ) → i < 16 → slot_of d 16 i (key r) < rows) → rows ≤ 2 ^ 32 → (top later sooner whole : R) → AreHeld d key 2 (item (small_nodes top later sooner whole)) (cap (small_nodes top later sooner whole))
+  nodes_held low narrow top later sooner whole = two_nodes_held key holds roomy few wide low narrow _ _ refl refl
       (λ i. capped i (get_or small_caps i 0) (ten i)) (λ i. capped i (get_or small_caps i 0) (ten i))

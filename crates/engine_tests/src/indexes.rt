@@ -1,8 +1,9 @@
-//! Indexes of links: links by a table and by hashing, and lists of values pair by pair.
+//! Indexes of links: links by a table and by hashing, and lists of values.
 ghost use Rattle.std.specs.Prelude.{◌≡◌, ◌<◌, length, OnOk};
 
 use hash_keys::Keys;
-use link_index::{DirectIndex, HashedIndex, ListNumber, PairIndex};
+use link_index::{DirectIndex, HashedIndex, ListIndex};
+use smallvec::SmallVec;
 use std::alloc::Global;
 use std::marker::Brand;
 use std::sync::ledger::{Blank, Ledger};
@@ -33,38 +34,38 @@ fn a_table_and_a_hash_give_links_the_same_numbers(rt: HostRuntime) {
     assert!(rt; agree == Ok(true));
 }
 
-/// The number of a list of two values at a node.
-fn number_of_two<L: Ledger>(
-    pairs: &mut PairIndex,
+/// The number of a list of values at a node.
+fn number_of_list<L: Ledger>(
+    alloc: Global,
+    lists: &mut ListIndex,
     node: usize,
-    first: u32,
-    second: u32,
+    values: &[u32],
     steps: &mut Steps<L>,
 ) -> Result<u32, NoMemory>
-    requires { node < length pairs.old }
-    ensures { OnOk result (length pairs.new ≡ length pairs.old) }
+    requires { node < length lists.old }
+    ensures { OnOk result (length lists.new ≡ length lists.old) }
 {
-    let list = ListNumber::begin(first, steps);
-    let list = pairs.with_value(node, list, second)?;
-    Ok(list.get())
+    lists.number_of(node, SmallVec::from_slice(alloc, values)?, steps)
 }
 
-/// Whether lists get the number of their last pair, apart for each node: one list twice, another at
-/// its node, and a list that is read at the other node.
+/// Whether lists get their numbers, apart for each node: a list twice, the same values in another
+/// order, a longer list that begins alike, and a list that is read at the other node.
 fn lists_get_numbers<L: Ledger>(alloc: Global, blank: Blank) -> Result<bool, NoMemory>
     requires name { blank.name ≡ L.name }
     requires parts { blank.parts ≡ L.parts }
     requires share { 0 < L.parts }
 {
     let mut steps: Steps<L> = Steps::new(blank);
-    let mut pairs = PairIndex::new(alloc, 2, Keys::Known)?;
+    let mut lists = ListIndex::new(alloc, 2, Keys::Known)?;
     let numbers = [
-        number_of_two(&mut pairs, 0, 5, 9, &mut steps)?,
-        number_of_two(&mut pairs, 0, 9, 5, &mut steps)?,
-        number_of_two(&mut pairs, 0, 5, 9, &mut steps)?,
-        number_of_two(&mut pairs, 1, 9, 5, &mut steps)?,
+        number_of_list(alloc, &mut lists, 0, &[5, 9], &mut steps)?,
+        number_of_list(alloc, &mut lists, 0, &[9, 5], &mut steps)?,
+        number_of_list(alloc, &mut lists, 0, &[5, 9, 1, 2, 3], &mut steps)?,
+        number_of_list(alloc, &mut lists, 0, &[5, 9, 1, 2, 3], &mut steps)?,
+        number_of_list(alloc, &mut lists, 0, &[5, 9], &mut steps)?,
+        number_of_list(alloc, &mut lists, 1, &[9, 5], &mut steps)?,
     ];
-    Ok(numbers == [0, 1, 0, 0])
+    Ok(numbers == [0, 1, 2, 2, 0, 0])
 }
 
 #[test]

@@ -48,7 +48,7 @@ fn orders_lists<L: Ledger>(rt: &impl Abort, blank: Blank)
     let mut steps = Steps::<L>::new(blank);
     let lesser = LexRank::of_row(&[1, 4], 3, 7);
     expect_before(rt, lesser, LexRank::of_row(&[1, 5], 0, 2), &mut steps);
-    let last = LexRank::of_row(&[1, 5, 0, 0, 0, 0, 0, i128::MIN + 1], 15, 1);
+    let last = LexRank::of_row(&[1, 5, 0, 0, 0, 0, 0, i128::MIN], 15, 1);
     expect_before(rt, last, LexRank::of_row(&[1, 5], 0, 2), &mut steps);
     let most = SumRank::of_row(&[i128::MAX], 0, u32::MAX);
     expect_before(rt, SumRank::of_row(&[], 15, 1), most, &mut steps);

@@ -6,7 +6,7 @@ use std::alloc::{Allocator, Global};
 use std::marker::Brand;
 use std::sync::ledger::{Blank, Ledger};
 use step_counter::{NoMemory, Steps};
-use stream_store::{EntryId, Store};
+use stream_store::{EntryId, Run, Store};
 
 /// Pushes the numbers below `count`, and keeps the names of their entries.
 fn fill<A: Allocator + Clone, L: Ledger>(
@@ -148,6 +148,22 @@ fn counts_up<A: Allocator + Clone, L: Ledger>(
     true
 }
 
+/// Whether a run of the last two entries of three has these by their places, and not the first.
+fn run_of_two<A: Allocator + Clone, L: Ledger>(
+    store: &mut Store<u64, A>,
+    steps: &mut Steps<L>,
+) -> Result<bool, NoMemory> {
+    store.reserve(3)?;
+    let outside = store.push_reserved(0, steps);
+    let first = store.push_reserved(1, steps);
+    let second = store.push_reserved(2, steps);
+    let mut run = Run::new();
+    run.add(first);
+    run.add(second);
+    let named = run.get(0) == first && run.get(1) == second;
+    Ok(named && run.len() == 2 && run.contains(second) && !run.contains(outside))
+}
+
 /// Whether this many entries, pushed into an empty store, are read back.
 fn reads_back<A: Allocator + Clone, L: Ledger>(
     store: &mut Store<u64, A>,
@@ -174,4 +190,19 @@ fn a_thousand_are_read_back<L: Ledger>(alloc: Global, blank: Blank) -> Result<bo
 fn a_thousand_entries_of_an_arena_are_read_back(rt: HostRuntime) {
     let read = a_thousand_are_read_back::<Brand>(rt.alloc(), Blank::new(1));
     assert!(rt; read == Ok(true));
+}
+
+fn a_run_is_read_back<L: Ledger>(alloc: Global, blank: Blank) -> Result<bool, NoMemory>
+    requires name { blank.name ≡ L.name }
+    requires parts { blank.parts ≡ L.parts }
+    requires share { 0 < L.parts }
+{
+    let mut steps: Steps<L> = Steps::new(blank);
+    run_of_two(&mut Store::new(alloc), &mut steps)
+}
+
+#[test]
+fn a_run_has_its_entries_alone(rt: HostRuntime) {
+    let has = a_run_is_read_back::<Brand>(rt.alloc(), Blank::new(1));
+    assert!(rt; has == Ok(true));
 }

@@ -40,13 +40,6 @@ module _ (graph : Hypergraph) (parent order : List ℕ) (removed core n : ℕ) (
   counted = run_empties Nothing graph.atoms order removed n (λ k l. nothing_ear (IsLive graph.atoms order k) (slice_index order k) (ear_of k l))
       (subst (λ z. Empties Nothing n (λ a. a < z)) (sym many) (nothing_empties n)) removed (omega arith)
 
-  one_of : (r : ℕ) → Empties Nothing r (IsLive graph.atoms order removed) → (a : ℕ) × IsIn core a
-  one_of zero (a, l, only) = (a, (run.left a).1 l)
-  one_of (suc r) (e, f, l, c, rest) = (e, (run.left e).1 l)
-
-  pub some_core : (a : ℕ) × IsIn core a
-  some_core = one_of counted.0 counted.2
-
   all_but_one : HasOne core → (r : ℕ) → r + removed ≡ n → Empties Nothing r (IsLive graph.atoms order removed) → removed ≡ n
   all_but_one one zero e empties = omega arith
   all_but_one (a, i, only) (suc r) e (x, y, l, c, rest) = absurd (c.other (only y ((run.left y).1 c.live) ∙ sym (only x ((run.left x).1 l))))

@@ -1,3 +1,3 @@
 pub mod Lists
-pub mod PairNumbering
+pub mod ListNumbering
 pub mod Tables

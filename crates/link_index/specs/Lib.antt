@@ -1,2 +1,2 @@
 pub mod LinkTable
-pub mod Pairs
+pub mod NumberedLists

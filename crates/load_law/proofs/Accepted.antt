@@ -20,7 +20,7 @@ use Rattle.verdict.specs.Outcome.{IsReason}
 use Rattle.session_script.specs.Script.{unless}
 use Rattle.verdict.specs.Stages.{followed, then_by}
 use Rattle.verdict.specs.Verdict.{IsLoaded, IsVerdict}
-use Rattle.verdict.specs.Words.{Asked, Command, built, load, no_command}
+use Rattle.verdict.specs.Words.{Asked, Command, a_command, load, no_command}
 use Rattle.verdict.proofs.One.{one_verdict}
 use Rattle.load_law.specs.Laws.{LoadAccepted, LoadEnds}
 use Rattle.load_law.proofs.Bound.{bind_sound, four_tables, load_bound, names_1, names_2, names_3, names_4}
@@ -109,13 +109,13 @@ module _ (number rows : ℕ) (few : rows ≤ 100000) where
   abbrev load_found : Loaded
   load_found = record { queries = load_bound ∷ []; tables = load_tables; best = None; steps = []; proof = no_certificate }
 
-  loaded : (given : Files) → IsLoaded (built (load number rows)) given (Ok load_found)
+  loaded : (given : Files) → IsLoaded (a_command (load number rows)) given (Ok load_found)
   loaded given =
       followed {a = load_query} refl (followed {a = load_select ∷ []} (followed {a = load_select} load_parsed refl)
       (followed {a = with_steps []} refl (followed {a = load_select ∷ []} refl
       (followed {a = load_tables} (sym tables_found) (followed {a = load_bound ∷ []} (sym query_found) refl)))))
 
-  pub is_accepted : (given : Files) → IsVerdict (built (load number rows)) given (Ok (found_of load_found (load_shape rows ∷ [])))
+  pub is_accepted : (given : Files) → IsVerdict (a_command (load number rows)) given (Ok (found_of load_found (load_shape rows ∷ [])))
   is_accepted given =
       let shaped = load_is_shaped rows_1 rows_2 rows_3 rows_4 rows (made_count modulus rows number) (made_count modulus rows (draw number (2 * rows)))
       (made_count modulus rows (draw number (4 * rows))) (made_count modulus rows (draw number (6 * rows))) few in
@@ -130,16 +130,16 @@ accepted number rows in_range some few given = (found_of (load_found number rows
 accepted_only : {found : Found} {refusal : Reason} → ◌≡◌ {A = Result Found Reason} (Ok found) (Err refusal) → ⊥
 accepted_only e = cc
 
-is_command : {command : Command} → ◌≡◌ {A = Asked} (built command) no_command → ⊥
+is_command : {command : Command} → ◌≡◌ {A = Asked} (a_command command) no_command → ⊥
 is_command e = cc
 
-module _ (number rows : ℕ) (found : Found) (v : IsVerdict (built (load number rows)) [] (Ok found)) where
-  ends_by : (e : Reason) → IsReason (built (load number rows)) (Some []) e → (status_of e ≡ 0) ⊎ ((status_of e ≡ 11) ⊎ (status_of e ≡ 12))
+module _ (number rows : ℕ) (found : Found) (v : IsVerdict (a_command (load number rows)) [] (Ok found)) where
+  ends_by : (e : Reason) → IsReason (a_command (load number rows)) (Some []) e → (status_of e ≡ 0) ⊎ ((status_of e ≡ 11) ⊎ (status_of e ≡ 12))
   ends_by reason.Usage h = absurd (is_command h)
   ends_by (reason.ReadFault name) h = absurd h
   ends_by reason.WriteFault h = inr (inl refl)
   ends_by reason.NoMemory h = inr (inr refl)
-  ends_by e h = absurd (accepted_only (one_verdict (built (load number rows)) [] (Ok found) (Err e) v h))
+  ends_by e h = absurd (accepted_only (one_verdict (a_command (load number rows)) [] (Ok found) (Err e) v h))
 
 same_end : (a b : ℕ) → a ≡ b → (a ≡ 0) ⊎ ((a ≡ 11) ⊎ (a ≡ 12)) → (b ≡ 0) ⊎ ((b ≡ 11) ⊎ (b ≡ 12))
 same_end a b e (inl h) = inl (sym e ∙ h)

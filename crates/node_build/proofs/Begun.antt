@@ -1,4 +1,4 @@
--- A raw tree without rows, and no numbered pairs.
+-- A raw tree without rows, and no numbered lists.
 use Rattle.std.proofs.Common.{◌≡◌, ℕ, zero, suc, List, [], length, get_or, replicate, refl, sym, ap, subst, ◌∙◌, inl, inr, arith}
 use Rattle.std.specs.List.{sum_by}
 use Rattle.std.proofs.lemmas.Bool.{cases_lt}
@@ -12,7 +12,6 @@ use Rattle.anyk_model.specs.Table.{Table}
 use Rattle.bound_query.specs.WeighedQuery.{BoundQuery}
 use Rattle.node_build.specs.PartialTrees.{AreFilled}
 use Rattle.node_build.specs.Shapes.{AreShapesOf}
-use Rattle.link_index.specs.Pairs.{AreNumbers}
 
 none_at : (A : Type 0) (n q : ℕ) → (let none : List A = [] in get_or (replicate n none) q none ≡ none)
 none_at A n q = let none : List A = [] in elim (cases_lt q n) [
@@ -24,21 +23,13 @@ sum_none : (A : Type 0) (n : ℕ) → (let none : List A = [] in sum_by length (
 sum_none A zero = refl
 sum_none A (suc n) = let none : List A = [] in omega (arith, sum_none A n, sum_by-cons length none (replicate n none))
 
-pub no_numbers : (names : List (List (ℕ × ℕ))) (n : ℕ) → names ≡ replicate n [] → AreNumbers names
-no_numbers names n is q m k values a b =
-    let none : List (ℕ × ℕ) = [] in
-    let empty : get_or names q none ≡ none = ap (λ (xs : List (List (ℕ × ℕ))). get_or xs q none) is ∙ none_at (ℕ × ℕ) n q in
-    let size : length (get_or names q none) ≡ 0 = ap length empty in
-    let w = a.within in
-    absurd (omega (arith, w, size))
+pub lists_count : (lists : List (List (List ℕ))) (n : ℕ) → lists ≡ replicate n [] → length lists ≡ n
+lists_count lists n is = let none : List (List ℕ) = [] in ap length is ∙ length-replicate n none
 
-pub names_count : (names : List (List (ℕ × ℕ))) (n : ℕ) → names ≡ replicate n [] → length names ≡ n
-names_count names n is = let none : List (ℕ × ℕ) = [] in ap length is ∙ length-replicate n none
-
-pub no_rows_yet : {R : Type 0} (bound : BoundQuery) (tables : List Table) (join : JoinTree) (own above : List (List ℕ)) (d : ℕ) (key : R → KeyOf d 16) (names : List (List (ℕ × ℕ)))
+pub no_rows_yet : {R : Type 0} (bound : BoundQuery) (tables : List Table) (join : JoinTree) (own above : List (List ℕ)) (d : ℕ) (key : R → KeyOf d 16) (lists : List (List (List ℕ)))
     (rows : List (List ℕ)) (shapes : List NodeShape) (tree : RawView R) → length shapes ≡ join.count → tree ≡ record { shapes = shapes; rows = replicate (length shapes) [] }
-    → AreFilled bound tables join own above d key names 0 rows tree
-no_rows_yet {R = R} bound tables join own above d key names rows shapes tree count is =
+    → AreFilled bound tables join own above d key lists 0 rows tree
+no_rows_yet {R = R} bound tables join own above d key lists rows shapes tree count is =
     let none : List (RawRowView R) = [] in
     let list : tree.rows ≡ replicate (length shapes) none = ap (λ (t : RawView R). t.rows) is in
     let total : row_total tree ≡ 0 = ap (sum_by length) list ∙ sum_none (RawRowView R) (length shapes) in

@@ -1,12 +1,11 @@
 -- A row of a node fits the node's shape.
-use Rattle.std.proofs.Common.{◌≡◌, ◌<◌, ◌≤◌, ◌+◌, ◌^◌, ℕ, zero, suc, ℤ, pos, unsigned_abs, nat_lt, false, List, [], ◌∷◌, length, get_or, sym, ap, subst, ◌∙◌, inl, inr, arith}
-use Rattle.std.specs.List.{All}
+use Rattle.std.proofs.Common.{◌≡◌, ◌<◌, ◌≤◌, ◌+◌, ℕ, ℤ, pos, unsigned_abs, nat_lt, false, List, [], length, get_or, sym, ap, subst, ◌∙◌, inl, inr, arith}
 use Rattle.std.proofs.lemmas.Bool.{cases_lt, cond-true, lt-ltb}
 use Rattle.std.proofs.lemmas.List.{get_or-map, get_or_past, length-map}
-use Rattle.std.proofs.lemmas.List.Elements.{All-from_get_or}
 use Rattle.tdp_model.specs.KeyTuple.{KeyOf}
 use Rattle.tdp_model.specs.TreeProblem.{sum_from}
-use Rattle.rank_key.specs.Keys.{row_key}
+use Rattle.rank_key.specs.Keys.{IsHeld, IsWithin, row_key}
+use Rattle.rank_key.proofs.RowKeys.{row_held}
 use Rattle.tdp_core.specs.declared.parts.NodeShape.{NodeShape}
 use Rattle.tdp_core.specs.RawView.{shape_cap, shape_children, shape_item, shape_parent}
 use Rattle.tdp_core.specs.TreeView.{kids_below}
@@ -32,10 +31,6 @@ one_of_all f n item known =
     let fewer = fewer_nodes n (λ v. item) 1 f (record { within = λ v a b. known; differ = λ u v a b c. absurd (omega (arith, b, c)) }) in
     let one = one_term f item in
     omega (arith, fewer, one)
-
-pub one_below : (limit : ℕ) (z : ℤ) → unsigned_abs z < limit → All (λ y. unsigned_abs y < limit) (z ∷ [])
-one_below limit z small zero d l = small
-one_below limit z small (suc k) d l = absurd (omega arith)
 
 module _ (bound : BoundQuery) (tables : List Table) where
   cap_there : (item key : ℕ) → key < length bound.query.order → cap_at bound tables item key ≡ cap_of tables bound.query.items item (key_at bound.query.order key)
@@ -65,27 +60,20 @@ module _ (bound : BoundQuery) (tables : List Table) where
         let all = below i in
         omega (arith, small, one, all)
 
-    -- the part of a row is below what the caps of all items are below
-    pub part_below : (key : ℕ) → key < length bound.query.order → unsigned_abs (part_of tables bound.query.items item row (key_at bound.query.order key)) < limit
-    part_below key there =
-        let cap = cap_there item key there in
-        let small : unsigned_abs (part_of tables bound.query.items item row (key_at bound.query.order key)) ≤ cap_of tables bound.query.items item (key_at bound.query.order key) =
-        part_capped tables bound.query.items row item (key_at bound.query.order key) in
-        at_below key (unsigned_abs (part_of tables bound.query.items item row (key_at bound.query.order key))) (omega (arith, cap, small))
-
-    -- so are all parts of a row
-    pub parts_below : All (λ z. unsigned_abs z < limit) (row_parts bound tables item row)
-    parts_below = All-from_get_or (λ z. unsigned_abs z < limit) (row_parts bound tables item row) (pos 0)
-        (λ i l. at_below i (unsigned_abs (get_or (row_parts bound tables item row) i (pos 0))) (part_small item row i))
+    -- ranks that hold each key within these bounds hold that of a row
+    pub node_row_held : {R : Type 0} (d : ℕ) (key : R → KeyOf d 16) (items rows : ℕ) → ((k : KeyOf d 16) → IsWithin d items limit rows k → IsHeld d key k)
+        → item < 16 → item < items → row < rows → IsHeld d key (row_key d (row_parts bound tables item row) item row)
+    node_row_held d key items rows holds = row_held key holds (row_parts bound tables item row) item row
+        (λ i. at_below i (unsigned_abs (get_or (row_parts bound tables item row) i (pos 0))) (part_small item row i))
 
   module _ (join : JoinTree) (shapes : List NodeShape) (of_join : AreShapesOf bound tables join join.count shapes) (v : ℕ) (l : v < join.count) where
-    pub row_fits : (d row : ℕ) (k : KeyOf d 16) → item_of join v < 16 → row < 2 ^ 21 → k ≡ row_key d (row_parts bound tables (item_of join v) row) (item_of join v) row
+    pub row_fits : (d row : ℕ) (k : KeyOf d 16) → item_of join v < 16 → k ≡ row_key d (row_parts bound tables (item_of join v) row) (item_of join v) row
         → RowFits d (shape_item shapes v) (shape_cap shapes v) row k
-    row_fits d row k few low is =
+    row_fits d row k few is =
         let item = of_join.items v l in
         subst (RowFits d (shape_item shapes v) (shape_cap shapes v) row) (sym is)
         (subst (λ (i : ℕ). RowFits d i (shape_cap shapes v) row (row_key d (row_parts bound tables (item_of join v) row) (item_of join v) row)) (sym item)
-        (row_key_fits d (row_parts bound tables (item_of join v) row) (item_of join v) row (shape_cap shapes v) few low
+        (row_key_fits d (row_parts bound tables (item_of join v) row) (item_of join v) row (shape_cap shapes v) few
         (λ i h. let cap = of_join.caps v i l in let small = part_small (item_of join v) row i in omega (arith, cap, small))))
 
     pub children_are : kids_below (parent_of join) v join.count ≡ shape_children shapes v

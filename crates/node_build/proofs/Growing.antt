@@ -7,13 +7,15 @@ use Rattle.std.proofs.lemmas.List.{get_or-set_other, get_or-set_same, get_or_app
 use Rattle.std.proofs.lemmas.List.Sums.{sum_by-cons, sum_by_more}
 use Rattle.std.proofs.lemmas.Option.{get_or_from_slice_get, slice_get_read, slice_get_within}
 use Rattle.tdp_model.specs.KeyTuple.{KeyOf}
+use Rattle.tdp_core.specs.TreeView.{kids_below}
 use Rattle.tdp_core.specs.RawView.{RawView, RawRowView, row_total, rows_at, with_row}
 use Rattle.join_tree.specs.declared.tree.JoinTree.{JoinTree}
 use Rattle.anyk_model.specs.Table.{Table}
 use Rattle.bound_query.specs.WeighedQuery.{BoundQuery}
 use Rattle.node_build.specs.PartialTrees.{AreFilled, HasOnlyMore}
-use Rattle.link_index.specs.Pairs.{AreMore}
-use Rattle.node_build.specs.Links.{HasRowsOf, IsRowOf}
+use Rattle.link_index.specs.NumberedLists.{AreMore}
+use Rattle.node_build.specs.Links.{HasRowsOf, IsRowOf, values_at}
+use Rattle.node_build.specs.Nodes.{parent_of}
 use Rattle.node_build.proofs.Numbering.{link_kept}
 
 sum_set : {X : Type 0} (xss : List (List X)) (v : ℕ) (x : X) → v < length xss → sum_by length (set xss v (get_or xss v [] ++ x ∷ [])) ≡ sum_by length xss + 1
@@ -53,27 +55,28 @@ last_or_before xs x y r e = elim (cases_lt r (length xs)) [
 ]
 
 module _ (bound : BoundQuery) (tables : List Table) (join : JoinTree) (own above : List (List ℕ)) {R : Type 0} (d : ℕ) (key : R → KeyOf d 16) where
-  -- a row keeps its links when more pairs are numbered
-  row_kept : (old new : List (List (ℕ × ℕ))) (v row : ℕ) (x : RawRowView R) → AreMore old new → IsRowOf bound tables join own above d key old v row x
+  -- a row keeps its links when more lists are numbered
+  row_kept : (old new : List (List (List ℕ))) (v row : ℕ) (x : RawRowView R) → AreMore old new → IsRowOf bound tables join own above d key old v row x
       → IsRowOf bound tables join own above d key new v row x
   row_kept old new v row x more h = record {
     number = h.number;
     rank = h.rank;
-    link = link_kept old new v x.own _ more h.link;
-    children = λ q some l is. link_kept old new q _ _ more (h.children q some l is);
+    link = link_kept old new v x.own (values_at bound tables join own above v row (get_or own v [])) more h.link;
+    children = λ q some l is. link_kept old new q (get_or x.children (kids_below (parent_of join) v q) 0) (values_at bound tables join own above v row (get_or above q [])) more
+        (h.children q some l is);
   }
 
-  pub rows_kept : (old new : List (List (ℕ × ℕ))) (v n : ℕ) (rows : List ℕ) (xs : List (RawRowView R)) → AreMore old new
+  pub rows_kept : (old new : List (List (List ℕ))) (v n : ℕ) (rows : List ℕ) (xs : List (RawRowView R)) → AreMore old new
       → HasRowsOf bound tables join own above d key old v n rows xs → HasRowsOf bound tables join own above d key new v n rows xs
   rows_kept old new v n rows xs more h = record { count = h.count; each = λ r x is. row_kept old new v (get_or rows r 0) x more (h.each r x is) }
 
-  pub no_rows : (names : List (List (ℕ × ℕ))) (v : ℕ) (rows : List ℕ) (xs : List (RawRowView R)) → xs ≡ [] → HasRowsOf bound tables join own above d key names v 0 rows xs
-  no_rows names v rows xs none =
+  pub no_rows : (lists : List (List (List ℕ))) (v : ℕ) (rows : List ℕ) (xs : List (RawRowView R)) → xs ≡ [] → HasRowsOf bound tables join own above d key lists v 0 rows xs
+  no_rows lists v rows xs none =
       let n : length xs ≡ 0 = ap length none in
       record { count = n; each = λ r x is. absurd (let l = slice_get_within xs r x is in omega (arith, l, n)) }
 
   -- one more row of a node
-  pub rows_more : (old new : List (List (ℕ × ℕ))) (v n row : ℕ) (rows : List ℕ) (xs now : List (RawRowView R)) (x : RawRowView R) → AreMore old new → row ≡ get_or rows n 0
+  pub rows_more : (old new : List (List (List ℕ))) (v n row : ℕ) (rows : List ℕ) (xs now : List (RawRowView R)) (x : RawRowView R) → AreMore old new → row ≡ get_or rows n 0
       → now ≡ xs ++ x ∷ [] → HasRowsOf bound tables join own above d key old v n rows xs → IsRowOf bound tables join own above d key new v row x
       → HasRowsOf bound tables join own above d key new v (n + 1) rows now
   rows_more old new v n row rows xs now x more at is so_far here =
@@ -91,7 +94,7 @@ module _ (bound : BoundQuery) (tables : List Table) (join : JoinTree) (own above
       }
 
   -- the rows of one more node
-  pub filled_more : (old new : List (List (ℕ × ℕ))) (n : ℕ) (rows : List (List ℕ)) (t now : RawView R) → AreMore old new → n < length rows
+  pub filled_more : (old new : List (List (List ℕ))) (n : ℕ) (rows : List (List ℕ)) (t now : RawView R) → AreMore old new → n < length rows
       → AreFilled bound tables join own above d key old n rows t → HasOnlyMore n (length (get_or rows n [])) t now
       → HasRowsOf bound tables join own above d key new n (length (get_or rows n [])) (get_or rows n []) (rows_at now n)
       → AreFilled bound tables join own above d key new (n + 1) rows now

@@ -2,11 +2,12 @@
 use Rattle.std.proofs.Common.{◌≡◌, ◌<◌, ◌≤◌, ◌+◌, ◌-◌, ◌^◌, ◌==◌, ℕ, Bool, true, false, cond, nat_eq, List, length, refl, ap, ◌∙◌, inl, inr, arith}
 use Rattle.std.specs.List.{range_with_len}
 use Rattle.std.proofs.lemmas.Bool.{cases_lt, cond-false, ne_eqb}
-use Rattle.tdp_model.specs.KeyTuple.{KeyOf}
+use Rattle.tdp_model.specs.KeyTuple.{KeyOf, slot_of}
 use Rattle.tdp_model.specs.TreeProblem.{sum_from}
 use Rattle.rank_key.specs.Keys.{IsHeld, IsWithin}
 use Rattle.tdp_core.specs.declared.parts.NodeShape.{NodeShape}
 use Rattle.tdp_core.specs.RawView.{AreShapesHeld, shape_cap, shape_item}
+use Rattle.tdp_core.specs.WellFormed.{WithinCaps}
 use Rattle.join_tree.specs.declared.tree.JoinTree.{JoinTree}
 use Rattle.anyk_model.specs.Table.{Table}
 use Rattle.anyk_model.specs.Query.{Query}
@@ -58,12 +59,12 @@ module _ (query : Query) (join : JoinTree) (tree : IsJoinTreeOf query join) (mos
 
 module _ (bound : BoundQuery) (tables : List Table) (join : JoinTree) (tree : IsJoinTreeOf bound.query join)
     (shapes : List NodeShape) (of_join : AreShapesOf bound tables join join.count shapes) where
-  -- ranks that hold each key within these bounds hold what rows of the nodes can add up to
-  pub shapes_held : {R : Type 0} (d : ℕ) (key : R → KeyOf d 16) (items limit rows : ℕ)
-      → ((k : KeyOf d 16) → IsWithin d items limit rows k → IsHeld d key k) → 2 ^ 21 ≤ rows
-      → length bound.query.items ≤ items → CapsBelow limit bound tables → AreShapesHeld d key shapes
-  shapes_held d key items limit rows holds wide slots below k within =
-      let most : ℕ = 2 ^ 21 - 1 in
+  keys_held : {R : Type 0} (d : ℕ) (key : R → KeyOf d 16) (items limit rows : ℕ)
+      → ((k : KeyOf d 16) → IsWithin d items limit rows k → IsHeld d key k) → 0 < rows
+      → length bound.query.items ≤ items → CapsBelow limit bound tables
+      → (k : KeyOf d 16) → WithinCaps d (length shapes) (shape_item shapes) (shape_cap shapes) (rows - 1) k → IsHeld d key k
+  keys_held d key items limit rows holds wide slots below k within =
+      let most : ℕ = rows - 1 in
       let nodes : (f : ℕ → ℕ) → sum_from ◌+◌ 0 f (length shapes) 0 ≡ sum_from ◌+◌ 0 f join.count 0 =
       λ f. ap (λ (m : ℕ). sum_from ◌+◌ 0 f m 0) of_join.count in
       let slot_in : (i : ℕ) → sum_from ◌+◌ 0 (λ v. slot_most most i (shape_item shapes v)) (length shapes) 0 ≡ slot_total bound.query join tree most i =
@@ -92,3 +93,15 @@ module _ (bound : BoundQuery) (tables : List Table) (join : JoinTree) (tree : Is
             let none = slot_none bound.query join tree most i (omega (arith, past, slots)) in
             omega (arith, here, same, none);
       })
+
+  -- ranks that hold each key within these bounds hold what rows of the nodes can add up to
+  pub shapes_held : {R : Type 0} (d : ℕ) (key : R → KeyOf d 16) (items limit rows : ℕ)
+      → ((k : KeyOf d 16) → IsWithin d items limit rows k → IsHeld d key k)
+      → ((r : R) (i : ℕ) → i < 16 → slot_of d 16 i (key r) < rows) → rows ≤ 2 ^ 32 → 0 < rows
+      → length bound.query.items ≤ items → CapsBelow limit bound tables → AreShapesHeld d key shapes
+  shapes_held d key items limit rows holds low narrow some slots below = record {
+    most = rows - 1;
+    most_fits = omega (arith, narrow, some);
+    slots = λ r i l. omega (arith, low r i l);
+    keys = keys_held d key items limit rows holds some slots below;
+  }

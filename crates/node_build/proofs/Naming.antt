@@ -9,7 +9,7 @@ use Rattle.anyk_model.specs.Table.{Table, table_at}
 use Rattle.bound_query.specs.Items.{item_at}
 use Rattle.bound_query.specs.WeighedQuery.{BoundQuery, Fits}
 use Rattle.node_build.specs.Columns.{HaveColumns}
-use Rattle.link_index.specs.Pairs.{AreMore}
+use Rattle.link_index.specs.NumberedLists.{AreMore}
 use Rattle.node_build.specs.Links.{IsLink, NamesLinks, values_at}
 use Rattle.node_build.specs.Nodes.{item_of, parent_of}
 use Rattle.node_build.specs.Rows.{lists_of}
@@ -69,19 +69,19 @@ links_cost parent v q n start before now some inside below cost step =
 -- ---- names
 
 module _ (bound : BoundQuery) (tables : List Table) (join : JoinTree) (own above : List (List ℕ)) where
-  abbrev Names : List (List (ℕ × ℕ)) → ℕ → ℕ → ℕ → List ℕ → Type 0
+  abbrev Names : List (List (List ℕ)) → ℕ → ℕ → ℕ → List ℕ → Type 0
   Names = NamesLinks bound tables join own above
 
-  pub names_none : (names : List (List (ℕ × ℕ))) (v row : ℕ) (children : List ℕ) → Names names v row 1 children
-  names_none names v row children q some l is = absurd (omega (arith, some, l))
+  pub names_none : (lists : List (List (List ℕ))) (v row : ℕ) (children : List ℕ) → Names lists v row 1 children
+  names_none lists v row children q some l is = absurd (omega (arith, some, l))
 
-  pub names_skip : (names : List (List (ℕ × ℕ))) (v row n : ℕ) (children : List ℕ) → parent_of join n ≢ v → Names names v row n children → Names names v row (n + 1) children
-  names_skip names v row n children other so_far q some l is = elim (cases_eq q n) [
+  pub names_skip : (lists : List (List (List ℕ))) (v row n : ℕ) (children : List ℕ) → parent_of join n ≢ v → Names lists v row n children → Names lists v row (n + 1) children
+  names_skip lists v row n children other so_far q some l is = elim (cases_eq q n) [
     | inl same ↦ absurd (other (ap (parent_of join) (sym same) ∙ is))
     | inr differ ↦ so_far q some (omega (arith, l, differ)) is
   ]
 
-  pub names_more : (old new : List (List (ℕ × ℕ))) (v row n : ℕ) (children now : List ℕ) (link : ℕ) → AreMore old new → 0 < n → parent_of join n ≡ v
+  pub names_more : (old new : List (List (List ℕ))) (v row n : ℕ) (children now : List ℕ) (link : ℕ) → AreMore old new → 0 < n → parent_of join n ≡ v
       → length children ≡ kids_below (parent_of join) v n → now ≡ children ++ link ∷ [] → Names old v row n children
       → IsLink new n link (values_at bound tables join own above v row (get_or above n [])) → Names new v row (n + 1) now
   names_more old new v row n children now link more past below count is so_far here q some l up = elim (cases_eq q n) [
@@ -102,7 +102,7 @@ module _ (bound : BoundQuery) (tables : List Table) (join : JoinTree) (own above
         let kept : get_or now (kids_below (parent_of join) v q) 0 ≡ get_or children (kids_below (parent_of join) v q) 0 =
         ap (λ (xs : List ℕ). get_or xs (kids_below (parent_of join) v q) 0) is ∙ get_or_append_left children (link ∷ []) 0 (kids_below (parent_of join) v q) inside in
         subst (λ (k : ℕ). IsLink new q k (values_at bound tables join own above v row (get_or above q []))) (sym kept)
-        (link_kept old new q _ _ more (so_far q some before up))
+        (link_kept old new q (get_or children (kids_below (parent_of join) v q) 0) (values_at bound tables join own above v row (get_or above q [])) more (so_far q some before up))
   ]
 
 -- ---- the columns of a node

@@ -15,14 +15,6 @@ pub record ArePassingBelow (query : Query) (tables : List Table) (item n : ℕ) 
   pub members : (row : ℕ) → IsMember row rows ↔ ((1 ≤ row) × (row < n) × Passes query tables item row)
 
 module _ (query : Query) (tables : List Table) (item : ℕ) where
-  pub none_below : (rows : List ℕ) → rows ≡ [] → ArePassingBelow query tables item 1 rows
-  none_below rows none =
-      let P : List ℕ → Type 0 = λ xs. ArePassingBelow query tables item 1 xs in
-      subst P (sym none) (record {
-        ascending = tt;
-        members = λ row. (λ m. absurd m, λ h. absurd (omega (arith, h.0, h.1)));
-      })
-
   pub one_more : (n : ℕ) (rows : List ℕ) → 1 ≤ n → ArePassingBelow query tables item n rows → Passes query tables item n
       → ArePassingBelow query tables item (n + 1) (rows ++ n ∷ [])
   one_more n rows first so_far passes = record {

@@ -41,7 +41,7 @@ module _ {R : Type 0} (bound : BoundQuery) (tables : List Table) (fits : Fits bo
   record IsRead (v r : ℕ) : Type 0 where
     row : RawRowView R
     at : slice_get (rows_at tree v) r ≡ Some row
-    of_row : IsRowOf bound tables join filled.own filled.above d key filled.names v (get_or (get_or rows v []) r 0) row
+    of_row : IsRowOf bound tables join filled.own filled.above d key filled.lists v (get_or (get_or rows v []) r 0) row
     member : r < length (get_or rows v [])
     number : raw_number tree v r ≡ get_or (get_or rows v []) r 0
 
@@ -100,9 +100,9 @@ module _ {R : Type 0} (bound : BoundQuery) (tables : List Table) (fits : Fits bo
       ∙ kids_ap (shape_parent tree.shapes) (parent_of join) p q (λ u before. shapes.parents u (omega (arith, before, l))) in
       let child : child_link tree p r (shape_child_place tree.shapes q) ≡ get_or y.row.children (kids_below (parent_of join) p q) 0 =
       ap (λ (cs : List ℕ). get_or cs (shape_child_place tree.shapes q) 0) children ∙ ap (λ (n : ℕ). get_or y.row.children n 0) place in
-      let names = link_iff filled.names q x.row.own (get_or y.row.children (kids_below (parent_of join) p q) 0)
+      let names = link_iff filled.lists q x.row.own (get_or y.row.children (kids_below (parent_of join) p q) 0)
       (values q (get_or (get_or rows q []) i 0) (get_or filled.own q [])) (values p (get_or (get_or rows p []) r 0) (get_or filled.above q []))
-      filled.numbers (as_many q (get_or (get_or rows q []) i 0) (get_or filled.own q []) ∙ (filled.columns.each q some l).same ∙ sym (as_many p (get_or (get_or rows p []) r 0) (get_or filled.above q [])))
+      (as_many q (get_or (get_or rows q []) i 0) (get_or filled.own q []) ∙ (filled.columns.each q some l).same ∙ sym (as_many p (get_or (get_or rows p []) r 0) (get_or filled.above q [])))
       x.of_row.link (y.of_row.children q some l refl) in
       let agree = agree_iff bound tables fits sound (item_of join q) (item_of join p) (get_or filled.own q []) (get_or filled.above q []) (filled.columns.each q some l)
       (raw_number tree q i) (raw_number tree p r) (row_in q i l h) in
@@ -121,9 +121,9 @@ module _ {R : Type 0} (bound : BoundQuery) (tables : List Table) (fits : Fits bo
       let y = read q j l k in
       let own : own_link tree q i ≡ x.row.own = field_read (λ (z : RawRowView R). z.own) (rows_at tree q) i x.row 0 x.at in
       let other : own_link tree q j ≡ y.row.own = field_read (λ (z : RawRowView R). z.own) (rows_at tree q) j y.row 0 y.at in
-      let names = link_iff filled.names q x.row.own y.row.own
+      let names = link_iff filled.lists q x.row.own y.row.own
       (values q (get_or (get_or rows q []) i 0) (get_or filled.own q [])) (values q (get_or (get_or rows q []) j 0) (get_or filled.own q []))
-      filled.numbers (as_many q (get_or (get_or rows q []) i 0) (get_or filled.own q []) ∙ sym (as_many q (get_or (get_or rows q []) j 0) (get_or filled.own q [])))
+      (as_many q (get_or (get_or rows q []) i 0) (get_or filled.own q []) ∙ sym (as_many q (get_or (get_or rows q []) j 0) (get_or filled.own q [])))
       x.of_row.link y.of_row.link in
       let alike = alike_iff bound tables fits sound (item_of join q) (item_of join p) (get_or filled.own q []) (get_or filled.above q []) (filled.columns.each q some l)
       (raw_number tree q i) (raw_number tree q j) (row_in q i l h) in

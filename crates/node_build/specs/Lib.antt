@@ -4,3 +4,4 @@ pub mod Nodes
 pub mod PartialTrees
 pub mod Rows
 pub mod Shapes
+pub mod Sources

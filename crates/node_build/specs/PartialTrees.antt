@@ -7,7 +7,6 @@ use Rattle.join_tree.specs.declared.tree.JoinTree.{JoinTree}
 use Rattle.anyk_model.specs.Table.{Table}
 use Rattle.bound_query.specs.WeighedQuery.{BoundQuery}
 use Rattle.node_build.specs.Columns.{HaveColumns}
-use Rattle.link_index.specs.Pairs.{AreNumbers}
 use Rattle.node_build.specs.Links.{HasRowsOf}
 
 -- node v has n rows more, and the other nodes have the same rows as before
@@ -20,10 +19,10 @@ pub record HasOnlyMore {R : Type 0} (v n : ℕ) (old new : RawView R) : Type 0 w
 -- the first n nodes have their rows, and the others have none
 pub record AreFilled {R : Type 0} (bound : BoundQuery) (tables : List Table) (join : JoinTree)
     (own above : List (List ℕ)) (d : ℕ) (key : R → KeyOf d 16)
-    (names : List (List (ℕ × ℕ))) (n : ℕ) (rows : List (List ℕ)) (tree : RawView R) : Type 0 where
+    (lists : List (List (List ℕ))) (n : ℕ) (rows : List (List ℕ)) (tree : RawView R) : Type 0 where
   pub each_node : length tree.rows ≡ join.count
   pub filled : (v : ℕ) → v < n
-      → HasRowsOf bound tables join own above d key names v (length (slice_index_or rows v []))
+      → HasRowsOf bound tables join own above d key lists v (length (slice_index_or rows v []))
       (slice_index_or rows v []) (rows_at tree v)
   pub empty : (v : ℕ) → n ≤ v → rows_at tree v ≡ []
   pub total : row_total tree ≡ sum_by length (take n rows)
@@ -34,7 +33,6 @@ pub record IsFilledTree {R : Type 0} (bound : BoundQuery) (tables : List Table) 
     (rows : List (List ℕ)) (tree : RawView R) : Type 0 where
   pub own : List (List ℕ)
   pub above : List (List ℕ)
-  pub names : List (List (ℕ × ℕ))
+  pub lists : List (List (List ℕ))
   pub columns : HaveColumns bound join join.count own above
-  pub numbers : AreNumbers names
-  pub filled : AreFilled bound tables join own above d key names join.count rows tree
+  pub filled : AreFilled bound tables join own above d key lists join.count rows tree

@@ -2,19 +2,19 @@
 ghost use Rattle.std.specs.Prelude.{◌≡◌, ◌<◌, ◌≤◌, ◌+◌, ◌*◌, length, IfOk, OnOk};
 ghost use Rattle.tdp_model.specs.NodeRows.{most_node_rows};
 ghost use Rattle.std.specs.List.{sum_by};
-ghost use Rattle.link_index.specs.Pairs.{AreNumbers};
-ghost use Rattle.node_build.specs.Columns.{HaveColumns};
 ghost use Rattle.node_build.specs.PartialTrees.{AreFilled, IsFilledTree};
 ghost use Rattle.node_build.specs.Nodes.{AreReady};
 ghost use Rattle.node_build.specs.Rows.{HaveRows, lists_of};
 ghost use Rattle.node_build.specs.Shapes.{AreShapesOf};
+ghost use Rattle.node_build.specs.Sources.{HasColumns, HasShapes, IsReady, above_columns, node_count, own_columns};
 
-use crate::columns::{Columns, columns_of};
+use crate::columns::columns_of;
 use crate::node::add_rows;
 use crate::shapes::shapes_of;
+use crate::source::{NodeLinks, NodeSource};
 use bound_query::Query;
 use join_tree::JoinTree;
-use link_index::PairIndex;
+use link_index::ListIndex;
 use rank_key::Rank;
 use std::alloc::Global;
 use std::sync::ledger::Ledger;
@@ -45,10 +45,16 @@ pub(crate) fn filled_tree<R: Rank, L: Ledger>(
     let keys = tables.keys();
     let mut tree = RawTree::with_keys(alloc, shapes.as_slice(), keys)?;
     let columns = columns_of(alloc, query, join)?;
-    let mut links = PairIndex::new(alloc, join.count, keys)?;
-    let added = add_nodes(
-        alloc, query, tables, join, &columns, rows, &mut links, &mut tree, steps,
-    );
+    let lists = ListIndex::new(alloc, join.count, keys)?;
+    let named = Vec::new(alloc);
+    let mut links = NodeLinks { lists, named };
+    let source = NodeSource {
+        query,
+        tables,
+        join,
+        columns: &columns,
+    };
+    let added = add_nodes(alloc, &source, rows, &mut links, &mut tree, steps);
     added.and(Ok(tree))
 }
 
@@ -56,38 +62,32 @@ pub(crate) fn filled_tree<R: Rank, L: Ledger>(
 /// leaves nothing to drop.
 fn add_nodes<R: Rank, L: Ledger>(
     alloc: Global,
-    query: &Query,
-    tables: &Tables,
-    join: &JoinTree,
-    columns: &Columns,
+    source: &NodeSource<'_>,
     rows: &[Vec<u32>],
-    links: &mut PairIndex,
+    links: &mut NodeLinks,
     tree: &mut RawTree<R>,
     steps: &mut Steps<L>,
 ) -> Result<(), NoMemory>
-    requires ready { AreReady R.KEYS R.ITEMS R.LIMIT query.now tables.now join.now }
-    requires columns { HaveColumns query.now join.now join.now.count
-        (lists_of columns.now.own.items) (lists_of columns.now.above.items) }
-    requires rows { HaveRows query.now.query tables.now join.now join.now.count
-        (lists_of rows.now) }
+    requires ready { IsReady source.now R.KEYS R.ITEMS R.LIMIT }
+    requires columns { HasColumns source.now }
+    requires rows { HaveRows source.now.query.now.query source.now.tables.now source.now.join.now
+        (node_count source.now) (lists_of rows.now) }
     requires room { sum_by length (lists_of rows.now) ≤ most_node_rows }
-    requires links { length links.old ≡ join.now.count }
-    requires numbers { AreNumbers links.old }
-    requires shapes { AreShapesOf query.now tables.now join.now join.now.count tree.old.shapes }
-    requires none { AreFilled query.now tables.now join.now (lists_of columns.now.own.items)
-        (lists_of columns.now.above.items)
-        R.KEYS R.key links.old 0 (lists_of rows.now) tree.old }
-    ensures shapes { OnOk result
-        (AreShapesOf query.now tables.now join.now join.now.count tree.new.shapes) }
+    requires links { length links.old.lists ≡ node_count source.now }
+    requires shapes { HasShapes source.now tree.old.shapes }
+    requires none { AreFilled source.now.query.now source.now.tables.now source.now.join.now
+        (own_columns source.now) (above_columns source.now) R.KEYS R.key links.old.lists 0
+        (lists_of rows.now) tree.old }
+    ensures shapes { OnOk result (HasShapes source.now tree.new.shapes) }
     ensures filled { OnOk result
-        (IsFilledTree query.now tables.now join.now R.KEYS R.key (lists_of rows.now) tree.new) }
-    ensures cost { steps.new ≤ steps.old + sum_by length (lists_of rows.now) * join.now.count }
+        (IsFilledTree source.now.query.now source.now.tables.now source.now.join.now R.KEYS R.key
+        (lists_of rows.now) tree.new) }
+    ensures cost { steps.new
+        ≤ steps.old + sum_by length (lists_of rows.now) * node_count source.now }
 {
-    for node in 0..join.count {
+    for node in 0..source.join.count {
         let list = rows[node as usize].as_slice();
-        add_rows(
-            alloc, query, tables, join, columns, node, list, links, tree, steps,
-        )?;
+        add_rows(alloc, source, node, list, links, tree, steps)?;
     }
     Ok(())
 }

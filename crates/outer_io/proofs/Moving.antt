@@ -1,9 +1,11 @@
 -- Bytes that were moved in two calls, one after the other.
-use Rattle.std.proofs.Common.{min, length-drop, ◌≡◌, ℕ, ◌+◌, ◌≤◌, ◌<◌, List, [], ◌++◌, Option, None, Some, IfSome, sym, ap, ◌∙◌, subst, take, drop, length, arith, length-take-le, length-append, drop_at, Result, Ok, Err, IfOk}
+use Rattle.std.proofs.Common.{min, length-drop, ◌≡◌, ℕ, ◌+◌, ◌≤◌, ◌<◌, List, [], ◌++◌, Option, None, Some, IfSome, OnErr, refl, sym, ap, ◌∙◌, subst, take, drop, length, arith, length-take-le, length-append, drop_at, Result, Ok, Err, IfOk}
+use Rattle.std.specs.Option.{IsSome}
 use Rattle.std.specs.Io.{ReadsAtMost}
-use Rattle.std.specs.Io.KnownBytes.{Appends, Consumes, IsAtEnd, Keeps}
+use Rattle.std.specs.Io.KnownBytes.{Appends, Consumes, IsAtEnd, Keeps, ReadConsumes}
 use Rattle.std.proofs.KnownBytes.{Appends-trans, Consumes-trans, Consumes-all}
 use Rattle.std.proofs.lemmas.List.{drop_all, take-append-drop}
+use Rattle.outer_io.specs.Files.{Files, HasFile}
 use lib.Seq.{take-add, take-append-le, take_at}
 
 -- the first n bytes were written, and then the first k of the others
@@ -54,3 +56,45 @@ moved_front rest now left buf moved n same count is after =
       same ∙ sym (take-append-drop n rest) ∙ (λ j. sym (ap (take n) is ∙ take_at (take n rest) (drop n buf) n front) j ++ sym after j),
       λ none some. after ∙ drop_all n rest (omega (arith, count, size, none, some)),
     )
+
+-- # Bytes that are known stay known
+
+-- after a read
+pub Consumes-told : (a b : Option (List ℕ)) (bytes : List ℕ) → Consumes a b bytes → IfSome a (λ _. IsSome b)
+Consumes-told None b bytes p = tt
+Consumes-told (Some xs) None bytes p = absurd p
+Consumes-told (Some xs) (Some ys) bytes p = refl
+
+-- after a call that moved none
+pub Keeps-told : (a b : Option (List ℕ)) → Keeps a b → IfSome a (λ _. IsSome b)
+Keeps-told None b p = tt
+Keeps-told (Some xs) None p = absurd p
+Keeps-told (Some xs) (Some ys) p = refl
+
+-- without a call
+pub same-told : (a : Option (List ℕ)) → IfSome a (λ _. IsSome a)
+same-told None = tt
+same-told (Some xs) = refl
+
+-- after a call of `read`
+pub ReadConsumes-told : {E : Type 0} (a b : Option (List ℕ)) (r : Result ℕ E) (bytes : List ℕ) → ReadConsumes a b r bytes → IfSome a (λ _. IsSome b)
+ReadConsumes-told a b (Ok n) bytes p = Consumes-told a b (take n bytes) p.0
+ReadConsumes-told a b (Err e) bytes p = Keeps-told a b p
+
+-- after two calls
+pub told-trans : {X : Type 0} (a : Option X) (b c : Option (List ℕ)) → IfSome a (λ _. IsSome b) → IfSome b (λ _. IsSome c) → IfSome a (λ _. IsSome c)
+told-trans None b c p q = tt
+told-trans (Some x) None c p q = cc
+told-trans (Some x) (Some ys) c p q = q
+
+-- after a file was opened
+pub opened-told : (files : Option Files) (name : List ℕ) (rest : Option (List ℕ)) → HasFile files name rest → IfSome files (λ _. IsSome rest)
+opened-told None name rest has = tt
+opened-told (Some all) name rest has = has.1
+
+-- after none was opened
+pub closed-told : {T E : Type 0} (r : Result T E) (e : E) (files : Option Files) (rest : Option (List ℕ)) → r ≡ Err e → OnErr r (IfSome files (λ _. rest ≡ Some []))
+    → IfSome files (λ _. IsSome rest)
+closed-told (Ok x) e files rest is closed = absurd cc
+closed-told (Err x) e None rest is closed = tt
+closed-told (Err x) e (Some all) rest is closed = rw closed refl

@@ -1,6 +1,6 @@
 //! Reading a whole file from a shelf.
 
-ghost use Rattle.std.specs.Prelude.{◌≡◌, ◌≤◌, ◌<◌, ◌+◌, ◌⊎◌, Some, length, take, drop, vec_len, IfOk, IfSome, IsErrOf, OnErr, OnOk};
+ghost use Rattle.std.specs.Prelude.{◌≡◌, ◌≤◌, ◌<◌, ◌+◌, ◌⊎◌, Some, length, take, drop, vec_len, IfOk, IfSome, IsErrOf, IsSome, OnErr, OnOk};
 ghost use Rattle.std.specs.Io.{ReadsAtMost};
 ghost use Rattle.std.specs.Io.KnownBytes.{Consumes, IsAtEnd};
 ghost use Rattle.outer_io.specs.declared.reading.FileFault.TheVariants.{Failed, NoMemory};
@@ -50,9 +50,11 @@ impl From<ReadFailed> for FileFault {
 
 /// The bytes of a file, read to its end. `Missing` if the shelf has no file of the name, `Failed`
 /// if the shelf failed, `TooLarge` if the file is longer than `MAX_FILE_BYTES`, and `NoMemory` if
-/// memory is refused. The shelf's files stay as they were.
+/// memory is refused. The shelf's files stay as they were, and if they are known, so is what is left
+/// of the open one.
 pub fn read_file<F: Shelf>(alloc: Global, shelf: &mut F, name: &str) -> Result<Vec<u8>, FileFault>
     ensures files { F.files shelf.new ≡ F.files shelf.old }
+    ensures told { IfSome (F.files shelf.old) (λ _. IsSome (F.rest shelf.new)) }
     ensures bytes { IfOk result (λ bytes. HasFile (F.files shelf.old) name.now (Some bytes.items)) }
     ensures short { IfOk result (λ bytes. vec_len bytes ≤ MAX_FILE_BYTES) }
     ensures lacks { IsErrOf result FileFault.Missing → LacksFile (F.files shelf.old) name.now }
@@ -81,6 +83,7 @@ pub fn read_file<F: Shelf>(alloc: Global, shelf: &mut F, name: &str) -> Result<V
 /// What is left of the open file.
 fn read_to_end<F: Shelf>(alloc: Global, shelf: &mut F) -> Result<Vec<u8>, FileFault>
     ensures files { F.files shelf.new ≡ F.files shelf.old }
+    ensures told { IfSome (F.rest shelf.old) (λ _. IsSome (F.rest shelf.new)) }
     ensures bytes { IfOk result (λ bytes. IfSome (F.rest shelf.old) (λ all. bytes.items ≡ all)) }
     ensures short { IfOk result (λ bytes. vec_len bytes ≤ MAX_FILE_BYTES) }
     ensures held { IsErrOf result FileFault.Missing → ⊥ }
@@ -118,6 +121,7 @@ fn read_more<F: Shelf>(
 ) -> Result<usize, FileFault>
     requires { filled ≤ vec_len bytes.old }
     ensures files { F.files shelf.new ≡ F.files shelf.old }
+    ensures told { IfSome (F.rest shelf.old) (λ _. IsSome (F.rest shelf.new)) }
     ensures front { take filled bytes.new.items ≡ take filled bytes.old.items }
     ensures fits { IfOk result (λ n. filled + n ≤ vec_len bytes.new) }
     ensures read { IfOk result
@@ -155,6 +159,7 @@ fn make_room(bytes: &mut Vec<u8>, filled: usize) -> Result<(), AllocError>
 fn read_at<F: Shelf>(shelf: &mut F, bytes: &mut [u8], at: usize) -> Result<usize, ReadFailed>
     requires { at < length bytes.old }
     ensures files { F.files shelf.new ≡ F.files shelf.old }
+    ensures told { IfSome (F.rest shelf.old) (λ _. IsSome (F.rest shelf.new)) }
     ensures front { take at bytes.new ≡ take at bytes.old }
     ensures fits { IfOk result (λ n. at + n ≤ length bytes.new) }
     ensures read { IfOk result
@@ -173,6 +178,7 @@ fn read_at<F: Shelf>(shelf: &mut F, bytes: &mut [u8], at: usize) -> Result<usize
 /// One read, with separate clauses for the bytes and for the end.
 fn read_front<F: Shelf>(shelf: &mut F, bytes: &mut [u8]) -> Result<usize, ReadFailed>
     ensures files { F.files shelf.new ≡ F.files shelf.old }
+    ensures told { IfSome (F.rest shelf.old) (λ _. IsSome (F.rest shelf.new)) }
     ensures bound { ReadsAtMost result bytes.new }
     ensures read { IfOk result
         (λ n. Consumes (F.rest shelf.old) (F.rest shelf.new) (take n bytes.new)) }

@@ -1,3 +1,4 @@
 pub mod Session
 pub mod SessionCalls
+pub mod SessionPieces
 pub mod Summary

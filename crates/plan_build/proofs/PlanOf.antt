@@ -1,6 +1,5 @@
 -- The solved tree has the query's witnesses as its solutions.
 use Rattle.std.proofs.Common.{◌≡◌, ℕ, ◌<◌, ◌≤◌, List, map, length, slice_index, slice_index_or, sym, ap, ◌∙◌, subst, arith}
-use Rattle.std.proofs.lemmas.List.{length-map}
 use Rattle.tdp_model.specs.KeyTuple.{KeyOf, key_add, key_below, key_none}
 use Rattle.tdp_model.specs.TreeProblem.{sum_from}
 use Rattle.tdp_model.proofs.KeyTuples.{tuple_keys}
@@ -26,9 +25,6 @@ module _ {R : Type 0} (d : ℕ) (key : R → KeyOf d 16) (query : Query) (tables
     pub solution : (found : List ℕ) → IsWitness query tables found → (s : ℕ → ℕ) × IsRawSolution raw s × (raw_solution_key raw d key s ≡ witness_key d query tables found)
 
   module _ (raw : RawView R) (parts tree : List (NodeView R)) (reduced : IsReduced d key raw parts) (solved : IsSolved parts tree) where
-    pub same_length : length parts ≡ length raw.shapes
-    same_length = sym (length-map parts (λ n. n.shape)) ∙ ap length reduced.shapes
-
     -- a solution has one key, before and after
     same_key_lem : (rows : ℕ → ℕ) → solution_key tree d key rows ≡ solution_key parts d key rows
     same_key_lem rows =

@@ -1,7 +1,7 @@
 -- The tree that the tests build: three nodes, each below the one before.
 use Rattle.std.proofs.Common.{◌≡◌, ℕ, zero, suc, ◌+◌, ◌^◌, ◌<◌, ◌≤◌, cond, nat_lt, List, [], ◌∷◌, get_or, refl, sym, ◌∙◌, arith}
 use Rattle.std.proofs.lemmas.Bool.Decides.{nat_tests}
-use Rattle.tdp_model.specs.KeyTuple.{KeyOf}
+use Rattle.tdp_model.specs.KeyTuple.{KeyOf, slot_of}
 use Rattle.tdp_model.specs.TreeProblem.{sum_from}
 use Rattle.rank_key.specs.Keys.{IsHeld, IsWithin}
 use Rattle.tdp_core.specs.declared.parts.NodeShape.{NodeShape}
@@ -60,8 +60,8 @@ chain_shaped = record {
 module _ {R : Type 0} {d items limit rows : ℕ} (key : R → KeyOf d 16)
     (holds : (k : KeyOf d 16) → IsWithin d items limit rows k → IsHeld d key k)
     (roomy : 2 ^ 21 ≤ rows) (few : 16 ≤ items) (wide : 2 ^ 127 ≤ limit) where
-  pub chain_held : AreShapesHeld d key chain_shapes
-  chain_held = three_nodes_held key holds roomy few wide _ _ refl refl refl cap_few cap_few cap_few
+  pub chain_held : ((r : R) (i : ℕ) → i < 16 → slot_of d 16 i (key r) < rows) → rows ≤ 2 ^ 32 → AreShapesHeld d key chain_shapes
+  chain_held low narrow = three_nodes_held key holds roomy few wide low narrow _ _ refl refl refl cap_few cap_few cap_few
     where
       cap_few : (i : ℕ) → cond {A = ℕ} (nat_lt i 8) (get_or no_caps i 0) 0 ≤ 100
       cap_few i = omega (arith, capped i (get_or no_caps i 0) (no_cap i))

@@ -4,7 +4,7 @@ use Rattle.std.proofs.Math.ListN.{set}
 use Rattle.std.proofs.lemmas.Bool.{cases_eq}
 use Rattle.std.proofs.lemmas.Bool.Decides.{nat_tests}
 use Rattle.std.proofs.lemmas.List.{map-append, get_or_append_left, get_or_push, get_or-set_same, get_or-set_other, length-map, length-set}
-use Rattle.tdp_model.specs.KeyTuple.{KeyOf}
+use Rattle.tdp_model.specs.KeyTuple.{KeyOf, slot_of}
 use Rattle.tdp_model.specs.TreeProblem.{sum_from}
 use Rattle.rank_key.specs.Keys.{IsHeld, IsWithin}
 use Rattle.tdp_core.specs.RawView.{RawView, RawRowView, AreShapes, AreShapesHeld, raw_len, rows_at, with_row, shape_item, shape_parent, shape_cap, shape_children}
@@ -57,8 +57,8 @@ sample_shaped = record {
 module _ {R : Type 0} {d items limit rows : ℕ} (key : R → KeyOf d 16)
     (holds : (k : KeyOf d 16) → IsWithin d items limit rows k → IsHeld d key k)
     (roomy : 2 ^ 21 ≤ rows) (few : 16 ≤ items) (wide : 2 ^ 127 ≤ limit) where
-  pub sample_held : AreShapesHeld d key sample_shapes
-  sample_held = three_nodes_held key holds roomy few wide _ _ refl refl refl
+  pub sample_held : ((r : R) (i : ℕ) → i < 16 → slot_of d 16 i (key r) < rows) → rows ≤ 2 ^ 32 → AreShapesHeld d key sample_shapes
+  sample_held low narrow = three_nodes_held key holds roomy few wide low narrow _ _ refl refl refl
       (λ i. capped i (get_or hundreds i 0) (hundred i)) (λ i. capped i (get_or hundreds i 0) (hundred i)) (λ i. capped i (get_or hundreds i 0) (hundred i))
 
 pub children_are : (v : ℕ) → v < 3 → shape_children sample_shapes v ≡ sample_children v

@@ -5,7 +5,7 @@ ghost use Rattle.bound_query.specs.WeighedQuery.{Fits};
 ghost use Rattle.tdp_core.specs.WellFormed.{IsTieFreeTree};
 
 use bound_query::Query;
-use csv_tables::{TableFault, TableReader};
+use csv_tables::TableFault;
 use plan_build::{Plan, prepare, prepare_at};
 use query_bind::bind;
 use query_parse::parse;
@@ -27,15 +27,15 @@ pub(crate) const TWO: Files = (
 );
 
 /// Reads the tables of two small files.
-pub(crate) fn read_two(reader: &mut TableReader, files: Files) -> Result<(), TableFault>
-    requires { reader.old ≡ [] }
-    ensures { OnOk result (length reader.new ≡ 2) }
+pub(crate) fn read_two(tables: &mut csv_tables::Tables, files: Files) -> Result<(), TableFault>
+    requires { tables.old ≡ [] }
+    ensures { OnOk result (length tables.new ≡ 2) }
 {
     if files.0.len() > 1000 || files.1.len() > 1000 {
         return Err(TableFault::NoMemory);
     }
-    reader.read(files.0.as_bytes())?;
-    reader.read(files.1.as_bytes())?;
+    tables.read(files.0.as_bytes())?;
+    tables.read(files.1.as_bytes())?;
     Ok(())
 }
 
@@ -120,9 +120,9 @@ pub(crate) fn plan_of<R: Rank, L: Ledger>(
     requires known { AllByRecursion (λ t. t < 2) which.now }
     ensures tie_free { IfSome result (λ plan. IsTieFreeTree plan.tree) }
 {
-    let mut reader = TableReader::new(alloc);
-    read_two(&mut reader, files).ok()?;
-    plan_over(alloc, reader.tables(), text, which, steps)
+    let mut tables = csv_tables::Tables::new(alloc);
+    read_two(&mut tables, files).ok()?;
+    plan_over(alloc, &tables, text, which, steps)
 }
 
 /// The plan of the query of this text over the tables, with this item at the root.
@@ -165,9 +165,9 @@ pub(crate) fn plan_at<R: Rank, L: Ledger>(
     requires known { AllByRecursion (λ t. t < 2) which.now }
     ensures tie_free { IfSome result (λ plan. IsTieFreeTree plan.tree) }
 {
-    let mut reader = TableReader::new(alloc);
-    read_two(&mut reader, files).ok()?;
-    plan_over_at(alloc, reader.tables(), text, which, item, steps)
+    let mut tables = csv_tables::Tables::new(alloc);
+    read_two(&mut tables, files).ok()?;
+    plan_over_at(alloc, &tables, text, which, item, steps)
 }
 
 /// Whether there is an answer, and its first items have these rows.

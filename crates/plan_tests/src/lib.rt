@@ -1,8 +1,8 @@
 //! Tests of what is made of a query over tables before its answers are printed: nodes, reduction,
 //! least keys, the plan and its report, the answers of both engines, the best answer of each row of
-//! the root, a cursor driven over each, and the engine by recursion in an arena that refuses
-//! memory. They are worked examples over the public calls of those crates. They have a crate of
-//! their own, so that none of those is proved twice for its tests.
+//! the root, a cursor driven over each, and each engine in an arena that refuses memory. They are
+//! worked examples over the public calls of those crates. They have a crate of their own, so that
+//! none of those is proved twice for its tests.
 #![tactic(auto)]
 
 #[cfg(test)]

@@ -6,7 +6,6 @@ ghost use Rattle.node_build.specs.Nodes.{IsJoinTreeOf};
 
 use crate::fixtures::{TWO, query_of, read_two};
 use bound_query::{Query, tree_shape};
-use csv_tables::TableReader;
 use join_tree::JoinTree;
 use node_build::{BuildFault, Built, build};
 use rank_key::{LexRank, Rank};
@@ -98,11 +97,11 @@ fn built<R: Rank, L: Ledger>(
     requires some_part { 0 < blank.parts }
 {
     let mut steps = Steps::<L>::new(blank);
-    let mut reader = TableReader::new(alloc);
-    if read_two(&mut reader, TWO).is_err() {
+    let mut tables = csv_tables::Tables::new(alloc);
+    if read_two(&mut tables, TWO).is_err() {
         return Ok(None);
     }
-    counts_of_text::<R, L>(alloc, reader.tables(), text, budget, &mut steps)
+    counts_of_text::<R, L>(alloc, &tables, text, budget, &mut steps)
 }
 
 #[test]

@@ -5,7 +5,6 @@ ghost use Rattle.tdp_core.specs.WellFormed.{IsTieFreeTree};
 
 use crate::fixtures::{TWO, plan_of, query_of, read_two};
 use bound_query::Query;
-use csv_tables::TableReader;
 use plan_build::{Plan, PlanFault, prepare, prepare_at};
 use rank_key::{Rank, SumRank};
 use std::alloc::Global;
@@ -117,9 +116,8 @@ fn triangle_is_told<R: Rank, L: Ledger>(alloc: Global, blank: Blank) -> bool
     requires some_part { 0 < blank.parts }
 {
     let mut steps = Steps::<L>::new(blank);
-    let mut reader = TableReader::new(alloc);
-    read_two(&mut reader, TWO).is_ok()
-        && is_triangle_cyclic::<R, L>(alloc, reader.tables(), &mut steps)
+    let mut tables = csv_tables::Tables::new(alloc);
+    read_two(&mut tables, TWO).is_ok() && is_triangle_cyclic::<R, L>(alloc, &tables, &mut steps)
 }
 
 #[test]

@@ -7,7 +7,6 @@ ghost use Rattle.plan_build.specs.RankedPlan.{IsRankedPlan};
 
 use crate::fixtures::{TWO, query_of, read_two};
 use bound_query::Query;
-use csv_tables::TableReader;
 use plan_build::{Plan, RankedPlan, prepare_ranked, report};
 use rank_key::Rank;
 use std::alloc::Global;
@@ -120,11 +119,11 @@ fn reports<L: Ledger>(
     requires some_part { 0 < blank.parts }
 {
     let mut steps = Steps::<L>::new(blank);
-    let mut reader = TableReader::new(alloc);
-    if read_two(&mut reader, TWO).is_err() {
+    let mut tables = csv_tables::Tables::new(alloc);
+    if read_two(&mut tables, TWO).is_err() {
         return false;
     }
-    reports_text(alloc, reader.tables(), text, which, expected, &mut steps)
+    reports_text(alloc, &tables, text, which, expected, &mut steps)
 }
 
 #[test]

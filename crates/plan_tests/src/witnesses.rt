@@ -150,6 +150,20 @@ fn gives_ties_by_row_numbers(rt: HostRuntime) {
     assert!(rt; gives::<SumRank, Brand>(rt.alloc(), TWO, text, &[0, 0], &rows, Blank::new(1)));
 }
 
+/// Two tables with the same five columns.
+const FIVE: Files = (
+    "a,b,c,d,e\n1,2,3,4,5\n1,2,3,4,6\n5,4,3,2,1\n",
+    "a,b,c,d,e\n5,4,3,2,1\n1,2,3,4,5\n1,2,3,5,5\n1,2,3,4,5\n",
+);
+
+#[test]
+fn gives_rows_that_agree_in_five_columns(rt: HostRuntime) {
+    let text = b"select R.a from R, S where R.a = S.a and R.b = S.b and R.c = S.c \
+        and R.d = S.d and R.e = S.e";
+    let rows = [[1, 2, 0, 0], [1, 4, 0, 0], [3, 1, 0, 0]];
+    assert!(rt; gives::<SumRank, Brand>(rt.alloc(), FIVE, text, &[0, 1], &rows, Blank::new(1)));
+}
+
 #[test]
 fn gives_all_pairs_without_equalities(rt: HostRuntime) {
     let text = b"select R.a, S.c from R, S";

@@ -11,7 +11,7 @@ const OF_TWO_TABLES: &[Case<'static>] = &[
         ..RUN
     },
     Case {
-        words: "run --engine rec --best-of S q.sql R=R.csv S=S.csv",
+        words: "run --best-of S q.sql R=R.csv S=S.csv",
         out: "a,c\n2,q\n3,q\n3,p\n",
         ..RUN
     },
@@ -21,7 +21,7 @@ const OF_TWO_TABLES: &[Case<'static>] = &[
         ..RUN
     },
     Case {
-        words: "run --rows --ranks --best-of S --engine=rec q.sql R=R.csv S=S.csv",
+        words: "run --rows --ranks --best-of S q.sql R=R.csv S=S.csv",
         out: "a,c,rank1,row1,row2\n2,q,3,2,2\n3,q,5,3,3\n3,p,6,3,1\n",
         ..RUN
     },

@@ -23,6 +23,9 @@ pub(super) const FOUND: &str = "a,c\n2,q\n3,q\n3,p\n1,q\n1,p\n";
 /// The two tables that share a column.
 const TWO: &[(&str, &str)] = &[("R.csv", LEFT), ("S.csv", RIGHT)];
 
+/// The numbers of all writes of a line: none is written in more pieces.
+pub(super) const EVERY: &[u64] = &[1, 2, 3, 4, 5, 6, 7, 8, 9, 10, 11, 12, 13, 14, 15, 16];
+
 /// A run of the join of the two tables, in which no call fails.
 pub(super) const RUN: Case<'static> = Case {
     words: "run q.sql R=R.csv S=S.csv",
@@ -31,7 +34,7 @@ pub(super) const RUN: Case<'static> = Case {
     unread: 0,
     unwritten: 0,
     stuck: 0,
-    untold: 0,
+    untold: &[],
     most: 1000,
     status: 0,
     out: "",
@@ -51,8 +54,8 @@ pub(super) struct Case<'a> {
     pub(super) unwritten: u64,
     /// The write of the output that takes nothing.
     pub(super) stuck: u64,
-    /// The write of the errors that fails.
-    pub(super) untold: u64,
+    /// The writes of the errors that fail.
+    pub(super) untold: &'a [u64],
     /// The greatest number of bytes that a write of the output takes.
     pub(super) most: usize,
     pub(super) status: u8,
@@ -121,15 +124,15 @@ fn shelf_of(alloc: Global, case: &Case<'_>) -> Result<Option<MemShelf>, AllocErr
     Ok(Some(MemShelf::new(files, unread)))
 }
 
-/// A sink that takes at most `most` bytes in a call, fails at one call and takes nothing at
+/// A sink that takes at most `most` bytes in a call, fails at some calls and takes nothing at
 /// another.
 pub(super) fn sink_of(
     alloc: Global,
     most: usize,
-    fails: u64,
+    fails: &[u64],
     stuck: u64,
 ) -> Result<MemSink, AllocError> {
-    let failing = one(alloc, fails)?;
+    let failing = Vec::from_slice(alloc, fails)?;
     let stuck = one(alloc, stuck)?;
     MemSink::new(alloc, ROOM, most, failing, stuck)
         .ok()
@@ -187,7 +190,7 @@ fn comes_out_from(
     words: &[String],
     shelf: &mut MemShelf,
 ) -> Result<bool, AllocError> {
-    let mut out = sink_of(alloc, case.most, case.unwritten, case.stuck)?;
+    let mut out = sink_of(alloc, case.most, &[case.unwritten], case.stuck)?;
     comes_out_on(alloc, case, words, shelf, &mut out)
 }
 

@@ -1,5 +1,5 @@
 //! Files that cannot be read, output that cannot be written, and files that are cut off.
-use super::cases::{Case, FOUND, LEFT, RIGHT, RUN, first_failing, holds, named, over};
+use super::cases::{Case, EVERY, FOUND, LEFT, RIGHT, RUN, first_failing, holds, named, over};
 use std::alloc::{AllocError, Global};
 
 const ANSWERED: Case<'static> = Case { out: FOUND, ..RUN };
@@ -142,7 +142,7 @@ const WRITES: &[Case<'static>] = &[
     },
     Case {
         query: "select",
-        untold: 1,
+        untold: &[1],
         status: 3,
         ..RUN
     },
@@ -151,6 +151,92 @@ const WRITES: &[Case<'static>] = &[
 #[test]
 fn failing_writes_end_a_run(rt: HostRuntime) {
     assert!(rt; first_failing(rt.alloc(), WRITES) == Ok(None));
+}
+
+/// A call whose line cannot be written at all.
+const UNTOLD: Case<'static> = Case {
+    untold: EVERY,
+    ..RUN
+};
+
+/// One call for each status, none of whose lines can be written.
+const OF_STATUSES: &[Case<'static>] = &[
+    Case {
+        out: FOUND,
+        ..UNTOLD
+    },
+    Case {
+        words: "run",
+        status: 2,
+        ..UNTOLD
+    },
+    Case {
+        query: "select",
+        status: 3,
+        ..UNTOLD
+    },
+    Case {
+        query: "select R.none from R",
+        status: 4,
+        ..UNTOLD
+    },
+    Case {
+        files: &[("R.csv", LEFT), ("S.csv", "")],
+        status: 5,
+        ..UNTOLD
+    },
+    Case {
+        query: "select x.a from R x, R y, R z where x.a = y.a and y.b = z.b and z.w = x.w",
+        status: 6,
+        ..UNTOLD
+    },
+    Case {
+        files: &[
+            (
+                "R.csv",
+                "a,b,w\n1,x,170141183460469231731687303715884105727\n",
+            ),
+            ("S.csv", RIGHT),
+        ],
+        status: 7,
+        ..UNTOLD
+    },
+    Case {
+        query: "select R.a from R order by R.w, R.w, R.w, R.w, R.w, R.w, R.w, R.w, R.w",
+        status: 8,
+        ..UNTOLD
+    },
+    Case {
+        files: &[("R.csv", LEFT)],
+        status: 9,
+        ..UNTOLD
+    },
+    Case {
+        unread: 1,
+        status: 10,
+        ..UNTOLD
+    },
+    Case {
+        unwritten: 1,
+        status: 11,
+        ..UNTOLD
+    },
+    Case {
+        words: "verify --proof p.txt q.sql R=R.csv S=S.csv",
+        files: &[("R.csv", LEFT), ("S.csv", RIGHT), ("p.txt", "more\n")],
+        status: 14,
+        ..UNTOLD
+    },
+    Case {
+        query: "select R.a, R.b from R union all select S.c from S",
+        status: 15,
+        ..UNTOLD
+    },
+];
+
+#[test]
+fn a_line_that_cannot_be_written_changes_no_status(rt: HostRuntime) {
+    assert!(rt; first_failing(rt.alloc(), OF_STATUSES) == Ok(None));
 }
 
 /// What a run does over a table that is cut off after each number of bytes from the first to the

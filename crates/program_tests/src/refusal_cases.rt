@@ -34,9 +34,10 @@ const OF_WORDS_AND_FILES: &[Case<'static>] = &[
         ..RUN
     },
     Case {
-        words: "run q.sql R=R.csv S=T.csv",
+        words: "run q.sql R=R.csv S=S.csv",
+        files: &[("R.csv", LEFT)],
         status: 9,
-        err: "anyk: file T.csv: not found\n",
+        err: "anyk: file S.csv: not found\n",
         ..RUN
     },
 ];

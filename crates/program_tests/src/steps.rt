@@ -58,8 +58,8 @@ fn answers_row<L: Ledger>(alloc: Global, steps: &mut Steps<L>) -> Result<bool, A
 {
     let words = words_of_row(alloc)?;
     let mut shelf = shelf_of_row(alloc)?;
-    let mut out = sink_of(alloc, 1000, 0, 0)?;
-    let mut err = sink_of(alloc, 1000, 0, 0)?;
+    let mut out = sink_of(alloc, 1000, &[], 0)?;
+    let mut err = sink_of(alloc, 1000, &[], 0)?;
     let words = words.as_slice();
     let status = run_words(alloc, words, &mut shelf, &mut out, &mut err, steps);
     let is_quiet = err.bytes().is_empty();
@@ -74,8 +74,8 @@ fn answers_union<L: Ledger>(alloc: Global, steps: &mut Steps<L>) -> Result<bool,
 {
     let words = words_of_row(alloc)?;
     let mut shelf = shelf_of_union(alloc)?;
-    let mut out = sink_of(alloc, 1000, 0, 0)?;
-    let mut err = sink_of(alloc, 1000, 0, 0)?;
+    let mut out = sink_of(alloc, 1000, &[], 0)?;
+    let mut err = sink_of(alloc, 1000, &[], 0)?;
     let words = words.as_slice();
     let status = run_words(alloc, words, &mut shelf, &mut out, &mut err, steps);
     let is_quiet = err.bytes().is_empty();

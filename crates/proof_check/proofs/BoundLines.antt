@@ -47,9 +47,6 @@ module _ (c : Certificate) where
       let no : test v n ≡ false = grind (arith, nat_tests) in
       one_more v n ∙ ap (λ ks. lines_of c v n ++ ks) (at_false (test v n) (n ∷ []) [] no) ∙ append_none (lines_of c v n)
 
-  pub lines_none : (v : ℕ) → lines_of c v 0 ≡ []
-  lines_none v = refl
-
   -- each of them is one of the first n lines, and a bound of the node
   pub lines_are : (v n b : ℕ) → b < length (lines_of c v n)
       → (get_or (lines_of c v n) b 0 < n) × (line_node c (get_or (lines_of c v n) b 0) ≡ suc v)

@@ -190,9 +190,6 @@ module _ {R : Type 0} (query : Query) (tables : List Table) (join : JoinTree) (d
         way.is_base.0 parts
 
   module _ (o : OpenChoice t c) (at : o.at ≡ p) where
-    pub o_node : o.at < t.nodes
-    o_node = o.node
-
     -- the number of the beginning
     pub begins : (n : ℕ) × (n < length starts)
         × ((q : ℕ) → q < p → raw_number tree.raw q (slice_index (list_at starts n) q) ≡ o.rows q)
@@ -259,9 +256,6 @@ module _ {R : Type 0} (query : Query) (tables : List Table) (join : JoinTree) (d
     low_key_lem = (has_low_lem query tables c few bounded).1 o.below o_serve
 
     -- # What is known before
-
-    pub start' : List ℕ
-    start' = list_at starts n
 
     abbrev pub above' : ℕ → ℕ
     above' q = slice_index (list_at starts n) (slice_index join.parent q)

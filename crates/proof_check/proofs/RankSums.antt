@@ -1,5 +1,5 @@
 -- Sums of ranks of rows of a raw tree, one of each node or none.
-use Rattle.std.proofs.Common.{◌≡◌, ◌⊎◌, ℕ, zero, suc, ◌+◌, ◌-◌, ◌^◌, ◌<◌, ◌≤◌, Bool, true, false, cond, nat_eq, List, [], ◌∷◌}
+use Rattle.std.proofs.Common.{◌≡◌, ◌⊎◌, ℕ, zero, suc, ◌+◌, ◌-◌, ◌<◌, ◌≤◌, Bool, true, false, cond, nat_eq, List, [], ◌∷◌}
 use Rattle.std.proofs.Common.{length, map, get_or, unsigned_abs, refl, sym, ap, subst, ◌∙◌, inl, inr, arith}
 use Rattle.std.specs.List.{All}
 use Rattle.std.proofs.lemmas.Bool.{cond-false, cond-true}
@@ -52,30 +52,31 @@ module _ {R : Type 0} (d : ℕ) (key : R → KeyOf d 16) where
   slot_add : (i : ℕ) (a b : KeyOf d 16) → slot_of d 16 i (key_add d 16 a b) ≤ slot_of d 16 i a + slot_of d 16 i b
   slot_add i a b = omega (arith, slot_of_add d 16 i a b)
 
-  -- the greatest number in slot i of a row of an item
-  abbrev slot_cap : ℕ → ℕ → ℕ
-  slot_cap i item = cond (nat_eq i item) (2 ^ 21 - 1) 0
+  -- the greatest number in slot i of a row of an item, if `most` is that of all slots of ranks
+  abbrev slot_cap : ℕ → ℕ → ℕ → ℕ
+  slot_cap most i item = cond (nat_eq i item) most 0
 
-  in_cap : (row s : ℕ) (b : Bool) → row < 2 ^ 21 → s ≡ cond b row 0 → s ≤ cond b (2 ^ 21 - 1) 0
-  in_cap row s true l e = omega (arith, e)
-  in_cap row s false l e = omega (arith, e)
+  in_cap : (most row s : ℕ) (b : Bool) → s ≤ most → s ≡ cond b row 0 → s ≤ cond b most 0
+  in_cap most row s true l e = l
+  in_cap most row s false l e = omega (arith, e)
 
   row_weight : (shapes : List NodeShape) (v s : ℕ) (xs : List (RawRowView R)) (i : ℕ) → i < length xs → s < d
       → All (RawRowFits d key shapes v) xs → weight s (get_or (map (λ x. key x.row.rank) xs) i (key_none d 16)) ≤ shape_cap shapes v s
   row_weight shapes v s [] i l h all = absurd (omega (arith, l))
-  row_weight shapes v s (x ∷ xs) zero l h all = (All-head (RawRowFits d key shapes v) x xs all).0.1 s h
+  row_weight shapes v s (x ∷ xs) zero l h all = (All-head (RawRowFits d key shapes v) x xs all).0.sums s h
   row_weight shapes v s (x ∷ xs) (suc i) l h all =
       row_weight shapes v s xs i (omega (arith, l)) h (All-tail (RawRowFits d key shapes v) x xs all)
 
-  row_slot : (shapes : List NodeShape) (v s : ℕ) (xs : List (RawRowView R)) (i : ℕ) → i < length xs → s < 16
+  row_slot : (shapes : List NodeShape) (most : ℕ) → ((r : R) (i : ℕ) → i < 16 → slot_of d 16 i (key r) ≤ most)
+      → (v s : ℕ) (xs : List (RawRowView R)) (i : ℕ) → i < length xs → s < 16
       → All (RawRowFits d key shapes v) xs
-      → slot_of d 16 s (get_or (map (λ x. key x.row.rank) xs) i (key_none d 16)) ≤ slot_cap s (shape_item shapes v)
-  row_slot shapes v s [] i l h all = absurd (omega (arith, l))
-  row_slot shapes v s (x ∷ xs) zero l h all =
+      → slot_of d 16 s (get_or (map (λ x. key x.row.rank) xs) i (key_none d 16)) ≤ slot_cap most s (shape_item shapes v)
+  row_slot shapes most low v s [] i l h all = absurd (omega (arith, l))
+  row_slot shapes most low v s (x ∷ xs) zero l h all =
       let fits = (All-head (RawRowFits d key shapes v) x xs all).0 in
-      in_cap x.row.row (slot_of d 16 s (key x.row.rank)) (nat_eq s (shape_item shapes v)) fits.0 (fits.2 s h)
-  row_slot shapes v s (x ∷ xs) (suc i) l h all =
-      row_slot shapes v s xs i (omega (arith, l)) h (All-tail (RawRowFits d key shapes v) x xs all)
+      in_cap most x.row.row (slot_of d 16 s (key x.row.rank)) (nat_eq s (shape_item shapes v)) (low x.row.rank s h) (fits.slots s h)
+  row_slot shapes most low v s (x ∷ xs) (suc i) l h all =
+      row_slot shapes most low v s xs i (omega (arith, l)) h (All-tail (RawRowFits d key shapes v) x xs all)
 
   -- what node q gives: nothing, or the rank of a row
   abbrev pub IsRawPart : RawView R → ℕ → KeyOf d 16 → Type 0
@@ -89,10 +90,10 @@ module _ {R : Type 0} (d : ℕ) (key : R → KeyOf d 16) where
         | inr e ↦ omega (arith, ap (weight s) e.2, row_weight raw.shapes q s (rows_at raw q) e.0 e.1 h (formed.rows_fit q l))
       ]
 
-      part_slot : (s q : ℕ) → s < 16 → q < length raw.shapes → slot_of d 16 s (part q) ≤ slot_cap s (shape_item raw.shapes q)
+      part_slot : (s q : ℕ) → s < 16 → q < length raw.shapes → slot_of d 16 s (part q) ≤ slot_cap formed.held.most s (shape_item raw.shapes q)
       part_slot s q h l = elim (parts q l) [
         | inl e ↦ omega (arith, ap (slot_of d 16 s) e, slot_of_none d 16 s)
-        | inr e ↦ omega (arith, ap (slot_of d 16 s) e.2, row_slot raw.shapes q s (rows_at raw q) e.0 e.1 h (formed.rows_fit q l))
+        | inr e ↦ omega (arith, ap (slot_of d 16 s) e.2, row_slot raw.shapes formed.held.most formed.held.slots q s (rows_at raw q) e.0 e.1 h (formed.rows_fit q l))
       ]
 
       no_slot : (b : Bool) → 0 ≡ cond {A = ℕ} b 0 0
@@ -106,11 +107,11 @@ module _ {R : Type 0} (d : ℕ) (key : R → KeyOf d 16) where
           let rest : n + (m - n) ≡ m = omega arith in
           within_fits d key (length raw.shapes) (shape_parent raw.shapes) (shape_item raw.shapes) (shape_cap raw.shapes)
           (λ v r. 0) (λ v r. key_none d 16) formed.shaped formed.held
-          (λ v r l. (
-            omega arith,
-            λ i h. omega (arith, weight_none i),
-            λ i h. slot_of_none d 16 i ∙ no_slot (nat_eq i (shape_item raw.shapes v)),
-          ))
+          (λ v r l. record {
+            sums = λ i h. omega (arith, weight_none i);
+            slots = λ i h. slot_of_none d 16 i ∙ no_slot (nat_eq i (shape_item raw.shapes v));
+          })
+          (λ v r. inl refl)
           (sum_from (key_add d 16) (key_none d 16) part n 0)
           (λ i h. omega (
             arith,
@@ -122,9 +123,9 @@ module _ {R : Type 0} (d : ℕ) (key : R → KeyOf d 16) where
           (λ i h. omega (
             arith,
             ranges.weight_sum (key_add d 16) (key_none d 16) (slot_of d 16 i) (slot_add i) (slot_of_none d 16 i) part
-                (λ v. slot_cap i (shape_item raw.shapes v)) n 0 (λ q a b. part_slot i q h (omega (arith, b))),
-            fewer_terms (λ v. slot_cap i (shape_item raw.shapes v)) n (m - n) 0,
-            ap (λ k. ranges.sum_of (λ v. slot_cap i (shape_item raw.shapes v)) k 0) rest,
+                (λ v. slot_cap formed.held.most i (shape_item raw.shapes v)) n 0 (λ q a b. part_slot i q h (omega (arith, b))),
+            fewer_terms (λ v. slot_cap formed.held.most i (shape_item raw.shapes v)) n (m - n) 0,
+            ap (λ k. ranges.sum_of (λ v. slot_cap formed.held.most i (shape_item raw.shapes v)) k 0) rest,
           ))
 
   -- ---- the rank of a subtree solution

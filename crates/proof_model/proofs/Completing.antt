@@ -74,9 +74,6 @@ module _ {K : Type 0} (t : Problem K) (laws : IsProblem t) (at : ℕ) where
   pub top_is : (u : ℕ) → at < u → u < t.nodes → IsTop u (top_of u)
   top_is u p l = is_top u u (omega arith) p l
 
-  pub top_child : (u : ℕ) → at < u → u < t.nodes → t.parent u ≤ at → top_of u ≡ u
-  top_child u p l h = top_here u u h
-
   pub top_same : (u : ℕ) → at < u → u < t.nodes → at < t.parent u → top_of u ≡ top_of (t.parent u)
   top_same u p l h =
       let d : t.parent u < u = laws.parents_first u (omega arith) l in

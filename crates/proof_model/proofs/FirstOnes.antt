@@ -2,6 +2,7 @@
 use Rattle.std.proofs.Common.{◌≡◌, ◌⊎◌, List, [], ◌∷◌, length, take, refl, sym, subst, inl, inr}
 use Rattle.rankings.specs.Order.{IsOrder, IsMember, IsAscending}
 use Rattle.rankings.proofs.Members.{below_member}
+use Rattle.rankings.proofs.Unique.{ascending_unique}
 
 module _ {K : Type 0} (Below : K → K → Type 0) (o : IsOrder K Below) where
   -- the head of both lists is one
@@ -42,13 +43,4 @@ module _ {K : Type 0} (Below : K → K → Type 0) (o : IsOrder K Below) where
   pub all_ones : (xs ks : List K) → IsAscending Below xs → IsAscending Below ks
       → ((x : K) → IsMember x xs → IsMember x ks)
       → ((k : K) → IsMember k ks → IsMember k xs) → xs ≡ ks
-  all_ones [] [] up rise there back = refl
-  all_ones [] (k ∷ ks) up rise there back = absurd (back k (inl refl))
-  all_ones (x ∷ xs) [] up rise there back = absurd (there x (inl refl))
-  all_ones (x ∷ xs) (k ∷ ks) up rise there back =
-      let e : x ≡ k = heads x k xs ks up rise (there x (inl refl)) (inl (back k (inl refl))) in
-      let rest = all_ones xs ks up.1 rise.1
-      (λ y m. not_head k y ks (subst (λ z. Below z y) e (below_member Below x y xs up.0 m)) (there y (inr m)))
-      (λ y m. not_head x y xs (subst (λ z. Below z y) (sym e) (below_member Below k y ks rise.0 m))
-      (back y (inr m))) in
-      λ i. e i ∷ rest i
+  all_ones xs ks up rise there back = ascending_unique Below o xs ks up rise there back

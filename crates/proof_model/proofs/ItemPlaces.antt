@@ -4,27 +4,15 @@ use Rattle.std.proofs.Common.{refl, sym, ap, ◌∙◌, inl, inr, arith}
 use Rattle.std.proofs.lemmas.Bool.{cases_eq, cases_lt}
 use Rattle.std.proofs.lemmas.Bool.Decides.{nat_tests}
 use Rattle.tdp_model.specs.TreeProblem.{sum_from}
+use Rattle.tdp_model.proofs.Sums.{same_sums}
 
 -- ---- sums of numbers
 
 abbrev pub sum : (ℕ → ℕ) → ℕ → ℕ → ℕ
 sum f n q = sum_from ◌+◌ 0 f n q
 
-pub sum_at_most : (f g : ℕ → ℕ) (n q : ℕ) → ((i : ℕ) → q ≤ i → i < q + n → f i ≤ g i) → sum f n q ≤ sum g n q
-unfolding sum_from
-sum_at_most f g zero q h = omega arith
-sum_at_most f g (suc n) q h =
-    let here = h q (omega arith) (omega arith) in
-    let rest = sum_at_most f g n (suc q) (λ i a b. h i (omega (arith, a)) (omega (arith, b))) in
-    omega (arith, here, rest)
-
 pub sum_equal : (f g : ℕ → ℕ) (n q : ℕ) → ((i : ℕ) → q ≤ i → i < q + n → f i ≡ g i) → sum f n q ≡ sum g n q
-unfolding sum_from
-sum_equal f g zero q h = refl
-sum_equal f g (suc n) q h =
-    let here = h q (omega arith) (omega arith) in
-    let rest = sum_equal f g n (suc q) (λ i a b. h i (omega (arith, a)) (omega (arith, b))) in
-    omega (arith, here, rest)
+sum_equal f g n q h = same_sums ◌+◌ 0 f g n q h
 
 pub sum_two : (f g h : ℕ → ℕ) (n q : ℕ) → ((i : ℕ) → q ≤ i → i < q + n → h i ≡ f i + g i)
     → sum h n q ≡ sum f n q + sum g n q
@@ -51,14 +39,6 @@ sum_ones f (suc n) q e =
     let rest = sum_ones f n (suc q) (λ i a b. e i (omega (arith, a)) (omega (arith, b))) in
     omega (arith, here, rest)
 
-pub sum_term : (f : ℕ → ℕ) (n q u : ℕ) → q ≤ u → u < q + n → f u ≤ sum f n q
-unfolding sum_from
-sum_term f zero q u a b = absurd (omega (arith, a, b))
-sum_term f (suc n) q u a b = elim (cases_eq u q) [
-  | inl e ↦ let same = ap f e in omega (arith, same)
-  | inr other ↦ let rest = sum_term f n (suc q) u (omega (arith, a, other)) (omega (arith, b)) in omega (arith, rest)
-]
-
 -- a sum that is not 0 has a term that is not
 pub sum_some : (f : ℕ → ℕ) (n q : ℕ) → 0 < sum f n q → (u : ℕ) × (q ≤ u) × (u < q + n) × (0 < f u)
 unfolding sum_from
@@ -67,9 +47,7 @@ sum_some f (suc n) q h = elim (cases_lt 0 (f q)) [
   | inl here ↦ (q, omega arith, omega arith, here)
   | inr none ↦
       let r = sum_some f n (suc q) (omega (arith, h, none)) in
-      let a = r.1 in
-      let b = r.2 in
-      (r.0, omega (arith, a), omega (arith, b), r.3)
+      (r.0, omega (arith, r.1), omega (arith, r.2), r.3)
 ]
 
 -- a sum of which one term at most is not 0
@@ -182,16 +160,13 @@ module _ (m : ℕ) (chosen item : ℕ → ℕ) (most : ℕ) (once : (u : ℕ) �
   pub here_some : (x : ℕ) → 0 < here x → (u : ℕ) × (u < m) × (0 < chosen u) × (item u ≡ x)
   here_some x h =
       let r = sum_some (λ u. chosen u * cond (nat_eq (item u) x) 1 0) m 0 h in
-      let b = r.2 in
       elim (cases_eq (item r.0) x) [
         | inl e ↦
             let p = times_one (chosen r.0) _ (if_same (item r.0) x e) in
-            let s = r.3 in
-            (r.0, omega (arith, b), omega (arith, p, s), e)
+            (r.0, omega (arith, r.2), omega (arith, p, r.3), e)
         | inr n ↦
             let p = times_none (chosen r.0) _ (if_other (item r.0) x n) in
-            let s = r.3 in
-            absurd (omega (arith, p, s))
+            absurd (omega (arith, p, r.3))
       ]
 
   -- the place of a chosen item is below the number of them all
@@ -263,5 +238,4 @@ module _ (m : ℕ) (chosen item : ℕ → ℕ) (most : ℕ) (once : (u : ℕ) �
       let next = before_next x in
       let found = each x (omega (arith, l)) in
       let at = here_node x found.0 found.1 found.3 in
-      let one = found.2 in
-      omega (arith, rest, next, at, one)
+      omega (arith, rest, next, at, found.2)

@@ -1,20 +1,14 @@
 -- Rows of two items are equal in all columns of the variables of both if they are in the least ones.
-use Rattle.std.proofs.Common.{◌≡◌, ◌↔◌, ◌<◌, ℕ, suc, List, [], ◌∷◌, length, sym, subst, ◌∙◌, inl, inr, arith}
-use Rattle.rankings.specs.Order.{IsMember}
+use Rattle.std.proofs.Common.{◌≡◌, ◌↔◌, ℕ, List, sym, subst, ◌∙◌}
 use Rattle.anyk_model.specs.Table.{Table}
 use Rattle.anyk_model.specs.Query.{Query, Column, Equality}
 use Rattle.bound_query.specs.Classes.{AreVariables, HasVariable, IsShared, Linked, Passes, row_field, same, variable_at}
-use Rattle.bound_query.proofs.Least.{at_member, has_least, least_column, shared_along}
+use Rattle.bound_query.proofs.Least.{at_member, has_least, least_column, member_at, shared_along}
 use Rattle.bound_query.proofs.Witness.{linked_append, linked_back, texts_stable}
 use Rattle.proof_model.specs.QueryProblem.{RowsEqual, RowsMatch}
 
 abbrev column : ℕ → ℕ → Column
 column i p = record { item = i; place = p }
-
-number_at : (c : Column) (list : List Column) → IsMember c list → (n : ℕ) × (n < length list) × (variable_at list n ≡ c)
-number_at c [] m = absurd m
-number_at c (x ∷ list) (inl e) = (0, omega arith, sym e)
-number_at c (x ∷ list) (inr m) = let p = number_at c list m in let h = p.1 in (suc p.0, omega (arith, h), p.2)
 
 -- a fact of a column of each of two items, that all columns of one class have alike
 module _ (es : List Equality) (variables : List Column) (known : AreVariables es variables) (i j : ℕ) (P : ℕ → ℕ → Type 0)
@@ -35,7 +29,7 @@ module _ (es : List Equality) (variables : List Column) (known : AreVariables es
   to_all : AtLeast → InAll
   to_all h a b s link = stable a b (λ apart.
       least_column es (column i a) (λ c lc least.
-      let m = number_at c variables ((known.members c).1 (shared_along es (column i a) c lc s, least)) in
+      let m = member_at c variables ((known.members c).1 (shared_along es (column i a) c lc s, least)) in
       let to_c : Linked es (variable_at variables m.0) (column i a) = subst (λ (d : Column). Linked es d (column i a)) (sym m.2) (linked_back lc) in
       has_least (λ p. Linked es (column i a) (column i p)) (λ p lp small_p.
       has_least (λ q. Linked es (column j b) (column j q)) (λ q lq small_q.

@@ -35,10 +35,8 @@ module _ {K : Type 0} (t : Problem K) (c : Certificate) (limit : Option ℕ) (va
   no_flaw (weak v) h = h.3 (valid.covered v h.0 h.1 h.2)
   no_flaw (no_answer i) h = h.1 (valid.answers i h.0)
   no_flaw (not_in_order i) h =
-      let some = h.0 in
-      let l = h.1 in
-      let e : i - 1 + 1 ≡ i = omega (arith, some) in
+      let e : i - 1 + 1 ≡ i = omega (arith, h.0) in
       h.2 (subst (λ z. t.Below (answer_key t c (i - 1)) (answer_key t c z)) e
-      (valid.ascending (i - 1) (omega (arith, e, l))))
+      (valid.ascending (i - 1) (omega (arith, e, h.1))))
   no_flaw wrong_count h = h valid.count
   no_flaw missed h = h.1 (valid.passed h.0)

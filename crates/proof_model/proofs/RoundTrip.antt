@@ -202,7 +202,6 @@ add_bound : (n : ℕ) (read : Lines) (text : List ℕ) (more : List (List ℕ)) 
 add_bound n read text more c node rows is form none r =
     let b : BoundLine = record { line = n; node = node; rows = rows } in
     let e : n + 1 + length r.bounds ≡ n + length (b ∷ r.bounds) = omega arith in
-    let later = r.are_lines in
     record {
       bounds = b ∷ r.bounds;
       answers = r.answers;
@@ -210,7 +209,7 @@ add_bound n read text more c node rows is form none r =
       all_answers = r.all_answers;
       are_bounds = (refl, form.0, form.1, r.are_bounds);
       are_answers = subst (λ k. AreAnswersFrom k r.answers) e r.are_answers;
-      are_lines = λ i. is i ∷ later i;
+      are_lines = λ i. is i ∷ r.are_lines i;
       apart = inl none;
     }
 

@@ -1,16 +1,10 @@
 -- Sums of keys in parts, and their order.
-use Rattle.std.proofs.Common.{◌≡◌, ◌≢◌, ℕ, zero, suc, ◌+◌, ◌<◌, ◌≤◌, cond, nat_eq, refl, sym, ap, ◌∙◌, inl, inr, arith}
-use Rattle.std.proofs.lemmas.Bool.Decides.{nat_tests}
+use Rattle.std.proofs.Common.{◌≡◌, ℕ, zero, suc, ◌+◌, ◌<◌, ◌≤◌, cond, nat_eq, refl, sym, ap, ◌∙◌, inl, inr, arith}
 use Rattle.std.proofs.lemmas.Bool.{cases_eq}
 use Rattle.tdp_model.specs.KeyLaws.{IsKeys}
 use Rattle.tdp_model.specs.TreeProblem.{sum_from}
+pub use Rattle.tdp_model.proofs.Picks.{pick_eq, pick_ne}
 use Rattle.tdp_model.proofs.Sums.{none_add}
-
-pub pick_eq : {K : Type 0} (x y : ℕ) (a b : K) → x ≡ y → cond (nat_eq x y) a b ≡ a
-pick_eq x y a b e = grind (arith, nat_tests)
-
-pub pick_ne : {K : Type 0} (x y : ℕ) (a b : K) → x ≢ y → cond (nat_eq x y) a b ≡ b
-pick_ne x y a b e = grind (arith, nat_tests)
 
 module _ {K : Type 0} (Below : K → K → Type 0) (add : K → K → K) (none : K) (keys : IsKeys K Below add none) where
   pub sum_none : (f : ℕ → K) (n q : ℕ) → ((i : ℕ) → q ≤ i → i < q + n → f i ≡ none) → sum_from add none f n q ≡ none

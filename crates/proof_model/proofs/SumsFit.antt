@@ -3,7 +3,7 @@ use Rattle.std.proofs.Common.{◌≡◌, ◌<◌, ◌≤◌, ◌+◌, ◌-◌, �
 use Rattle.std.proofs.Common.{ℤ, pos, unsigned_abs, List, [], ◌∷◌, map, length, get_or, slice_index}
 use Rattle.std.proofs.Common.{replicate, refl, sym, ap, subst, ◌∙◌, inl, inr, arith}
 use Rattle.std.specs.Int.{w128}
-use Rattle.std.specs.List.{AllByRecursion, range_with_len}
+use Rattle.std.specs.List.{range_with_len}
 use Rattle.std.proofs.Math.ListN.{set}
 use Rattle.std.proofs.lemmas.Bool.{cases_eq}
 use Rattle.std.proofs.lemmas.Bool.Decides.{Decides-eqb}
@@ -19,8 +19,6 @@ use Rattle.tdp_model.proofs.Ranges as ranges
 use Rattle.rank_key.specs.Keys.{IsInRange}
 use Rattle.anyk_model.specs.Table.{Table, most_rows, table_at}
 use Rattle.anyk_model.specs.Query.{OrderKey}
-use Rattle.table_store.specs.Tables.{IsSound}
-use Rattle.table_store.proofs.Places.{sound_few_rows}
 use Rattle.bound_query.specs.Parts.{sum_of_all}
 use Rattle.bound_query.specs.WeighedQuery.{BoundQuery, Fits}
 use Rattle.bound_query.specs.Weights.{cap_of, key_at, part_of}
@@ -85,11 +83,6 @@ few_rows_at [] i h = omega arith
 few_rows_at (t ∷ ts) zero h = h.0
 few_rows_at (t ∷ ts) (suc i) h = few_rows_at ts i h.1
 
--- tables without a flaw have few rows
-pub sound_few : (tables : List Table) → AllByRecursion IsSound tables → HaveFewRows tables
-sound_few [] h = tt
-sound_few (t ∷ ts) h = (sound_few_rows t h.0, sound_few ts h.1)
-
 module _ (bound : BoundQuery) (tables : List Table) (atoms parents : List ℕ) (fits : Fits bound tables)
     (few : HaveFewRows tables) (hung : HasTree bound.query atoms parents) where
   abbrev d : ℕ
@@ -105,17 +98,15 @@ module _ (bound : BoundQuery) (tables : List Table) (atoms parents : List ℕ) (
   apart = record {
     within = λ v a b.
         let h = hung.join_tree.within v (omega (arith, b)) in
-        let n = hung.of_query.atoms in
-        omega (arith, h, n);
+        omega (arith, h, hung.of_query.atoms);
     differ = λ u v a b c. hung.join_tree.distinct u v b (omega (arith, c));
   }
 
   row_small : (q row : ℕ) → t.IsRow q row → row < 2 ^ 32
   row_small q row h =
-      let l = h.1 in
       let f = few_rows_at tables
       ((get_or bound.query.items (item q) (record { table = 0; alias = [] })).table) few in
-      omega (arith, l, f)
+      omega (arith, h.1, f)
 
   -- sum i of a row's key is within the cap of the node's item
   abbrev sum_cap : ℕ → ℕ → ℕ

@@ -1,5 +1,5 @@
 -- The rows that are chosen down a subtree, node by node.
-use Rattle.std.proofs.Common.{◌≡◌, ◌≢◌, ◌<◌, ◌≤◌, ◌+◌, ℕ, List, length, get_or, slice_index, slice_index_or, Option}
+use Rattle.std.proofs.Common.{◌≡◌, ◌≢◌, ◌<◌, ◌+◌, ℕ, List, length, get_or, slice_index, slice_index_or, Option}
 use Rattle.std.proofs.Common.{Some, None, option_map, unwrap_or, replicate, refl, sym, ap, subst, ◌∙◌, inl, inr, ◌⊎◌}
 use Rattle.std.proofs.Common.{arith}
 use Rattle.std.proofs.Math.ListN.{set}
@@ -8,10 +8,11 @@ use Rattle.std.proofs.lemmas.List.{get_or-replicate, get_or-set_other, get_or-se
 use Rattle.std.proofs.lemmas.List.{length-replicate}
 use Rattle.tdp_model.specs.Below.{is_below}
 use Rattle.tdp_model.specs.KeyTuple.{KeyOf}
-use Rattle.tdp_model.proofs.Descent.{below_itself, below_less, below_parent}
+use Rattle.tdp_model.proofs.Descent.{below_parent}
 use Rattle.tdp_core.specs.TreeView.{NodeView, group, item, members, number, parent, rows}
 use Rattle.tdp_core.specs.WellFormed.{IsFormed}
 use Rattle.proof_write.specs.Firsts.{IsFirst, IsUnder}
+use Rattle.proof_write.proofs.NodeBounds.{itself, parent_under, under_from}
 
 -- the row that is chosen at a node, or 0
 abbrev pub row_at : List (Option ℕ) → ℕ → ℕ
@@ -47,9 +48,6 @@ zero_at k q = elim (cases_lt q k) [
 
 module _ {R : Type 0} (d : ℕ) (key : R → KeyOf d 16) (tree : List (NodeView R)) (formed : IsFormed d key tree)
     (v g : ℕ) (node : v < length tree) where
-  early : (q : ℕ) → 0 < q → q < length tree → parent tree q < q
-  early = formed.shaped.parents_first
-
   -- a node is in the subtree or not
   pub is_under : (q : ℕ) → q < length tree → IsUnder tree v q ⊎ (is_below (parent tree) v q ≡ 0)
   is_under q l = elim (cases_lt 0 (is_below (parent tree) v q)) [
@@ -57,32 +55,12 @@ module _ {R : Type 0} (d : ℕ) (key : R → KeyOf d 16) (tree : List (NodeView 
     | inr none ↦ inr (omega (arith, none))
   ]
 
-  itself : IsUnder tree v v
-  itself = (node, (let b = below_itself (length tree) (parent tree) early v v refl in omega (arith, b)))
-
-  under_from : (q : ℕ) → IsUnder tree v q → v ≤ q
-  under_from q u = elim (cases_lt q v) [
-    | inl less ↦ let z = below_less (length tree) (parent tree) early v q u.0 less in let s = u.1 in absurd
-        (omega (arith, z, s))
-    | inr more ↦ more
-  ]
-
   -- a node after v is in the subtree if and only if its parent is
-  under_up : (q : ℕ) → v < q → IsUnder tree v q → IsUnder tree v (parent tree q)
-  under_up q after u =
-      let low = early q (omega (arith, after)) u.0 in
-      let l = u.0 in
-      let s = u.1 in
-      let same = below_parent (length tree) (parent tree) early v q (omega (arith, after)) u.0
-      (λ e. omega (arith, e, after)) in
-      (omega (arith, low, l), omega (arith, same, s))
-
   under_down : (q : ℕ) → v < q → q < length tree → IsUnder tree v (parent tree q) → IsUnder tree v q
   under_down q after l u =
-      let s = u.1 in
-      let same = below_parent (length tree) (parent tree) early v q (omega (arith, after)) l
+      let same = below_parent (length tree) (parent tree) formed.shaped.parents_first v q (omega (arith, after)) l
       (λ e. omega (arith, e, after)) in
-      (l, omega (arith, same, s))
+      (l, omega (arith, same, u.1))
 
   abbrev nones : List (Option ℕ)
   nones = replicate 16 None
@@ -94,15 +72,14 @@ module _ {R : Type 0} (d : ℕ) (key : R → KeyOf d 16) (tree : List (NodeView 
   pub chosen_start : (row : ℕ) → row ≡ slice_index (members tree v g) 0 → row < rows tree v
       → HasChosen tree v g (v + 1) (set nones v (Some row)) (set zeros (item tree v) (number tree v row))
   chosen_start row is inside =
-      let few = formed.shaped.few_nodes in
       let room : v < length nones = (let n = length-replicate 16 (let none : Option ℕ = None in none) in omega
-      (arith, n, few, node)) in
+      (arith, n, formed.shaped.few_nodes, node)) in
       let place : item tree v < length zeros =
       (let n = length-replicate 16 (let none : ℕ = 0 in none) in let i = formed.shaped.items v node in omega
       (arith, n, i)) in
       let here : get_or (set nones v (Some row)) v None ≡ Some row = get_or-set_same nones v (Some row) None room in
       let only : (q : ℕ) → q < v + 1 → IsUnder tree v q
-      → q ≡ v = λ q low u. (let from = under_from q u in omega (arith, low, from)) in
+      → q ≡ v = λ q low u. (let from = under_from d key tree formed v node q u in omega (arith, low, from)) in
       record {
         long = length-set nones v (Some row) ∙ length-replicate 16 (let none : Option ℕ = None in none);
         count = length-set zeros (item tree v) (number tree v row) ∙ length-replicate 16 (let none : ℕ = 0 in none);
@@ -112,7 +89,7 @@ module _ {R : Type 0} (d : ℕ) (key : R → KeyOf d 16) (tree : List (NodeView 
           subst (λ z. row < rows tree z) (sym (only q low u)) inside,
         );
         elsewhere = λ q gone. elim (cases_eq q v) [
-          | inl e ↦ absurd (gone (omega (arith, e)) (subst (IsUnder tree v) (sym e) itself))
+          | inl e ↦ absurd (gone (omega (arith, e)) (subst (IsUnder tree v) (sym e) (itself d key tree formed v node)))
           | inr other ↦ get_or-set_other nones v q (Some row) None other ∙ none_at 16 q
         ];
         top = ap (λ o. unwrap_or o 0) here ∙ is;
@@ -123,7 +100,7 @@ module _ {R : Type 0} (d : ℕ) (key : R → KeyOf d 16) (tree : List (NodeView 
             (get_or-set_same zeros (item tree v) (number tree v row) 0 place
             ∙ sym (ap (λ o. number tree v (unwrap_or o 0)) here));
         others = λ i none.
-            get_or-set_other zeros (item tree v) i (number tree v row) 0 (λ e. none v (omega arith) itself (sym e))
+            get_or-set_other zeros (item tree v) i (number tree v row) 0 (λ e. none v (omega arith) (itself d key tree formed v node) (sym e))
             ∙ zero_at 16 i;
       }
 
@@ -144,7 +121,7 @@ module _ {R : Type 0} (d : ℕ) (key : R → KeyOf d 16) (tree : List (NodeView 
 
     module _ (after : v < n) (l : n < length tree) where
       pub up_early : parent tree n < n
-      up_early = early n (omega (arith, after)) l
+      up_early = formed.shaped.parents_first n (omega (arith, after)) l
 
       up_inside : parent tree n < length tree
       up_inside = let low = up_early in omega (arith, low, l)
@@ -153,7 +130,7 @@ module _ {R : Type 0} (d : ℕ) (key : R → KeyOf d 16) (tree : List (NodeView 
       pub chosen_none : get_or chosen (parent tree n) None ≡ None → HasChosen tree v g (n + 1) chosen numbers
       chosen_none none =
           let not_under : IsUnder tree v n → ⊥ = λ u.
-          (let found = so_far.under (parent tree n) up_early (under_up n after u) in
+          (let found = so_far.under (parent tree n) up_early (parent_under d key tree formed v node n after u) in
           let e : None ≡ Some found.0 = sym none ∙ found.1 in absurd (cc)) in
           let low : (q : ℕ) → q < n + 1 → IsUnder tree v q → q < n = λ q h u. elim (cases_eq q n) [
             | inl e ↦ absurd (not_under (subst (IsUnder tree v) e u))
@@ -216,7 +193,7 @@ module _ {R : Type 0} (d : ℕ) (key : R → KeyOf d 16) (tree : List (NodeView 
               (ap (λ o. unwrap_or o 0) here ∙ is ∙ ap (λ r. slice_index (group tree n r) 0) (sym at))
           | inr other ↦
               let low : q < n = omega (arith, h, other) in
-              let higher = early q (omega (arith, a)) u.0 in
+              let higher = formed.shaped.parents_first q (omega (arith, a)) u.0 in
               kept_row q other ∙ so_far.named q a low u
               ∙ ap (λ r. slice_index (group tree q r) 0)
               (sym (kept_row (parent tree q) (λ x. omega (arith, x, higher, low))))

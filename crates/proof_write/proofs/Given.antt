@@ -56,9 +56,8 @@ module _ (all : List (List ℕ)) (i : ℕ) (rest : List (List ℕ)) (old new : L
 
     pub met_limit : false ≡ not (reaches limit all)
     met_limit =
-        let c = h.count in
         let s = ap length h.split in
         let m = length-append h.given rest in
-        let long : i ≤ length all = omega (arith, c, s, m) in
+        let long : i ≤ length all = omega (arith, h.count, s, m) in
         let within : nat_le i (length all) ≡ true = grind (arith, nat_tests, long) in
         sym (ap (λ o. not (reaches o all)) met ∙ ap not within)

@@ -91,10 +91,9 @@ module _ (m : ℕ) (chosen item : ℕ → ℕ) (most : ℕ) (once : (u : ℕ) �
         let found = here_some m chosen item most once within apart x h in
         let one = here_node m chosen item most once within apart x found.0 found.1 found.3 in
         let few = once found.0 found.1 in
-        let more = found.2 in
         let big : 0 < get_or numbers x 0 = subst (λ i. 0 < get_or numbers i 0) found.3 (own found.0 found.1 found.2) in
         let s = some_is (get_or numbers x 0) big in
-        omega (arith, one, few, more, s)
+        omega (arith, one, few, found.2, s)
     | inr h ↦
         let none = others x (λ u l c e. let one = here_node m chosen item most once within apart x u l e in omega
         (arith, h, one, c)) in

@@ -10,7 +10,7 @@ use Rattle.std.proofs.lemmas.List.{get_or-map, get_or_append_left, get_or-append
 use Rattle.std.proofs.lemmas.List.Concat.{flat_map-cons}
 use Rattle.std.proofs.lemmas.List.Elements.{All-get_or, All-from_get_or}
 use Rattle.std.proofs.lemmas.List.Sorted.{All-permutation, Contains-permutation, IsPermutation-map}
-use Rattle.std.proofs.lemmas.List.Sorted.{length_permutation, ranks_by, sorted_far}
+use Rattle.std.proofs.lemmas.List.Sorted.{ranks_by, sorted_far}
 use Rattle.std.proofs.lemmas.List.{get_or_default}
 use Rattle.tdp_model.specs.Below.{is_below}
 use Rattle.tdp_model.specs.KeyTuple.{KeyOf}
@@ -101,11 +101,9 @@ module _ {R : Type 0} (d : ℕ) (key : R → KeyOf d 16) (tree : List (NodeView 
     pub parent_under : (q : ℕ) → v < q → IsUnder tree v q → IsUnder tree v (parent tree q)
     parent_under q after u =
         let low = early q (omega (arith, after)) u.0 in
-        let l = u.0 in
-        let s = u.1 in
         let same = below_parent (length tree) (parent tree) early v q (omega (arith, after)) u.0
         (λ e. omega (arith, e, after)) in
-        (omega (arith, low, l), omega (arith, same, s))
+        (omega (arith, low, u.0), omega (arith, same, u.1))
 
     pub itself : IsUnder tree v v
     itself = (node, (let b = below_itself (length tree) (parent tree) early v v refl in omega (arith, b)))
@@ -169,9 +167,6 @@ module _ {R : Type 0} (d : ℕ) (key : R → KeyOf d 16) (tree : List (NodeView 
     -- ---- the first solutions of the node
 
     module _ (told : AreTold tree) (firsts : List (List ℕ)) (are : AreFirsts tree v firsts) where
-      pub firsts_count : length firsts ≡ group_count tree v
-      firsts_count = length_permutation are.by_group firsts are.same ∙ are.count
-
       abbrev OfSome : List ℕ → Type 0
       OfSome numbers = (g : ℕ) × (g < group_count tree v) × IsFirst tree v g numbers
 
@@ -320,8 +315,7 @@ module _ {R : Type 0} (d : ℕ) (key : R → KeyOf d 16) (tree : List (NodeView 
         each_bound i l = elim (find i l) [
           | inl old ↦
               let f = so_far.firsts i old in
-              let low = f.2 in
-              (f.0, f.1, omega (arith, low), f.3, subst (IsBound tree f.0 f.1) (sym (old_at i old)) f.4)
+              (f.0, f.1, omega (arith, f.2), f.3, subst (IsBound tree f.0 f.1) (sym (old_at i old)) f.4)
           | inr new ↦
               let k : ℕ = new.0 in
               let f = each_first k new.1 in

@@ -134,8 +134,7 @@ module _ {R : Type 0} (d : ℕ) (key : R → KeyOf d 16) (bound : BoundQuery) (t
           | inr none ↦
               let root : v ≡ 0 = omega (arith, none) in
               let one : group_count tree v ≤ 1 = subst (λ z. group_count tree z ≤ 1) (sym root) formed.one_root in
-              let lo = own.1 in
-              let same : own.0 ≡ g = omega (arith, one, lg, lo) in
+              let same : own.0 ≡ g = omega (arith, one, lg, own.1) in
               subst (λ h. Contains (members tree v h) j) same own.2
           | inl some ↦ elim grouped [
             | inl root ↦ absurd (omega (arith, root, some))
@@ -217,8 +216,7 @@ module _ {R : Type 0} (d : ℕ) (key : R → KeyOf d 16) (bound : BoundQuery) (t
       place_there q under =
           let n = number_size bound tables tree reduced q in
           let at = at_place q (under_from d key tree formed v sub.node q under) under in
-          let low = at.0 in
-          omega (arith, n, low)
+          omega (arith, n, at.0)
 
       pub place_number : (q : ℕ) → IsUnder tree v q → number tree q (place_of (s q) (numbers bound tables tree q)) ≡ s q
       place_number q under = (at_place q (under_from d key tree formed v sub.node q under) under).1

@@ -45,10 +45,6 @@ pub answer_rows : (n : ℕ) (list : List (List ℕ)) → map (λ (a : AnswerLine
 answer_rows n [] = refl
 answer_rows n (rows ∷ list) = ap (λ l. rows ∷ l) (answer_rows (n + 1) list)
 
-answers_length : (n : ℕ) (list : List (List ℕ)) → length (answer_lines n list) ≡ length list
-answers_length n [] = refl
-answers_length n (rows ∷ list) = ap suc (answers_length (n + 1) list)
-
 pub answer_at : (n : ℕ) (list : List (List ℕ)) (i : ℕ) (none : AnswerLine) → i < length (answer_lines n list)
     → (get_or (answer_lines n list) i none).line ≡ n + i
 answer_at n [] i none l = absurd (omega (arith, l))

@@ -78,9 +78,6 @@ one_constant : {a b : List ℕ} → of_constant a ≡ of_constant b → a ≡ b
 one_constant h = cc
 
 module _ (label : Column → Column) (item width : ℕ) where
-  pub constants_none : HaveConstants label item width [] []
-  constants_none = record { sound = λ v m. absurd m; found = λ e bytes m is. absurd m }
-
   pub constants_more : (es : List Equality) (e : Equality) (bytes : List ℕ) (p : ℕ) (list : List (ℕ × List ℕ)) → HaveConstants label item width es list
       → e.right ≡ of_constant bytes → IsFirstPlace label item width (label e.left) p → HaveConstants label item width (es ++ e ∷ []) (list ++ (p, bytes) ∷ [])
   constants_more es e bytes p list known is here = record {

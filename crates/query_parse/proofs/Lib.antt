@@ -6,7 +6,6 @@ pub mod Decimal
 pub mod Exactly
 pub mod Examples
 pub mod Fronts
-pub mod Further
 pub mod Handed
 pub mod InOrder
 pub mod Limited
@@ -21,7 +20,6 @@ pub mod Rules
 pub mod SameKinds
 pub mod Sections
 pub mod Shorter
-pub mod Sides
 pub mod Stepping
 pub mod Stuck
 pub mod Listed

@@ -1,12 +1,11 @@
 -- An item and a condition, read part by part.
-use Rattle.std.proofs.Common.{◌≡◌, ◌∙◌, ℕ, List, Ok, refl, sym, ap}
+use Rattle.std.proofs.Common.{◌≡◌, ◌∙◌, ℕ, List, Ok, sym, ap}
 use Rattle.query_select.specs.declared.select.ItemRef.{ItemRef}
-use Rattle.query_select.specs.declared.select.Side.{Side}
 use Rattle.query_select.specs.declared.token.Kind.TheVariants as kind
 use Rattle.query_select.specs.declared.token.Token.{Token}
 use Rattle.query_select.specs.Lexeme.{Lexeme, lexeme}
 use Rattle.query_parse.specs.declared.fault.ParseFault.{ParseFault}
-use Rattle.query_parse.specs.Reading.{◌>>=◌, Fails, Read, alias_at, condition_at, expect_at, item_at, side_at, with_left}
+use Rattle.query_parse.specs.Reading.{◌>>=◌, Fails, Read, alias_at, expect_at, item_at}
 use Rattle.query_parse.proofs.Columns.{fails_on}
 
 module _ (ts rest : List Lexeme) (table : Token) (named : expect_at kind.Name ts ≡ Ok (lexeme table, rest)) where
@@ -21,12 +20,3 @@ module _ (ts rest : List Lexeme) (table : Token) (named : expect_at kind.Name ts
   pub alias_fails : (end : ℕ) (e : ParseFault) → Fails end e (alias_at (lexeme table) rest) → Fails end e (item_at ts)
   unfolding item_at
   alias_fails end e h = rw named (fails_on end e (alias_at (lexeme table) rest) _ h)
-
-module _ (ts rest : List Lexeme) (left : Side) (read : side_at ts ≡ Ok (left, rest)) where
-  pub condition_is : (equals : Lexeme) (after : List Lexeme) → expect_at kind.Equals rest ≡ Ok (equals, after) → condition_at ts ≡ with_left left after
-  unfolding condition_at
-  condition_is equals after e = rw (read, e) refl
-
-  pub equals_fails : (end : ℕ) (e : ParseFault) → Fails end e (expect_at kind.Equals rest) → Fails end e (condition_at ts)
-  unfolding condition_at
-  equals_fails end e h = rw read (fails_on end e (expect_at kind.Equals rest) _ h)

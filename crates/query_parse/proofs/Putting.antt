@@ -46,10 +46,7 @@ found_put end had new toks (Err (fault.Syntax at)) (Err left) h =
     let same : left ≡ h.0 = cc in
     (h.0, ap (λ (l : List Lexeme). Err l) same, h.2)
 found_put end had new toks (Err fault.TooLong) read h = h
-found_put end had new toks (Err fault.TooManyBranches) read h = h
-found_put end had new toks (Err fault.TooManyItems) read h = h
-found_put end had new toks (Err fault.TooManyKeys) read h = h
-found_put end had new toks (Err (fault.LimitRange at)) read h = h
+found_put end had new toks _ read h = h
 
 -- an item behind a comma, found and added
 pub comma_gives : {R : Type 0} (tokens_of : R → List Lexeme) (end : ℕ) (had : Lists) (items : List ItemRef) (ts rest : List Lexeme) (comma : Lexeme) (item : Result (ItemRef × R) ParseFault) (r : Result R ParseFault) (o : Result (Option R) ParseFault)
@@ -105,11 +102,7 @@ putting_ends s end e had ts total h so_far = items_end s end e had.0 had.1 ts to
     unput : (e : ParseFault) → Fails end e (put_next had (next_item_at ts)) → Fails end e (next_item_at ts)
     unput fault.NoMemory h = tt
     unput (fault.Syntax at) h = (h.0, put_failed had h.0 (next_item_at ts) h.1, h.2)
-    unput fault.TooLong h = h
-    unput fault.TooManyBranches h = h
-    unput fault.TooManyItems h = h
-    unput fault.TooManyKeys h = h
-    unput (fault.LimitRange at) h = h
+    unput _ h = h
 
 pub putting_done : Steps next_item_at → (had new : Lists) (ts : List Lexeme) (total : Read Lists) → put_next had (next_item_at ts) ≡ Ok (new, None)
     → with_items had.0 had.1 (all_at next_item_at ts) ≡ total → total ≡ Ok (new, ts)

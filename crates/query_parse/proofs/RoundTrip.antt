@@ -108,8 +108,7 @@ same_length f xs ys e = sym (length-map xs f) ∙ ap (λ (l : List _). length l)
 
 pub round_trip : (bytes : List ℕ) (s : Select) → IsParsed bytes s → length (text_of s) ≤ 65536 → ReadsBack (text_of s) s
 round_trip bytes s h short =
-    let x = h.clauses in
-    let plain = query_plain (tokens_of bytes) x h.says.query (tokens_plain bytes 0 0) in
+    let plain = query_plain (tokens_of bytes) h.clauses h.says.query (tokens_plain bytes 0 0) in
     let plain_select : PlainSelect s = subst PlainSelect (sym h.is) (record { list = plain.list; items = plain.items; equalities = plain.equalities; keys = plain.keys }) in
     let a = again s plain_select h.limit in
     let items_same : map placeless_item (select_of a.clauses).items ≡ map placeless_item s.items = ap (λ (t : Select). t.items) a.same in

@@ -1,5 +1,5 @@
 -- Readers whose parts come one after another.
-use Rattle.std.proofs.Common.{◌≡◌, ◌==◌, ◌++◌, ◌∷◌, ℕ, List, [], length, Option, None, Result, Ok, Err, true, false, refl, sym, ap, arith, subst}
+use Rattle.std.proofs.Common.{◌≡◌, ◌==◌, ◌∷◌, ℕ, List, [], length, Option, None, Result, Ok, Err, true, false, refl, sym, ap, arith, subst}
 use Rattle.std.proofs.lemmas.Bool.{eqb-true}
 use Rattle.query_select.specs.declared.token.Kind.TheVariants as kind
 use Rattle.query_select.specs.declared.token.Token.{Token}
@@ -10,19 +10,11 @@ use Rattle.query_select.specs.declared.select.Select.{Select}
 use Rattle.query_select.specs.declared.select.SelectList.{SelectList}
 use Rattle.query_select.specs.Lexeme.{Lexeme, lexemes}
 use Rattle.query_parse.specs.declared.fault.ParseFault.{ParseFault}
-use Rattle.query_parse.specs.Reading.{◌>>=◌, Added, Ended, Fails, Gives, Read, branch_at, condition_at, conditions_at, ended_at, expect_at, finish_at, item_at, joined_item_at, limit_at, next_branch_at, next_condition_at, queries_at, query_at, branches_at, optional_at, order_at, put_after, selection_at, several_at, sources_at}
+use Rattle.query_parse.specs.Reading.{◌>>=◌, Ended, Fails, Gives, Read, branch_at, ended_at, finish_at, limit_at, next_branch_at, queries_at, query_at, branches_at, optional_at, order_at, selection_at, several_at, sources_at}
 use Rattle.query_parse.proofs.Columns.{fails_on}
-use Rattle.query_parse.proofs.Handed.{faulty, given}
 
 abbrev Lists : Type 0
 Lists = List ItemRef × List Equality
-
--- ---- from-items and the conditions of a `where`
-
-module _ (ts : List Lexeme) where
-  pub from_fails : (end : ℕ) (e : ParseFault) → Fails end e (expect_at kind.From ts) → Fails end e (sources_at ts)
-  unfolding sources_at
-  from_fails end e h = fails_on end e (expect_at kind.From ts) _ h
 
 -- ---- a query up to its order keys
 
@@ -37,42 +29,10 @@ module _ (ts : List Lexeme) where
     sources_fail end e h = rw selects (fails_on end e (sources_at after) _ h)
 
     module _ (items : Lists) (rest : List Lexeme) (from : sources_at after ≡ Ok (items, rest)) where
-      pub order_fails : (end : ℕ) (e : ParseFault) → Fails end e (order_at rest) → Fails end e (branch_at ts)
-      unfolding branch_at
-      order_fails end e h = rw (selects, from) (fails_on end e (order_at rest) _ h)
-
       pub branch_read : (keys : List KeyRef) (left : List Lexeme) (select : Select) → order_at rest ≡ Ok (keys, left)
           → select ≡ record { list = list; items = items.0; equalities = items.1; keys = keys; limit = None } → branch_at ts ≡ Ok (select, left)
       unfolding branch_at
       branch_read keys left select order is = rw (selects, from, order) (ap (λ (s : Select). Ok (s, left)) (sym is))
-
--- ---- an item with the conditions of its join, put after others
-
-module _ (had : Lists) (ts : List Lexeme) where
-  pub item_fails : (end : ℕ) (e : ParseFault) → Fails end e (item_at ts) → Fails end e (put_after had (joined_item_at ts))
-  unfolding joined_item_at
-  item_fails end e h = fails_on end e (joined_item_at ts) _ (fails_on end e (item_at ts) _ h)
-
-  module _ (item : ItemRef) (rest : List Lexeme) (read : item_at ts ≡ Ok (item, rest)) where
-    pub on_fails : (end : ℕ) (e : ParseFault) → Fails end e (expect_at kind.On rest) → Fails end e (put_after had (joined_item_at ts))
-    unfolding joined_item_at
-    on_fails end e h = rw read (fails_on end e _ _ (fails_on end e (expect_at kind.On rest) _ h))
-
-    module _ (word : Lexeme) (after : List Lexeme) (on : expect_at kind.On rest ≡ Ok (word, after)) where
-      pub conditions_fail : (end : ℕ) (e : ParseFault) → Fails end e (several_at condition_at next_condition_at after) → Fails end e (put_after had (joined_item_at ts))
-      unfolding joined_item_at conditions_at
-      conditions_fail end e h = rw (read, on) (fails_on end e _ _ (fails_on end e (several_at condition_at next_condition_at after) _ h))
-
-      pub joined_put : (items : List ItemRef) (conditions all : List Equality) (left : List Lexeme) → several_at condition_at next_condition_at after ≡ Ok (conditions, left)
-          → items ≡ had.0 ++ item ∷ [] → all ≡ had.1 ++ conditions → put_after had (joined_item_at ts) ≡ Ok ((items, all), left)
-      unfolding joined_item_at conditions_at
-      joined_put items conditions all left c a b = rw (read, on, c) (λ i. Ok ((sym a i, sym b i), left))
-
-      pub joined_gives : {V R : Type 0} (listed : V → List Equality) (tokens_of : R → List Lexeme) (end : ℕ) (items : List ItemRef) (all : List Equality) (conditions : Result (V × R) ParseFault) (r : Result R ParseFault) → items ≡ had.0 ++ item ∷ []
-          → Gives end (λ x. (listed x.0, tokens_of x.1)) conditions (several_at condition_at next_condition_at after) → Added listed had.1 all conditions r → Gives end (λ x. ((items, all), tokens_of x)) r (put_after had (joined_item_at ts))
-      joined_gives listed tokens_of end items all conditions (Ok rest) a g h =
-          joined_put items (listed h.0) all (tokens_of rest) (given end (λ x. (listed x.0, tokens_of x.1)) conditions (h.0, rest) (several_at condition_at next_condition_at after) h.1 g) a h.2
-      joined_gives listed tokens_of end items all conditions (Err e) a g h = conditions_fail end e (faulty end (λ x. (listed x.0, tokens_of x.1)) conditions e (several_at condition_at next_condition_at after) h g)
 
 -- ---- the end of a query
 

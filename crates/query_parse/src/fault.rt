@@ -34,6 +34,14 @@ impl From<AllocError> for ParseFault {
     }
 }
 
+impl From<step_counter::NoMemory> for ParseFault {
+    ghost from_gives = { λ _ e. e ≡ NoMemory };
+
+    fn from(_e: step_counter::NoMemory) -> ParseFault {
+        ParseFault::NoMemory
+    }
+}
+
 impl<T: Drop> From<AllocFailed<T>> for ParseFault {
     ghost from_gives = { λ _ e. e ≡ NoMemory };
 

@@ -12,6 +12,7 @@ use query_select::select::{ColumnRef, Equality, ItemRef, KeyRef, Select, SelectL
 use query_select::sequence::Sequence;
 use query_select::{Kind, Token};
 use std::alloc::{AllocError, Global};
+use step_counter::NoMemory;
 
 /// The offset of the next token, or of the query's end.
 fn place(tokens: &[Token<'_>], end: u32) -> u32
@@ -108,7 +109,7 @@ fn add_all<'a, 't, T: Drop>(
 
 /// What was made of the tokens before these.
 fn made<'a, 't, T>(
-    thing: Result<T, AllocError>,
+    thing: Result<T, NoMemory>,
     rest: &'t [Token<'a>],
 ) -> Result<(T, &'t [Token<'a>]), ParseFault>
     ensures { Made (λ x. x) (λ r. lexemes r.now) thing (lexemes rest.now) result }
@@ -124,7 +125,7 @@ fn column_ref(
     alloc: Global,
     alias: Option<Token<'_>>,
     name: Token<'_>,
-) -> Result<ColumnRef, AllocError>
+) -> Result<ColumnRef, NoMemory>
     ensures { IfOk result (λ c. c ≡ column_of (some_lexeme alias.entry) (lexeme name.entry)) }
 {
     match alias {

@@ -7,12 +7,12 @@ ghost use Rattle.query_parse.specs.Text.{doubled, column_text, columns_text, lis
 
 use query_select::push_name;
 use query_select::select::{ColumnRef, Equality, ItemRef, KeyRef, Select, SelectList, Side, Term};
-use std::alloc::{AllocError, Global};
+use std::alloc::Global;
 use step_counter::NoMemory;
 
 /// Appends a column reference.
 #[tactic(auto, unfolding(crate::specs::Text::column_text))]
-fn push_column(text: &mut Vec<u8>, column: &ColumnRef) -> Result<(), AllocError>
+fn push_column(text: &mut Vec<u8>, column: &ColumnRef) -> Result<(), NoMemory>
     ensures { OnOk result (text.new.items ≡ text.old.items ++ column_text column.now) }
 {
     if let Some(alias) = &column.alias {
@@ -24,7 +24,7 @@ fn push_column(text: &mut Vec<u8>, column: &ColumnRef) -> Result<(), AllocError>
 
 /// Appends column references with commas between them.
 #[tactic(auto, unfolding(crate::specs::Text::columns_text))]
-fn push_columns(text: &mut Vec<u8>, columns: &[ColumnRef]) -> Result<(), AllocError>
+fn push_columns(text: &mut Vec<u8>, columns: &[ColumnRef]) -> Result<(), NoMemory>
     ensures { OnOk result (text.new.items ≡ text.old.items ++ columns_text columns.now) }
 {
     let [first, others @ ..] = columns else {
@@ -40,18 +40,21 @@ fn push_columns(text: &mut Vec<u8>, columns: &[ColumnRef]) -> Result<(), AllocEr
 
 /// Appends what is selected.
 #[tactic(auto, unfolding(crate::specs::Text::list_text))]
-fn push_list(text: &mut Vec<u8>, list: &SelectList) -> Result<(), AllocError>
+fn push_list(text: &mut Vec<u8>, list: &SelectList) -> Result<(), NoMemory>
     ensures { OnOk result (text.new.items ≡ text.old.items ++ list_text list.now) }
 {
     match list {
-        SelectList::Star => text.extend_from_slice(b"*"),
+        SelectList::Star => {
+            text.extend_from_slice(b"*")?;
+            Ok(())
+        }
         SelectList::Columns(columns) => push_columns(text, columns.as_slice()),
     }
 }
 
 /// Appends an item with its alias.
 #[tactic(auto, unfolding(crate::specs::Text::item_text))]
-fn push_item(text: &mut Vec<u8>, item: &ItemRef) -> Result<(), AllocError>
+fn push_item(text: &mut Vec<u8>, item: &ItemRef) -> Result<(), NoMemory>
     ensures { OnOk result (text.new.items ≡ text.old.items ++ item_text item.now) }
 {
     push_name(text, item.table.bytes())?;
@@ -61,7 +64,7 @@ fn push_item(text: &mut Vec<u8>, item: &ItemRef) -> Result<(), AllocError>
 
 /// Appends items with commas between them.
 #[tactic(auto, unfolding(crate::specs::Text::items_text))]
-fn push_items(text: &mut Vec<u8>, items: &[ItemRef]) -> Result<(), AllocError>
+fn push_items(text: &mut Vec<u8>, items: &[ItemRef]) -> Result<(), NoMemory>
     ensures { OnOk result (text.new.items ≡ text.old.items ++ items_text items.now) }
 {
     let [first, others @ ..] = items else {
@@ -76,7 +79,7 @@ fn push_items(text: &mut Vec<u8>, items: &[ItemRef]) -> Result<(), AllocError>
 }
 
 /// Appends a byte of a string, a quote as two.
-fn push_text_byte(text: &mut Vec<u8>, byte: u8) -> Result<(), AllocError>
+fn push_text_byte(text: &mut Vec<u8>, byte: u8) -> Result<(), NoMemory>
     ensures { OnOk result (text.new.items ≡ text.old.items ++ doubled (byte ∷ [])) }
 {
     if byte == b'\'' {
@@ -87,7 +90,7 @@ fn push_text_byte(text: &mut Vec<u8>, byte: u8) -> Result<(), AllocError>
 }
 
 /// Appends the bytes of a string, each quote as two.
-fn push_doubled(text: &mut Vec<u8>, bytes: &[u8]) -> Result<(), AllocError>
+fn push_doubled(text: &mut Vec<u8>, bytes: &[u8]) -> Result<(), NoMemory>
     ensures { OnOk result (text.new.items ≡ text.old.items ++ doubled bytes.now) }
 {
     for byte in bytes {
@@ -97,7 +100,7 @@ fn push_doubled(text: &mut Vec<u8>, bytes: &[u8]) -> Result<(), AllocError>
 }
 
 /// Appends a constant as a string.
-fn push_constant(text: &mut Vec<u8>, bytes: &[u8]) -> Result<(), AllocError>
+fn push_constant(text: &mut Vec<u8>, bytes: &[u8]) -> Result<(), NoMemory>
     ensures { OnOk result (text.new.items ≡ text.old.items ++ constant_text bytes.now) }
 {
     text.push(b'\'')?;
@@ -108,7 +111,7 @@ fn push_constant(text: &mut Vec<u8>, bytes: &[u8]) -> Result<(), AllocError>
 
 /// Appends one side of an equality.
 #[tactic(auto, unfolding(crate::specs::Text::side_text))]
-fn push_side(text: &mut Vec<u8>, side: &Side) -> Result<(), AllocError>
+fn push_side(text: &mut Vec<u8>, side: &Side) -> Result<(), NoMemory>
     ensures { OnOk result (text.new.items ≡ text.old.items ++ side_text side.now) }
 {
     match side {
@@ -119,7 +122,7 @@ fn push_side(text: &mut Vec<u8>, side: &Side) -> Result<(), AllocError>
 
 /// Appends an equality.
 #[tactic(auto, unfolding(crate::specs::Text::equality_text))]
-fn push_equality(text: &mut Vec<u8>, equality: &Equality) -> Result<(), AllocError>
+fn push_equality(text: &mut Vec<u8>, equality: &Equality) -> Result<(), NoMemory>
     ensures { OnOk result (text.new.items ≡ text.old.items ++ equality_text equality.now) }
 {
     push_column(text, &equality.left)?;
@@ -129,7 +132,7 @@ fn push_equality(text: &mut Vec<u8>, equality: &Equality) -> Result<(), AllocErr
 
 /// Appends `where` and the equalities, if there are any.
 #[tactic(auto, unfolding(crate::specs::Text::where_text))]
-fn push_where(text: &mut Vec<u8>, equalities: &[Equality]) -> Result<(), AllocError>
+fn push_where(text: &mut Vec<u8>, equalities: &[Equality]) -> Result<(), NoMemory>
     ensures { OnOk result (text.new.items ≡ text.old.items ++ where_text equalities.now) }
 {
     let [first, others @ ..] = equalities else {
@@ -146,7 +149,7 @@ fn push_where(text: &mut Vec<u8>, equalities: &[Equality]) -> Result<(), AllocEr
 
 /// Appends the first term of an order key, with its minus.
 #[tactic(auto, unfolding(crate::specs::Text::first_term_text))]
-fn push_first_term(text: &mut Vec<u8>, term: &Term) -> Result<(), AllocError>
+fn push_first_term(text: &mut Vec<u8>, term: &Term) -> Result<(), NoMemory>
     ensures { OnOk result (text.new.items ≡ text.old.items ++ first_term_text term.now) }
 {
     if term.minus {
@@ -157,7 +160,7 @@ fn push_first_term(text: &mut Vec<u8>, term: &Term) -> Result<(), AllocError>
 
 /// Appends a later term of an order key, with its sign.
 #[tactic(auto, unfolding(crate::specs::Text::term_text))]
-fn push_term(text: &mut Vec<u8>, term: &Term) -> Result<(), AllocError>
+fn push_term(text: &mut Vec<u8>, term: &Term) -> Result<(), NoMemory>
     ensures { OnOk result (text.new.items ≡ text.old.items ++ term_text term.now) }
 {
     if term.minus {
@@ -170,7 +173,7 @@ fn push_term(text: &mut Vec<u8>, term: &Term) -> Result<(), AllocError>
 
 /// Appends the terms of an order key.
 #[tactic(auto, unfolding(crate::specs::Text::terms_text))]
-fn push_terms(text: &mut Vec<u8>, terms: &[Term]) -> Result<(), AllocError>
+fn push_terms(text: &mut Vec<u8>, terms: &[Term]) -> Result<(), NoMemory>
     ensures { OnOk result (text.new.items ≡ text.old.items ++ terms_text terms.now) }
 {
     let [first, others @ ..] = terms else {
@@ -185,7 +188,7 @@ fn push_terms(text: &mut Vec<u8>, terms: &[Term]) -> Result<(), AllocError>
 
 /// Appends an order key with its direction.
 #[tactic(auto, unfolding(crate::specs::Text::key_text))]
-fn push_key(text: &mut Vec<u8>, key: &KeyRef) -> Result<(), AllocError>
+fn push_key(text: &mut Vec<u8>, key: &KeyRef) -> Result<(), NoMemory>
     ensures { OnOk result (text.new.items ≡ text.old.items ++ key_text key.now) }
 {
     push_terms(text, key.terms.as_slice())?;
@@ -197,7 +200,7 @@ fn push_key(text: &mut Vec<u8>, key: &KeyRef) -> Result<(), AllocError>
 
 /// Appends `order by` and the keys, if there are any.
 #[tactic(auto, unfolding(crate::specs::Text::order_text))]
-fn push_order(text: &mut Vec<u8>, keys: &[KeyRef]) -> Result<(), AllocError>
+fn push_order(text: &mut Vec<u8>, keys: &[KeyRef]) -> Result<(), NoMemory>
     ensures { OnOk result (text.new.items ≡ text.old.items ++ order_text keys.now) }
 {
     let [first, others @ ..] = keys else {
@@ -214,7 +217,7 @@ fn push_order(text: &mut Vec<u8>, keys: &[KeyRef]) -> Result<(), AllocError>
 
 /// Appends `limit` and its number, if there is one.
 #[tactic(auto, unfolding(crate::specs::Text::limit_text))]
-fn push_limit(alloc: Global, text: &mut Vec<u8>, limit: Option<u64>) -> Result<(), AllocError>
+fn push_limit(alloc: Global, text: &mut Vec<u8>, limit: Option<u64>) -> Result<(), NoMemory>
     ensures { OnOk result (text.new.items ≡ text.old.items ++ limit_text limit) }
 {
     if let Some(limit) = limit {
@@ -227,7 +230,7 @@ fn push_limit(alloc: Global, text: &mut Vec<u8>, limit: Option<u64>) -> Result<(
 
 /// The canonical text of a query.
 #[tactic(auto, unfolding(crate::specs::Text::text_of))]
-fn write_select(alloc: Global, select: &Select) -> Result<Vec<u8>, AllocError>
+fn write_select(alloc: Global, select: &Select) -> Result<Vec<u8>, NoMemory>
     ensures { IfOk result (λ v. v.items ≡ text_of select.now) }
 {
     let mut text = Vec::from_slice(alloc, b"select ")?;
@@ -252,6 +255,5 @@ pub fn text(alloc: Global, select: &Select) -> Result<Vec<u8>, NoMemory>
         (λ v. (bytes : List ℕ) → IsParsed bytes select.now → length v.items ≤ 65536
         → ReadsBack v.items select.now) }
 {
-    let text = write_select(alloc, select)?;
-    Ok(text)
+    write_select(alloc, select)
 }

@@ -1,4 +1,5 @@
 -- Parts of queries are the same exactly if they are equal without their offsets.
+-- A proof, and not a definition: ghost fields of types are made with it, so it stands here.
 use Rattle.std.proofs.Common.{◌≡◌, ℕ, List, [], ◌∷◌, map, Option, Some, None, Bool, true, false, ◌&&◌, refl, sym, ap, ◌∙◌, eq-eqb}
 use mathlib.Core.Bool.{beq}
 use Rattle.std.specs.Prelude.{nat_eq, IsTrue, ◌↔◌}

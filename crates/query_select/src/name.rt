@@ -2,8 +2,9 @@
 
 ghost use Rattle.std.specs.Prelude.{◌≡◌, IfOk, List, ℕ};
 
-use std::alloc::{AllocError, Global};
+use std::alloc::Global;
 use std::marker::Model;
+use step_counter::NoMemory;
 
 /// A name, without quotes. Names are compared byte by byte, with case.
 #[derive(Drop)]
@@ -18,8 +19,8 @@ impl Model for Name {
 }
 
 impl Name {
-    /// A copy of these bytes. The error is that memory is refused.
-    pub fn from_slice(alloc: Global, bytes: &[u8]) -> Result<Name, AllocError>
+    /// A copy of these bytes. `NoMemory` if memory is refused.
+    pub fn from_slice(alloc: Global, bytes: &[u8]) -> Result<Name, NoMemory>
         ensures { IfOk result (λ n. n ≡ bytes.now) }
     {
         Ok(Name {

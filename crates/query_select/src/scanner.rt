@@ -10,7 +10,8 @@ ghost use Rattle.query_select.specs.Scans.{scan_view};
 ghost use Rattle.query_select.specs.Tokens.{is_blank, is_letter, is_word_byte, kind_of_word, kind_of_sign, closing, scan_of, quoted_scan, tokens_of};
 
 use crate::token::{Kind, Token};
-use std::alloc::{AllocError, Global};
+use std::alloc::Global;
+use step_counter::NoMemory;
 
 /// Whether a byte stands between tokens.
 fn is_blank_byte(byte: u8) -> bool
@@ -215,8 +216,8 @@ fn scan(bytes: &[u8]) -> Scanned<'_>
     }
 }
 
-/// The tokens of a query that is not too long. The error is that memory is refused.
-pub fn tokens(alloc: Global, bytes: &[u8]) -> Result<Vec<Token<'_>>, AllocError>
+/// The tokens of a query that is not too long. `NoMemory` if memory is refused.
+pub fn tokens(alloc: Global, bytes: &[u8]) -> Result<Vec<Token<'_>>, NoMemory>
     requires short { length bytes.now ≤ 65536 }
     ensures { IfOk result (λ v. lexemes v.items ≡ tokens_of bytes.now) }
 {

@@ -8,7 +8,7 @@ ghost use Rattle.query_select.specs.Text.{is_bare, name_text_of};
 
 use crate::scanner::{begins_word, word_kind, word_len};
 use crate::token::Kind;
-use std::alloc::{AllocError, Global};
+use std::alloc::Global;
 use step_counter::NoMemory;
 
 /// Whether a word is a name.
@@ -45,12 +45,13 @@ pub fn name_text(alloc: Global, name: &[u8]) -> Result<Vec<u8>, NoMemory>
     Ok(text)
 }
 
-/// Appends a name to a text, as the canonical text writes it. The error is that memory is refused.
-pub fn push_name(text: &mut Vec<u8>, name: &[u8]) -> Result<(), AllocError>
+/// Appends a name to a text, as the canonical text writes it. `NoMemory` if memory is refused.
+pub fn push_name(text: &mut Vec<u8>, name: &[u8]) -> Result<(), NoMemory>
     ensures { OnOk result (text.new.items ≡ text.old.items ++ name_text_of name.now) }
 {
     if is_bare_name(name) {
-        return text.extend_from_slice(name);
+        text.extend_from_slice(name)?;
+        return Ok(());
     }
     text.push(b'"')?;
     text.extend_from_slice(name)?;

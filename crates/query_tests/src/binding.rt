@@ -5,7 +5,6 @@ ghost use Rattle.bound_query.specs.WeighedQuery.{Fits};
 
 use crate::fixtures::{R, S, parse_small, read_two};
 use bound_query::Query;
-use csv_tables::TableReader;
 use query_bind::{BindFault, bind};
 use query_select::select::Select;
 use std::alloc::Global;
@@ -193,9 +192,9 @@ fn told(
     requires few { length which.now ≤ 16 }
     requires known { AllByRecursion (λ t. t < 2) which.now }
 {
-    let mut reader = TableReader::new(alloc);
-    read_two(&mut reader, files).ok()?;
-    told_over(alloc, reader.tables(), text, which)
+    let mut tables = csv_tables::Tables::new(alloc);
+    read_two(&mut tables, files).ok()?;
+    told_over(alloc, &tables, text, which)
 }
 
 /// What the query returns, if it can be bound.

@@ -1,7 +1,7 @@
 //! Two small tables and a small query, of sizes that binding takes.
 ghost use Rattle.std.specs.Prelude.{◌≡◌, ◌≤◌, [], length, IfSome, OnOk};
 
-use csv_tables::{TableFault, TableReader};
+use csv_tables::{TableFault, Tables};
 use query_parse::parse;
 use query_select::select::Select;
 use std::alloc::Global;
@@ -11,15 +11,15 @@ pub(crate) const R: &[u8] = b"a,b,w\n1,x,3\n2,y,1\n3,x,1\n";
 pub(crate) const S: &[u8] = b"b,c,w\nx,p,5\ny,q,2\nx,q,4\n";
 
 /// Reads the tables of two small files.
-pub(crate) fn read_two(reader: &mut TableReader, files: (&[u8], &[u8])) -> Result<(), TableFault>
-    requires { reader.old ≡ [] }
-    ensures { OnOk result (length reader.new ≡ 2) }
+pub(crate) fn read_two(tables: &mut Tables, files: (&[u8], &[u8])) -> Result<(), TableFault>
+    requires { tables.old ≡ [] }
+    ensures { OnOk result (length tables.new ≡ 2) }
 {
     if files.0.len() > 1000 || files.1.len() > 1000 {
         return Err(TableFault::NoMemory);
     }
-    reader.read(files.0)?;
-    reader.read(files.1)?;
+    tables.read(files.0)?;
+    tables.read(files.1)?;
     Ok(())
 }
 

@@ -4,7 +4,6 @@ ghost use Rattle.std.specs.List.{AllByRecursion};
 
 use crate::fixtures::{R, S, parse_small, read_two};
 use bound_query::{ShapeFault, tree_shape};
-use csv_tables::TableReader;
 use join_tree::JoinTree;
 use query_bind::bind;
 use query_select::select::Select;
@@ -58,9 +57,9 @@ fn tree(alloc: Global, text: &[u8], which: &[u32]) -> Option<Result<[u32; 4], Sh
     requires few { length which.now ≤ 16 }
     requires known { AllByRecursion (λ t. t < 2) which.now }
 {
-    let mut reader = TableReader::new(alloc);
-    read_two(&mut reader, (R, S)).ok()?;
-    tree_of_text(alloc, reader.tables(), text, which)
+    let mut tables = csv_tables::Tables::new(alloc);
+    read_two(&mut tables, (R, S)).ok()?;
+    tree_of_text(alloc, &tables, text, which)
 }
 
 #[test]

@@ -51,10 +51,6 @@ module _ (d e : ℕ) where
   pub below_add_right : (a b c : KeyOf d e) → key_below d e a b → key_below d e (key_add d e a c) (key_add d e b c)
   below_add_right = (tuple_keys d e).add_below
 
-  pub below_add_left : (a b c : KeyOf d e) → key_below d e a b → key_below d e (key_add d e c a) (key_add d e c b)
-  below_add_left a b c h =
-      subst (λ z. key_below d e z (key_add d e c b)) (add_comm a c) (subst (λ z. key_below d e (key_add d e a c) z) (add_comm b c) (below_add_right a b c h))
-
   pub below_cancel_right : (a b c : KeyOf d e) → key_below d e (key_add d e a c) (key_add d e b c) → key_below d e a b
   below_cancel_right a b c h = elim (below_cases a b) [
     | inl p ↦ p

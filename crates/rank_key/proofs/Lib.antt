@@ -1,6 +1,6 @@
 pub mod BitLemmas
 pub mod Comparing
-pub mod Halves
+pub mod HeldKeys
 pub mod KeyOrder
 pub mod KeyParts
 pub mod Padding

@@ -1,11 +1,11 @@
 -- Slots that are filled up with 0 to a given number.
-use Rattle.std.proofs.Common.{◌≡◌, ℕ, zero, suc, ◌<◌, ◌≤◌, ℤ, pos, List, [], ◌∷◌, length, map, replicate, get_or, All, refl, sym, ap, subst, ◌∙◌, arith, inl, inr}
+use Rattle.std.proofs.Common.{◌≡◌, ℕ, zero, suc, ◌^◌, ◌<◌, ◌≤◌, ℤ, pos, List, [], ◌∷◌, length, map, replicate, get_or, All, refl, sym, ap, subst, ◌∙◌, arith, inl, inr}
 use Rattle.std.proofs.Math.ListN.{set}
 use Rattle.std.proofs.lemmas.Int.{ints}
 use Rattle.std.proofs.lemmas.Bool.Decides.{nat_tests}
-use Rattle.std.proofs.lemmas.List.{get_or-set_other, get_or-replicate, get_or_past, length-replicate}
+use Rattle.std.proofs.lemmas.List.{get_or-map, get_or-set_other, get_or-replicate, get_or_past, length-map, length-replicate}
 use Rattle.std.proofs.lemmas.Bool.{cases_lt}
-use Rattle.std.proofs.lemmas.List.Elements.{All-nil, All-cons, All-head, All-tail}
+use Rattle.std.proofs.lemmas.List.Elements.{All-nil, All-cons, All-from_get_or, All-get_or, All-head, All-tail}
 use Rattle.std.specs.Int.{FitsUnsigned, w32}
 use Rattle.std.specs.Ordering.{nat_cmp, ordering_then}
 use Rattle.std.specs.Cmp.Lexicographic.{slice_cmp}
@@ -156,3 +156,13 @@ none_after_replicate e m = λ i past. elim (cases_lt i m) [
   | inl within ↦ get_or-replicate {A = ℕ} m i 0 0 within
   | inr past ↦ get_or_past (replicate m 0) i 0 (omega (arith, length-replicate {A = ℕ} m 0))
 ]
+
+-- slots that fit as whole numbers are below 2 ^ 32
+pub slots_fit : (ws : List ℕ) (zs : List ℤ) → map pos ws ≡ zs → All (FitsUnsigned w32) zs → All (λ w. w < 2 ^ 32) ws
+slots_fit ws zs is fits = All-from_get_or (λ w. w < 2 ^ 32) ws 0
+    (λ i l.
+    let at = All-get_or (FitsUnsigned w32) (map pos ws) i (pos 0) (omega (arith, length-map ws pos, l)) (subst (All (FitsUnsigned w32)) (sym is) fits) in
+    small (get_or ws i 0) (subst (FitsUnsigned w32) (get_or-map pos ws i 0 (pos 0) l) at))
+  where
+    small : (w : ℕ) → FitsUnsigned w32 (pos w) → w < 2 ^ 32
+    small w h = omega (arith, ints, h)

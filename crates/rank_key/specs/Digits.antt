@@ -1,4 +1,5 @@
 -- The number of a key's digits is a number of 128 bits with a sign, and has these digits.
+-- A proof, and not a definition: ghost fields of types are made with it, so it stands here.
 use Rattle.std.proofs.Common.{◌≡◌, ℕ, zero, suc, ◌/◌, ◌%◌, ◌^◌, ◌<◌, ℤ, pos, negsuc, ◌+ℤ◌, ◌-ℤ◌, ◌*ℤ◌, List, [], ◌∷◌, get_or, refl, sym, ap, ◌∙◌, arith}
 use Rattle.std.specs.Prelude.{FitsSigned, unsigned_abs}
 use Rattle.std.specs.Int.{w128}
@@ -105,3 +106,15 @@ module _ (k : KeyOf 1 16) (within : IsWithin 1 4 (2 ^ 43) (2 ^ 21) k) where
 
       slots : (i : ℕ) → i < 16 → slot_of 1 16 i (key_of_lists 1 16 (sum ∷ []) four) ≡ slot i
       slots i l = slot_of_lists 1 16 i (sum ∷ []) four l ∙ at i l
+
+-- a slot of a number's key is a digit
+pub packed_slot : (z : ℤ) (i : ℕ) → i < 16 → slot_of 1 16 i (packed_key z) < 2 ^ 21
+packed_slot z i l = rw (slot_of_lists 1 16 i ((pos (lifted z / 2 ^ 84) -ℤ pos (2 ^ 43)) ∷ [])
+    (digits (lifted z % 2 ^ 84)) l) (digit_below (lifted z) i)
+  where
+    digit_below : (n i : ℕ) → get_or (digits (n % 2 ^ 84)) i 0 < 2 ^ 21
+    digit_below n zero = omega arith
+    digit_below n (suc zero) = omega arith
+    digit_below n (suc (suc zero)) = omega arith
+    digit_below n (suc (suc (suc zero))) = omega arith
+    digit_below n (suc (suc (suc (suc i)))) = omega arith

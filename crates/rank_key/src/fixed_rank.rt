@@ -1,11 +1,11 @@
 //! Ranks as arrays of a fixed number of sums and of slots.
-ghost use Rattle.std.specs.Prelude.{◌≡◌, ℕ, ◌+◌, ◌-◌, ◌^◌, ◌<◌, ◌≤◌, ℤ, pos, length, drop, ◌++◌, map, All, FitsSigned};
+ghost use Rattle.std.specs.Prelude.{◌≡◌, ℕ, ◌+◌, ◌-◌, ◌^◌, ◌<◌, ◌≤◌, ℤ, pos, length, drop, ◌++◌, map, slice_set, All, FitsSigned};
 ghost use Rattle.std.specs.Int.{FitsUnsigned, w32, w128};
 ghost use Rattle.std.specs.Ordering.{int_cmp};
 ghost use Rattle.std.specs.Cmp.Lexicographic.{slice_cmp};
 ghost use Rattle.tdp_model.specs.KeyNumbers.{plus, key_of_lists};
 ghost use Rattle.std.proofs.Common.{rules};
-ghost use Rattle.rank_key.specs.KeyLists.{sums_of, slots_of, length_sums, length_slots, slots_end, key_of_lists_lem};
+ghost use Rattle.rank_key.specs.KeyLists.{sums_of, slots_of, length_sums, length_slots, slots_end, slots_below, slot_below, key_of_lists_lem};
 ghost use Rattle.rank_key.specs.Keys.{NoneAfter, minus};
 
 use crate::rank::Rank;
@@ -23,6 +23,7 @@ pub struct FixedRank<const N: usize, const M: usize> {
     ghost sums_len: { length sums ≡ N },
     ghost slots_len: { length slots ≡ M },
     ghost none_after: { NoneAfter 16 slots },
+    ghost slots_fit: { All (λ s. s < 2 ^ 32) slots },
 }
 
 /// A rank with one sum, for an order by one key or by none.
@@ -56,6 +57,15 @@ fn copy_sums(to: &mut [Sum], from: &[i128])
 {
     for place in 0..from.len() {
         to[place] = Sum::new(from[place]);
+    }
+}
+
+/// Puts a number into a slot. Without such a slot there is nothing to put: the number is 0 then.
+fn put_slot(slots: &mut [u32], slot: u32, row: u32)
+    ensures { slots.new ≡ slice_set slots.old slot row }
+{
+    if (slot as usize) < slots.len() {
+        slots[slot as usize] = row;
     }
 }
 
@@ -164,7 +174,7 @@ impl<const N: usize, const M: usize> Rank for FixedRank<N, M> {
             slots: [0; M],
         };
         copy_sums(&mut rank.sums, sums);
-        rank.slots[slot as usize] = row;
+        put_slot(&mut rank.slots, slot, row);
         rank
     }
 
@@ -193,10 +203,17 @@ impl<const N: usize, const M: usize> Rank for FixedRank<N, M> {
         slots = slots_of N M k;
         sums_len = length_sums N M k;
         slots_len = length_slots N M k;
-        none_after = slots_end N M (2 ^ 127) (2 ^ 32) k within;
+        none_after = slots_end N M k;
+        slots_fit = slots_below N M k (2 ^ 32) (Prim.search rules) within.slots;
       },
-      key_of_lists_lem N M (2 ^ 127) (2 ^ 32) k within,
+      key_of_lists_lem N M k within.none,
     ) };
+
+    ghost some_limit = { Prim.search rules };
+
+    ghost below_rows = { λ r i l. slot_below N r.sums r.slots (2 ^ 32) r.slots_fit (Prim.search rules) i l };
+
+    ghost rows_fit = { Prim.search rules };
 
     ghost rows_held = { Prim.search rules };
 }

@@ -1,9 +1,9 @@
 //! The packed rank: a number whose digits are a sum and four row numbers.
-ghost use Rattle.std.specs.Prelude.{◌≡◌, ◌^◌, ◌<◌, pos, slice_index_or, FitsSigned};
+ghost use Rattle.std.specs.Prelude.{◌≡◌, ◌^◌, pos, slice_index_or, FitsSigned};
 ghost use Rattle.std.specs.Int.{w128};
 ghost use Rattle.std.proofs.Common.{rules};
 ghost use Rattle.rank_key.specs.Packed.{packed_key, number_of, unit_of};
-ghost use Rattle.rank_key.specs.Digits.{number_fits, key_of_number};
+ghost use Rattle.rank_key.specs.Digits.{number_fits, key_of_number, packed_slot};
 
 use crate::rank::Rank;
 use crate::sum::Sum;
@@ -31,9 +31,8 @@ fn first_sum(sums: &[i128]) -> i128
     }
 }
 
-/// The unit of a slot, of which there are four.
+/// The unit of a slot. There are four, and 1 stands for the unit of all others, which are 0.
 fn slot_unit(slot: u32) -> i128
-    requires { slot < 4 }
     ensures { result ≡ unit_of slot }
 {
     match slot {
@@ -96,6 +95,12 @@ impl Rank for PackedRank {
       },
       key_of_number k within,
     ) };
+
+    ghost some_limit = { Prim.search rules };
+
+    ghost below_rows = { λ r i l. packed_slot r.number i l };
+
+    ghost rows_fit = { Prim.search rules };
 
     ghost rows_held = { Prim.search rules };
 }

@@ -1,6 +1,6 @@
 //! What a rank can do: joining, exchanging a part and comparing, one counted step each.
-ghost use Rattle.std.specs.Prelude.{◌≡◌, ℕ, ◌+◌, ◌^◌, ◌<◌, ◌≤◌, ℤ, List, length, All, unsigned_abs};
-ghost use Rattle.tdp_model.specs.KeyTuple.{KeyOf, key_add, key_none};
+ghost use Rattle.std.specs.Prelude.{◌≡◌, ℕ, ◌+◌, ◌^◌, ◌<◌, ◌≤◌, List, length};
+ghost use Rattle.tdp_model.specs.KeyTuple.{KeyOf, key_add, key_none, slot_of};
 ghost use Rattle.tdp_model.specs.KeyNumbers.{key_less};
 ghost use Rattle.rank_key.specs.Keys.{KeyFits, CanSwap, IsHeld, IsWithin, row_key};
 
@@ -11,9 +11,9 @@ use step_counter::Steps;
 pub const SLOTS: usize = 16;
 
 /// A rank. Contracts see its key: `KEYS` sums and then 16 row slots, of which the rank holds the
-/// first `ITEMS`: the others are 0. Each key whose sums are below `LIMIT` in absolute value and
-/// whose slots are below `ROWS` is that of a rank. Ranks are used through the calls of this trait
-/// alone, and none of them takes memory.
+/// first `ITEMS`: the others are 0. All slots are below `ROWS`. Each key whose sums are below
+/// `LIMIT` in absolute value and whose slots are below `ROWS` is that of a rank. Ranks are used
+/// through the calls of this trait alone, and none of them takes memory.
 pub trait Rank: Copy {
     ghost KEYS: { ℕ };
 
@@ -33,13 +33,11 @@ pub trait Rank: Copy {
         ensures { key result ≡ key_none KEYS 16 };
 
     /// The rank of one row: its sums, of which missing ones are 0, and its number in its slot.
-    /// Slots count from 0, and the other slots are 0.
+    /// Slots count from 0, and the other slots are 0. Some rank must have this key.
     fn of_row(sums: &[i128], slot: u32, row: u32) -> Self
         requires sums { length sums.now ≤ KEYS }
-        requires small { All (λ z. unsigned_abs z < LIMIT) sums.now }
         requires slot { slot < 16 }
-        requires item { slot < ITEMS }
-        requires number { row < ROWS }
+        requires held { IsHeld KEYS key (row_key KEYS sums.now slot row) }
         ensures { key result ≡ row_key KEYS sums.now slot row };
 
     /// The sum of two ranks, number by number. It takes one step. The result must fit.
@@ -63,6 +61,13 @@ pub trait Rank: Copy {
 
     ghost holds: { (k : KeyOf KEYS 16) → IsWithin KEYS ITEMS LIMIT ROWS k → IsHeld KEYS key k };
 
-    // row numbers are below 2 ^ 21
+    ghost some_limit: { 0 < LIMIT };
+
+    ghost below_rows: { (r : Self) (i : ℕ) → i < 16 → slot_of KEYS 16 i (key r) < ROWS };
+
+    // a row number is a `u32`
+    ghost rows_fit: { ROWS ≤ 2 ^ 32 };
+
+    // the row numbers of tables are below 2 ^ 21
     ghost rows_held: { 2 ^ 21 ≤ ROWS };
 }

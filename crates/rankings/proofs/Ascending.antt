@@ -16,10 +16,13 @@ module _ {A : Type 0} (Below : A → A → Type 0) where
     ascending_append xs ys p.1 q (λ a b m n. h a b (inr m) n),
   )
 
+  pub below_filter : (test : A → Bool) (x : A) (xs : List A) → BelowAll Below x xs → BelowAll Below x (filter test xs)
+  below_filter test x xs all = below_all x (filter test xs) (λ y m. below_member Below x y xs all (kept_member test y xs m).0)
+
   pub ascending_filter : (test : A → Bool) (xs : List A) → IsAscending Below xs → IsAscending Below (filter test xs)
   ascending_filter test [] p = tt
   ascending_filter test (x ∷ xs) p = by_test (test x) (ascending_filter test xs p.1)
     where
       by_test : (b : Bool) → IsAscending Below (filter test xs) → IsAscending Below (cond b (x ∷ filter test xs) (filter test xs))
-      by_test true k = (below_all x (filter test xs) (λ y m. below_member Below x y xs p.0 (kept_member test y xs m).0), k)
+      by_test true k = (below_filter test x xs p.0, k)
       by_test false k = k

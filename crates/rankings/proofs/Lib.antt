@@ -2,3 +2,4 @@ pub mod Ascending
 pub mod Members
 pub mod Unique
 pub mod Sorting
+pub mod Searching

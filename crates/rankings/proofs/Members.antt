@@ -1,7 +1,7 @@
 -- Members of a list, and what holds of all of them.
 use Rattle.std.proofs.Common.{◌≡◌, ◌⊎◌, ◌<◌, ◌≤◌, ◌+◌, ℕ, zero, suc, Bool, true, false, cond, List, [], ◌∷◌, ◌++◌, map, filter, length, take, get_or, refl, sym, ap, subst, ◌∙◌, inl, inr, arith}
-use Rattle.std.specs.List.{AllByRecursion, Contains, list_any}
-use Rattle.std.proofs.lemmas.Bool.{or_cases, or_left, or_right}
+use Rattle.std.specs.List.{AllByRecursion, Contains, list_any, range_with_len}
+use Rattle.std.proofs.lemmas.Bool.{cases_lt, or_cases, or_left, or_right}
 use Rattle.std.proofs.lemmas.List.{take_all, take_more}
 use Rattle.rankings.specs.Order.{IsMember, BelowAll}
 
@@ -136,3 +136,17 @@ map_filter {A = A} {B = B} f test (x ∷ xs) = by_test (test (f x)) ∙ ap (λ (
         ≡ cond b (f x ∷ map f (filter (λ y. test (f y)) xs)) (map f (filter (λ y. test (f y)) xs))
     by_test true = refl
     by_test false = refl
+
+-- # Members of a range of numbers
+
+pub range_bounds : (a n k : ℕ) → IsMember k (range_with_len a n) → (a ≤ k) × (k < a + n)
+range_bounds a zero k m = absurd m
+range_bounds a (suc n) k (inl e) = (omega arith, omega arith)
+range_bounds a (suc n) k (inr m) = let h = range_bounds (a + 1) n k m in (omega (arith, h.0), omega (arith, h.1))
+
+pub range_member : (a n k : ℕ) → a ≤ k → k < a + n → IsMember k (range_with_len a n)
+range_member a zero k low high = absurd (omega arith)
+range_member a (suc n) k low high = elim (cases_lt a k) [
+  | inl above ↦ inr (range_member (a + 1) n k (omega arith) (omega arith))
+  | inr here ↦ inl (omega arith)
+]

@@ -2,7 +2,7 @@
 -- answers.
 use Rattle.std.specs.Prelude.{ℕ, List, [], ◌∷◌, None, false, codes}
 use Rattle.outer_io.specs.Files.{Files}
-use Rattle.verdict.specs.Words.{Asked, Words, built, run}
+use Rattle.verdict.specs.Words.{Asked, Words, a_command, run}
 
 -- the command line
 abbrev pub row_arguments : List (List ℕ)
@@ -32,4 +32,4 @@ row_words = record {
 }
 
 abbrev pub row_asked : Asked
-row_asked = built (run row_words)
+row_asked = a_command (run row_words)

@@ -1,6 +1,7 @@
 -- The children of a node, the groups that a row names and the rows that stay, among the first n.
 use Rattle.std.proofs.Common.{◌≡◌, ℕ, zero, suc, ◌+◌, Bool, true, false, cond, nat_eq, ◌&&◌, List, [], ◌∷◌, ◌++◌, map, refl, ap, ◌∙◌, arith}
 use Rattle.std.specs.List.{filter, list_any, list_all, position_or_len, range_with_len}
+use Rattle.std.proofs.lemmas.List.{append-nil}
 use Rattle.std.proofs.lemmas.List.Elements.{filter-append}
 use Rattle.std.proofs.lemmas.List.Folds.{list_all-append}
 use Rattle.std.proofs.lemmas.List.FromFn.{map-range_with_len_more}
@@ -16,13 +17,9 @@ range_more a (suc n) = let e : (a + 1) + n ≡ a + suc n = omega arith in ap (λ
 pub range_end : (n : ℕ) → range_with_len 0 (suc n) ≡ range_with_len 0 n ++ (n ∷ [])
 range_end n = let e : 0 + n ≡ n = omega arith in range_more 0 n ∙ ap (λ k. range_with_len 0 n ++ (k ∷ [])) e
 
-append_none : (xs : List ℕ) → xs ++ [] ≡ xs
-append_none [] = refl
-append_none (x ∷ xs) = ap (λ l. x ∷ l) (append_none xs)
-
 append_cond : (b : Bool) (xs : List ℕ) (x : ℕ) → xs ++ cond b (x ∷ []) [] ≡ cond b (xs ++ (x ∷ [])) xs
 append_cond true xs x = refl
-append_cond false xs x = append_none xs
+append_cond false xs x = append-nil xs
 
 filter_last : (p : ℕ → Bool) (xs : List ℕ) (x : ℕ) → filter p (xs ++ (x ∷ [])) ≡ cond (p x) (filter p xs ++ (x ∷ [])) (filter p xs)
 filter_last p xs x = filter-append p xs (x ∷ []) ∙ append_cond (p x) (filter p xs) x

@@ -20,7 +20,8 @@ use Rattle.semi_join.proofs.Kids.{few_cond, children_count}
 use Rattle.semi_join.proofs.Descends.{later_of}
 use Rattle.semi_join.proofs.NodeRows.{row_fact}
 use Rattle.semi_join.proofs.SameShapes.{shape_same, children_same, held_same, shaped_same}
-use Rattle.semi_join.proofs.Totals.{sum_most, sum_rows}
+use Rattle.tdp_model.proofs.Sums.{sum_fewer}
+use Rattle.semi_join.proofs.Totals.{sum_rows}
 use Rattle.semi_join.proofs.KeptParts.{kept_at, owns_count, node_of, all_shapes, row_count, group_total, one_root_lem}
 use Rattle.semi_join.proofs.NamedGroups.{named_count, named_group}
 use Rattle.semi_join.proofs.KeptSolutions.{parent_is, parent_inside}
@@ -36,7 +37,7 @@ module _ {R : Type 0} (d : ℕ) (key : R → KeyOf d 16) (raw : RawView R) (form
   few_rows_lem : sum_from ◌+◌ 0 (rows parts) (length parts) 0 ≤ 4194304
   few_rows_lem =
       let all : 0 + length raw.shapes ≡ length raw.rows = omega (arith, formed.each_node) in
-      let most = sum_most (rows parts) (raw_len raw) (length raw.shapes) 0 (λ v a b.
+      let most = sum_fewer (rows parts) (raw_len raw) (length raw.shapes) 0 (λ v a b.
       let h : v < length raw.shapes = omega (arith, b) in
       omega (arith, row_count raw parts last v h, kept_few raw v (later_of raw v) (raw_len raw v))) in
       omega (arith, ap (λ n. sum_from ◌+◌ 0 (rows parts) n 0) last.size, most, sum_rows raw.rows (length raw.shapes) 0 all, formed.few_rows)

@@ -1,7 +1,7 @@
 -- The parts of a tree, each with the rows that its node keeps.
 use Rattle.std.proofs.Common.{◌≡◌, ℕ, ◌+◌, ◌-◌, ◌<◌, ◌≤◌, ◌↔◌, inl, inr, cond, List, [], map, length, get_or, Contains, refl, sym, ap, subst, ◌∙◌, arith}
 use Rattle.std.proofs.lemmas.Bool.{ne_eqb, cases_lt}
-use Rattle.std.proofs.lemmas.List.{length-map, get_or-map, get_or_default}
+use Rattle.std.proofs.lemmas.List.{length-map, get_or-map, get_or_default, same_lists}
 use Rattle.tdp_core.specs.RawView.{RawView, AreShapes, raw_len, own_link}
 use Rattle.tdp_core.specs.TreeView.{NodeView, node_at, rows, group_count, members}
 use Rattle.tdp_core.specs.Solutions.{RawExtends}
@@ -13,7 +13,6 @@ use Rattle.semi_join.proofs.Extending.{extends_stays}
 use Rattle.semi_join.proofs.Chosen.{stays_extends}
 use Rattle.semi_join.proofs.Members.{contains_stands, stands_contains, group_of, member-row, member_link, row_member}
 use Rattle.semi_join.proofs.NodeRows.{rows_count}
-use Rattle.semi_join.proofs.SameShapes.{same_lists}
 
 module _ {R : Type 0} (raw : RawView R) where
   -- the rows that node v keeps

@@ -17,7 +17,7 @@ use Rattle.semi_join.proofs.Found.{found_at}
 use Rattle.semi_join.proofs.Ascending.{kept_ascends, places_apart}
 use Rattle.semi_join.proofs.NodeRows.{row_field}
 use Rattle.semi_join.proofs.SameShapes.{parent_same}
-use Rattle.semi_join.proofs.Totals.{sum_same}
+use Rattle.tdp_model.proofs.Sums.{same_sums}
 use Rattle.semi_join.proofs.KeptParts.{kept_at, kept_stays, exact, own_at, node_of, all_shapes, member_kept, member_own, root_group}
 use Rattle.semi_join.proofs.NamedGroups.{named_members}
 
@@ -111,5 +111,5 @@ module _ {R : Type 0} (raw : RawView R) (shaped : AreShapes raw.shapes) (parts :
     pub key_kept : (t : ℕ → ℕ) → IsTreeSolution parts t → solution_key parts d key t ≡ raw_solution_key raw d key (raw_rows t)
     key_kept t s =
         ap (λ n. sum_from (key_add d 16) (key_none d 16) (λ q. rank parts d key q (t q)) n 0) last.size
-        ∙ sum_same (key_add d 16) (key_none d 16) (λ q. rank parts d key q (t q)) (λ q. raw_rank raw d key q (raw_rows t q)) (length raw.shapes) 0
+        ∙ same_sums (key_add d 16) (key_none d 16) (λ q. rank parts d key q (t q)) (λ q. raw_rank raw d key q (raw_rows t q)) (length raw.shapes) 0
         (λ v a b. let h : v < length raw.shapes = omega (arith, b) in rank_kept v (t v) h (tree_row t s v h))

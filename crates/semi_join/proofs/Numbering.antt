@@ -1,5 +1,5 @@
 -- Rows with the numbers of their links, one after the other.
-use Rattle.std.proofs.Common.{◌≡◌, ℕ, zero, suc, ◌<◌, ◌≤◌, ◌⊎◌, inl, inr, Bool, true, false, nat_eq, ◌||◌, List, [], ◌∷◌, ◌++◌, map, length, get_or, Contains, refl, sym, ap, subst, ◌∙◌, arith, length-append, eq-eqb, if◌then◌else◌, slice_get, Some, eqb-true}
+use Rattle.std.proofs.Common.{◌≡◌, ℕ, zero, suc, ◌<◌, ◌≤◌, ◌⊎◌, inl, inr, Bool, true, false, nat_eq, ◌||◌, List, [], ◌∷◌, ◌++◌, map, length, get_or, Contains, refl, sym, ap, subst, ◌∙◌, arith, length-append, eq-eqb, if◌then◌else◌}
 use Rattle.indexmap.specs.IndexSet.{insert_key}
 use Rattle.std.proofs.lemmas.List.{get_or_append_left}
 use Rattle.std.proofs.lemmas.List.Elements.{All-push, All-weaker, Contains-append_left, Contains-push}
@@ -70,11 +70,6 @@ module _ (owns links numbers : List ℕ) (own number : ℕ) (numbering : IsNumbe
   -- the link of the row has been inserted, and stands at this number
   pub numbering_more : number < length (insert_key nat_eq links own) → get_or (insert_key nat_eq links own) number 0 ≡ own → IsNumbering (owns ++ (own ∷ [])) (insert_key nat_eq links own) (numbers ++ (number ∷ []))
   numbering_more within named = numbered_by (list_any (nat_eq own) links) refl within named
-
-pub stored_name : (keys : List ℕ) (n own k : ℕ) → slice_get keys n ≡ Some k → nat_eq own k ≡ true → get_or keys n 0 ≡ own
-stored_name [] n own k e t = cc
-stored_name (x ∷ xs) zero own k e t = let f : x ≡ k = cc in f ∙ sym (eqb-true own k t)
-stored_name (x ∷ xs) (suc n) own k e t = stored_name xs n own k e t
 
 module _ {X Y : Type 0} (f : X → Y) where
   pub map_snoc : (xs : List X) (x : X) → map f (xs ++ (x ∷ [])) ≡ map f xs ++ (f x ∷ [])

@@ -1,21 +1,11 @@
 -- Parts with the shapes of a raw tree.
-use Rattle.std.proofs.Common.{◌≡◌, ℕ, zero, suc, ◌<◌, List, [], ◌∷◌, map, length, get_or, refl, sym, ap, subst, ◌∙◌, arith}
+use Rattle.std.proofs.Common.{◌≡◌, ℕ, zero, suc, List, [], ◌∷◌, map, length, refl, sym, ap, subst, ◌∙◌}
 use Rattle.std.proofs.lemmas.List.{length-map}
 use Rattle.tdp_model.specs.KeyTuple.{KeyOf}
 use Rattle.tdp_core.specs.declared.parts.NodeShape.{NodeShape}
 use Rattle.tdp_core.specs.RawView.{AreShapes, AreShapesHeld, shape_at, shape_parent, shape_item, shape_cap, shape_children, shape_child_place}
 use Rattle.tdp_core.specs.TreeView.{NodeView, kids_below, cap_of, node_at, parent, item, cap, child_count, child_place}
 use Rattle.tdp_core.specs.WellFormed.{AreHeld, IsShaped}
-
--- lists of one length with the same elements
-pub same_lists : {X : Type 0} (xs ys : List X) → length xs ≡ length ys → ((k : ℕ) (d : X) → k < length xs → get_or xs k d ≡ get_or ys k d) → xs ≡ ys
-same_lists [] [] e h = refl
-same_lists [] (y ∷ ys) e h = absurd (omega (arith, e))
-same_lists (x ∷ xs) [] e h = absurd (omega (arith, e))
-same_lists (x ∷ xs) (y ∷ ys) e h =
-    let first : x ≡ y = h 0 x (omega arith) in
-    let rest = same_lists xs ys (omega (arith, e)) (λ k d l. h (suc k) d (omega (arith, l))) in
-    ap (λ z. z ∷ xs) first ∙ ap (λ zs. y ∷ zs) rest
 
 module _ {R : Type 0} (shapes : List NodeShape) (t : List (NodeView R)) (same : map (λ n. n.shape) t ≡ shapes) where
   shape_read : (ns : List (NodeView R)) (v : ℕ) → shape_at (map (λ n. n.shape) ns) v ≡ (node_at ns v).shape

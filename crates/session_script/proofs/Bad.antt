@@ -4,9 +4,9 @@ use Rattle.std.specs.Option.{option_or}
 use Rattle.session_script.specs.declared.step.Step.{Step}
 use Rattle.session_script.specs.declared.step.Step.TheVariants.{Open, Next, Fork, Rewind, Close}
 use Rattle.session_script.specs.declared.script_fault.ScriptFault.{ScriptFault}
-use Rattle.session_script.specs.declared.script_fault.ScriptFault.TheVariants.{TooManyLines, BadLine, UnknownCursor, CursorExists, TooManyOpen, NoMemory}
+use Rattle.session_script.specs.declared.script_fault.ScriptFault.TheVariants.{BadLine, UnknownCursor, CursorExists, TooManyOpen}
 use Rattle.session_script.specs.Words.{is_skipped, step_of}
-use Rattle.session_script.specs.Forms.{Says, IsBadLine, NamesBadLine}
+use Rattle.session_script.specs.Forms.{Says, SayEach, IsBadLine, NamesBadLine, said_lines}
 use Rattle.session_script.specs.Script.{is_open, names_after, known_fault, new_fault, fault_of, unless, turn_by, turn, onto, then_onto, steps_from, Fails}
 use Rattle.session_script.proofs.Said.{said_by}
 use Rattle.session_script.proofs.Kept.{turn_said}
@@ -71,8 +71,8 @@ record BadFrom (first : ℕ) (lines : List (List ℕ)) (n : ℕ) : Type 0 where
   number : n ≡ count + first
   bad : IsBadLine lines (count + 1)
 
-one_further : (first : ℕ) (text : List ℕ) (more : List (List ℕ)) (n : ℕ) → is_skipped text ≡ true → BadFrom (first + 1) more n → BadFrom first (text ∷ more) n
-one_further first text more n skipped b =
+one_more : (first : ℕ) (text : List ℕ) (more : List (List ℕ)) (n : ℕ) (b : BadFrom (first + 1) more n) (steps : List Step) → SayEach (said_lines (text ∷ b.bad.before)) steps → BadFrom first (text ∷ more) n
+one_more first text more n b steps say =
     let number : n ≡ b.count + (first + 1) = b.number in
     let place : b.count + 1 ≡ length b.bad.before + 1 = b.bad.place in
     record {
@@ -86,30 +86,16 @@ one_further first text more n skipped b =
         place = omega arith;
         is_read = b.bad.is_read;
         says_none = b.bad.says_none;
-        steps = b.bad.steps;
-        others_say = rw skipped b.bad.others_say;
+        steps = steps;
+        others_say = say;
       };
     }
 
+one_further : (first : ℕ) (text : List ℕ) (more : List (List ℕ)) (n : ℕ) → is_skipped text ≡ true → BadFrom (first + 1) more n → BadFrom first (text ∷ more) n
+one_further first text more n skipped b = one_more first text more n b b.bad.steps (rw skipped b.bad.others_say)
+
 one_said : (first : ℕ) (text : List ℕ) (more : List (List ℕ)) (step : Step) (n : ℕ) → is_skipped text ≡ false → Says text step → BadFrom (first + 1) more n → BadFrom first (text ∷ more) n
-one_said first text more step n read says b =
-    let number : n ≡ b.count + (first + 1) = b.number in
-    let place : b.count + 1 ≡ length b.bad.before + 1 = b.bad.place in
-    record {
-      count = b.count + 1;
-      number = omega arith;
-      bad = record {
-        before = text ∷ b.bad.before;
-        line = b.bad.line;
-        after = b.bad.after;
-        parts = ap (λ (ls : List (List ℕ)). text ∷ ls) b.bad.parts;
-        place = omega arith;
-        is_read = b.bad.is_read;
-        says_none = b.bad.says_none;
-        steps = step ∷ b.bad.steps;
-        others_say = rw read (says, b.bad.others_say);
-      };
-    }
+one_said first text more step n read says b = one_more first text more n b (step ∷ b.bad.steps) (rw read (says, b.bad.others_say))
 
 bad_here : (first : ℕ) (text : List ℕ) (more : List (List ℕ)) (n : ℕ) → is_skipped text ≡ false → SaysNone first (step_of text) n → BadFrom first (text ∷ more) n
 bad_here first text more n read none = record {
@@ -152,8 +138,4 @@ fails_bad lines n (inr h) = bad_line lines n (bad_from 1 [] lines n h)
 
 pub names_bad : (lines : List (List ℕ)) (e : ScriptFault) → Fails (steps_from 1 [] lines) e → NamesBadLine lines e
 names_bad lines (BadLine n) h = fails_bad lines n h
-names_bad lines TooManyLines h = tt
-names_bad lines (UnknownCursor n) h = tt
-names_bad lines (CursorExists n) h = tt
-names_bad lines (TooManyOpen n) h = tt
-names_bad lines NoMemory h = tt
+names_bad lines _ h = tt

@@ -138,8 +138,5 @@ pub said_by : (line : List ℕ) (o : Option Step) → step_of line ≡ o → IsS
 said_by line None e = λ step h. absurd (let f = complete line step h in cc)
 said_by line (Some step) e = sound line step e
 
-pub said : (line : List ℕ) → IsSaid line (step_of line)
-said line = said_by line (step_of line) refl
-
 pub said_of : (line : List ℕ) (o : Option Step) → o ≡ step_of line → IsSaid line o
 said_of line o e = said_by line o (sym e)

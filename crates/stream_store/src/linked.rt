@@ -1,5 +1,5 @@
 //! Entries of a store, and their names.
-ghost use Rattle.std.specs.Prelude.{◌≡◌, ◌↔◌, ◌+◌, ◌^◌, ◌<◌, ◌≤◌, IsTrue};
+ghost use Rattle.std.specs.Prelude.{◌≡◌, ◌-◌, ◌^◌};
 
 use std::marker::Model;
 
@@ -20,28 +20,12 @@ impl Model for EntryId {
 }
 
 impl EntryId {
-    /// The name of a store's first entry.
-    pub fn first() -> EntryId
-        ensures { result ≡ 0 }
+    /// A name that stands for no entry, where there is room for a name and nothing to name: a store
+    /// has at most 2^32 - 1 entries, so none is at this place.
+    pub fn none() -> EntryId
+        ensures { result ≡ 2 ^ 32 - 1 }
     {
-        EntryId { place: 0 }
-    }
-
-    /// The name of the entry that is `count` places after this one.
-    pub fn later(self, count: u32) -> EntryId
-        requires { self + count < 2 ^ 32 }
-        ensures { result ≡ self + count }
-    {
-        EntryId {
-            place: self.place + count,
-        }
-    }
-
-    /// Whether this is one of the `count` entries from `first` on.
-    pub fn is_within(self, first: EntryId, count: usize) -> bool
-        ensures { IsTrue result ↔ ((first ≤ self) × (self < first + count)) }
-    {
-        self.place >= first.place && ((self.place - first.place) as usize) < count
+        EntryId { place: u32::MAX }
     }
 }
 

@@ -63,16 +63,6 @@ impl<T, A: Allocator + Clone> Store<T, A> {
         self.len
     }
 
-    /// The name that the next new entry will have.
-    pub fn next_id(&self) -> EntryId
-        ensures id { result ≡ length self.now.entries }
-        ensures fits { result < 2 ^ 32 }
-    {
-        EntryId {
-            place: self.len as u32,
-        }
-    }
-
     /// Makes room for at least `count` more entries. After `NoMemory` the store is as it was.
     pub fn reserve(&mut self, count: usize) -> Result<(), NoMemory>
         ensures entries { self.new.entries ≡ self.old.entries }

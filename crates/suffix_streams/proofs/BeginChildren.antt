@@ -1,13 +1,10 @@
 -- The children of a node, by their places.
-use Rattle.std.proofs.Common.{◌≡◌, ◌≢◌, ℕ, zero, suc, ◌+◌, ◌<◌, ◌≤◌, cond, nat_eq, nat_lt, List, [], ◌∷◌, ◌++◌, length, get_or, refl, sym, ap, ◌∙◌, subst, inl, inr, arith}
+use Rattle.std.proofs.Common.{◌≡◌, ◌≢◌, ℕ, zero, suc, ◌+◌, ◌<◌, ◌≤◌, cond, nat_eq, nat_lt, List, [], ◌∷◌, ◌++◌, length, get_or, refl, sym, ap, ◌∙◌, inl, inr, arith}
 use Rattle.std.proofs.lemmas.Bool.{cases_lt, cases_eq}
 use Rattle.std.proofs.lemmas.Bool.Decides.{nat_tests}
-use Rattle.tdp_core.specs.TreeView.{NodeView, parent, child_count, child_place, kids_below}
+use Rattle.tdp_core.specs.TreeView.{NodeView, parent, kids_below}
 use Rattle.tdp_core.proofs.Children.{kids_below_first, kids_below_child, kids_below_other}
-use Rattle.suffix_streams.specs.Rankings.{child_among, child}
-
-kids_at : (parent : ℕ → ℕ) (v n : ℕ) → 0 < n → parent n ≡ v → kids_below parent v (suc n) ≡ kids_below parent v n + 1
-kids_at parent v n some e = let next : suc n ≡ n + 1 = omega arith in ap (kids_below parent v) next ∙ kids_below_child parent v n some e
+use Rattle.suffix_streams.specs.Rankings.{child_among}
 
 kids_past : (parent : ℕ → ℕ) (v n : ℕ) → parent n ≢ v → kids_below parent v (suc n) ≡ kids_below parent v n
 kids_past parent v n e = let next : suc n ≡ n + 1 = omega arith in ap (kids_below parent v) next ∙ kids_below_other parent v n e
@@ -40,32 +37,7 @@ among_before parent v c n l = at n (parent n) v (kids_below parent v n) c (child
     at : (n p v k c x : ℕ) → c < k → cond {A = ℕ} (nat_lt 0 n) (cond (nat_eq p v) (cond (nat_eq k c) n x) x) x ≡ x
     at n p v k c x l = grind (arith, nat_tests)
 
--- the child at place c is a child, and it has that place
-pub among_is : (parent : ℕ → ℕ) (v c n : ℕ) → c < kids_below parent v n
-    → (0 < child_among parent v c n) × (child_among parent v c n < n) × (parent (child_among parent v c n) ≡ v) × (kids_below parent v (child_among parent v c n) ≡ c)
-unfolding kids_below
-among_is parent v c zero l = absurd (omega arith)
-among_is parent v c (suc n) l = elim (cases_lt c (kids_below parent v n)) [
-  | inl before ↦
-      let r = among_is parent v c n before in
-      subst (λ q. (0 < q) × (q < suc n) × (parent q ≡ v) × (kids_below parent v q ≡ c)) (sym (among_before parent v c n before)) (r.0, omega (arith, r.1), r.2, r.3)
-  | inr g ↦ elim (cases_eq n 0) [
-    | inl z ↦ absurd (omega (arith, l, kids_of_one parent v n z))
-    | inr some ↦ elim (cases_eq (parent n) v) [
-      | inl e ↦
-          let k : kids_below parent v n ≡ c = omega (arith, g, l, kids_at parent v n (omega arith) e) in
-          subst (λ q. (0 < q) × (q < suc n) × (parent q ≡ v) × (kids_below parent v q ≡ c)) (sym (among_here parent v c n (omega arith) e k)) (omega arith, omega arith, e, k)
-      | inr other ↦ absurd (omega (arith, g, l, kids_past parent v n other))
-    ]
-  ]
-]
-
 module _ {R : Type 0} (t : List (NodeView R)) where
-  pub child_is : (v c : ℕ) → c < child_count t v → (0 < child t v c) × (child t v c < length t) × (parent t (child t v c) ≡ v) × (child_place t (child t v c) ≡ c)
-  child_is v c l =
-      let r = among_is (parent t) v c (length t) l in
-      (r.0, r.1, r.2, ap (λ z. kids_below (parent t) z (child t v c)) r.2 ∙ r.3)
-
   -- the first n nodes with one more child among them
   pub each_more : (v n : ℕ) (children : List ℕ) → length children ≡ kids_below (parent t) v n → 0 < n → parent t n ≡ v
       → ((c : ℕ) → c < kids_below (parent t) v n → get_or children c 0 ≡ child_among (parent t) v c n)

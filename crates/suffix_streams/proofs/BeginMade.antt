@@ -119,9 +119,6 @@ module _ {R : Type 0} (d : ℕ) (key : R → KeyOf d 16) (t : List (NodeView R))
     ]
   ]
 
-  abbrev made : ℕ → ℕ → ℕ
-  made q h = cond (nat_lt h (length (lists_of nodes q).streams)) 1 0
-
   -- A group's stream is made.
   pub begun_more : (g : ℕ) → v < length t → g ≡ length (lists_of nodes v).streams → g < group_count t v → e.value.node ≡ v → e.value.group ≡ g → e.next ≡ None
       → s.head ≡ length es → key e.value.solution.rank ≡ get_or (group_list d key t v g) 0 (key_none d 16) → ((x : Entry R Source) → e.value.solution ≡ kept_of (get_or s.queue 0 x)) → HasFirst d key t es v g s.queue → IsBegun d key t es nodes → IsBegun d key t (es ++ (e ∷ [])) nodes'

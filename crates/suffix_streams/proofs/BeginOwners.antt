@@ -74,17 +74,6 @@ get_past [] i d l = refl
 get_past (x ∷ xs) zero d l = absurd (omega arith)
 get_past (x ∷ xs) (suc i) d l = get_past xs i d (omega arith)
 
-pub get_taken : {A : Type 0} (xs : List A) (n i : ℕ) (d : A) → i < n → get_or (take n xs) i d ≡ get_or xs i d
-get_taken [] zero i d l = refl
-get_taken [] (suc n) i d l = refl
-get_taken (x ∷ xs) zero i d l = absurd (omega arith)
-get_taken (x ∷ xs) (suc n) zero d l = refl
-get_taken (x ∷ xs) (suc n) (suc i) d l = get_taken xs n i d (omega arith)
-
-pub map_twice : {A B C : Type 0} (f : A → B) (g : B → C) (xs : List A) → map g (map f xs) ≡ map (λ x. g (f x)) xs
-map_twice f g [] = refl
-map_twice f g (x ∷ xs) = ap (λ z. g (f x) ∷ z) (map_twice f g xs)
-
 -- a list of one element
 pub only_one : {A : Type 0} (xs : List A) (a : A) → length xs ≡ 1 → get_or xs 0 a ≡ a → xs ≡ a ∷ []
 only_one [] a l e = absurd (omega arith)

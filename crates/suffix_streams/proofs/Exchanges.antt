@@ -1,7 +1,7 @@
 -- The sum below a sum: its rank is that of the sum with another right part.
 use Rattle.std.proofs.Common.{◌≡◌, ℕ, ◌<◌, Option, Some, None, IfSome, List, [], ◌∷◌, length, get_or, sym, ap, ◌∙◌, subst, arith}
 use Rattle.std.proofs.lemmas.List.Elements.{All-get_or}
-use Rattle.rank_key.specs.Keys.{KeyFits, CanSwap}
+use Rattle.rank_key.specs.Keys.{KeyFits}
 use Rattle.stream_store.specs.declared.linked.Linked.{Linked}
 use Rattle.suffix_streams.specs.QueueEntries.{IsHeld, InProduct}
 use Rattle.take2_heap.specs.declared.entry.Entry.{Entry}
@@ -40,10 +40,6 @@ module _ {R : Type 0} (d : ℕ) (key : R → KeyOf d 16) (es : List (Linked (Fou
   exchanged_none (Some n) o same none = cc
 
   module _ (old new : Found R) (was : (x : Linked (Found R)) → (get_or es sum.tag.right x).value ≡ old) where
-    pub can_swap : (below : Option ℕ) (cell : Cell) → cell_down sum.tag below ≡ Some cell → ((x : Linked (Found R)) → (get_or es cell.right x).value ≡ new) → IfSome below (CanExchange d key es sum) → CanSwap d key (key sum.rank) (key old.solution.rank) (key new.solution.rank)
-    can_swap None cell same will can = cc
-    can_swap (Some n) cell same will can = can _ _ (λ x. ap (λ v. key v.solution.rank) (was x)) (key_read d key es cell.right n new (ap (λ c. c.right) (cell_is sum.tag cell n same)) will)
-
     pub exchanged : (below : Option ℕ) (e : Entry R Cell) → cell_down sum.tag below ≡ Some e.tag → ((x : Linked (Found R)) → (get_or es e.tag.right x).value ≡ new)
         → ((rest : KeyOf d 16) → key sum.rank ≡ key_add d 16 rest (key old.solution.rank) → key e.rank ≡ key_add d 16 rest (key new.solution.rank)) → IsExchanged d key es sum below (Some e)
     exchanged None e same will f = cc

@@ -41,12 +41,6 @@ module _ {R : Type 0} where
       let next : suc n + length queues ≡ n + suc (length queues) = omega arith in
       ap (λ z. stream_at_head n p ∷ z) (headed_more (suc n) queues q ∙ ap (λ m. headed (suc n) queues ++ (stream_at_head m q ∷ [])) next)
 
-  -- the first stream
-  pub headed_first : (n head : ℕ) (queues : List (Heap R Source)) (q : Heap R Source) → length queues ≡ 0 → headed head (queues ++ (q ∷ [])) ≡ headed n queues ++ (stream_at_head head q ∷ [])
-  unfolding headed
-  headed_first n head [] q e = refl
-  headed_first n head (p ∷ queues) q e = absurd (omega (arith, e))
-
   -- no stream is there yet
   pub next_head_none : (streams : List (StreamView R)) (n : ℕ) → length streams ≡ 0 → IsNextHead streams n
   next_head_none [] n e = tt
@@ -67,6 +61,12 @@ module _ {R : Type 0} where
   next_head_is n [] head l h = absurd (omega arith)
   next_head_is n (q ∷ queues) head l h = omega (arith, h, headed_length (suc n) queues)
 
-  -- a further stream
-  pub headed_next : (n head : ℕ) (queues : List (Heap R Source)) (q : Heap R Source) → 0 < length queues → IsNextHead (headed n queues) head → headed n (queues ++ (q ∷ [])) ≡ headed n queues ++ (stream_at_head head q ∷ [])
-  headed_next n head queues q l h = headed_more n queues q ∙ ap (λ m. headed n queues ++ (stream_at_head m q ∷ [])) (sym (next_head_is n queues head l h))
+  -- one more stream, at the head that comes next: with it the streams begin at `first`, which is the new head if it is the first one
+  pub headed_next : (n first head : ℕ) (queues : List (Heap R Source)) (q : Heap R Source) → IsNextHead (headed n queues) head → first + length queues ≡ head
+      → headed first (queues ++ (q ∷ [])) ≡ headed n queues ++ (stream_at_head head q ∷ [])
+  unfolding headed
+  headed_next n first head [] q h at = let same : first ≡ head = omega (arith, at) in ap (λ m. stream_at_head m q ∷ []) same
+  headed_next n first head (p ∷ queues) q h at =
+      let same : first ≡ n = omega (arith, at, next_head_is n (p ∷ queues) head (omega arith) h) in
+      ap (λ m. headed m ((p ∷ queues) ++ (q ∷ []))) same ∙ headed_more n (p ∷ queues) q
+      ∙ ap (λ m. headed n (p ∷ queues) ++ (stream_at_head m q ∷ [])) (sym (next_head_is n (p ∷ queues) head (omega arith) h))

@@ -49,7 +49,7 @@ module _ (d : ℕ) (k : KeyOf d 16) where
 -- a row's own number
 module _ {R : Type 0} (d : ℕ) (key : R → KeyOf d 16) (t : List (NodeView R)) (formed : IsFormed d key t) (v r : ℕ) (l : v < length t) (row : r < rows t v) (numbers : List ℕ) where
   own_slot : slot_of d 16 (item t v) (rank t d key v r) ≡ number t v r
-  own_slot = (formed.rows_fit v r l row).2 (item t v) (formed.shaped.items v l) ∙ cond-true (nat_eq (item t v) (item t v)) (number t v r) 0 (eq-eqb (item t v) (item t v) refl)
+  own_slot = (formed.rows_fit v r l row).slots (item t v) (formed.shaped.items v l) ∙ cond-true (nat_eq (item t v) (item t v)) (number t v r) 0 (eq-eqb (item t v) (item t v) refl)
 
   pub own_added : length numbers ≡ 16 → AreAdded d numbers (rank t d key v r) (slice_set numbers (item t v) (get_or numbers (item t v) 0 + number t v r))
   own_added long i b = elim (cases_eq i (item t v)) [
@@ -61,7 +61,7 @@ module _ {R : Type 0} (d : ℕ) (key : R → KeyOf d 16) (t : List (NodeView R))
         omega (
           arith,
           get_or-set_other numbers (item t v) i (get_or numbers (item t v) 0 + number t v r) 0 n,
-          (formed.rows_fit v r l row).2 i b,
+          (formed.rows_fit v r l row).slots i b,
           cond-false (nat_eq i (item t v)) (number t v r) 0 (ne_eqb i (item t v) n),
         )
   ]

@@ -198,13 +198,6 @@ module _ {R : Type 0} (d : ℕ) (key : R → KeyOf d 16) (t : List (NodeView R))
       (product_stays d key t es es nodes (slice_set nodes v (with_product (lists_of nodes v) r c p)) (held_itself es) v r c (ap (λ z. z.found) new ∙ found) (ap (λ z. z.frontier) new ∙ frontier) (ap (λ z. z.ranks) new ∙ ranks)
       (changed_known d key t es nodes h v r c p l row in_row rises v r c) (h.products v r c l row in_row))
 
-  pub reached_kept : (v r c k place : ℕ) (p : ProductView R) → v < length t → r < rows t v → c < length (products_of nodes v r) → p.found ≡ (product_of nodes v r c).found → IsReached d key t nodes v r k place
-      → IsReached d key t (slice_set nodes v (with_product (lists_of nodes v) r c p)) v r k place
-  reached_kept v r c k place p l row in_row found (inl a) =
-      let rises : length (product_of nodes v r c).found ≤ length p.found = omega (arith, ap length found) in
-      inl (omega (arith, a, changed_known d key t es nodes h v r c p l row in_row rises v r k))
-  reached_kept v r c k place p l row in_row found (inr a) = inr a
-
   -- the head of a stream stays the same entry
   pub head_stays : (k q g : ℕ) (es' : List (Linked (Found R))) (nodes' : List (NodeStreamsView R)) → IsStoreGrown k es es' → IsStreams d key t es' nodes' → q < length t → g < group_count t q → (stream_of nodes' q g).head ≡ (stream_of nodes q g).head
   head_stays k q g es' nodes' grown h' l in_group =

@@ -14,7 +14,7 @@ use Rattle.tdp_model.specs.Product.{Pair, pair_key}
 use Rattle.suffix_streams.specs.Offers.{offers}
 use Rattle.suffix_streams.specs.QueueEntries.{IsHeld, InProduct}
 use Rattle.suffix_streams.specs.Links.{IsLinkedAt}
-use Rattle.suffix_streams.proofs.Held.{MaybeHolds, all_offers, held_moved}
+use Rattle.suffix_streams.proofs.Held.{MaybeHolds, all_offers}
 use Rattle.suffix_streams.proofs.Linking.{place_once}
 use Rattle.suffix_streams.proofs.Steps.{IsDown, IsAcross}
 use Rattle.suffix_streams.specs.declared.cell.Cell.{Cell}
@@ -163,9 +163,6 @@ module _ {R : Type 0} (d : ℕ) (key : R → KeyOf d 16) (t : List (NodeView R))
 
   pub new_known : All Known new
   new_known = All-tail Known top new (All-permutation Known (offers down across old.frontier) (top ∷ new) moved (all_offers Known down across old.frontier down_all.1 across_all.1 own.known))
-
-  pub new_held : All Held new
-  new_held = held_moved d key (pair_key (key_add d 16) (key_none d 16) xs ys) (InProduct d xs ys) (pair_of es) down across None top old.frontier new moved down_all.0 across_all.0 tt own.sums.held
 
   -- nothing follows
   pub sums_end : new ≡ [] → (length old.found ≡ length (part_list d key t v r (suc c))) × IsFrontier d key (pair_of es) xs ys (part_list d key t v r (suc c)) old.found []

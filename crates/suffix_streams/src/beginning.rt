@@ -1,5 +1,5 @@
 //! The streams of a tree at their start, when each has only its head.
-ghost use Rattle.std.specs.Prelude.{◌≡◌, ℕ, ◌+◌, ◌*◌, ◌^◌, ◌<◌, ◌≤◌, [], ◌∷◌, ◌++◌, length, IfOk, OnOk};
+ghost use Rattle.std.specs.Prelude.{◌≡◌, ℕ, ◌+◌, ◌*◌, ◌<◌, ◌≤◌, [], ◌∷◌, ◌++◌, length, IfOk, OnOk};
 ghost use Rattle.tdp_core.specs.TreeView.{rows, row_count, group_count};
 ghost use Rattle.tdp_core.specs.WellFormed.{IsFormed};
 ghost use Rattle.suffix_streams.specs.StreamView.{IsNextHead};
@@ -17,7 +17,7 @@ use rank_key::Rank;
 use std::alloc::Allocator;
 use std::sync::ledger::Ledger;
 use step_counter::{NoMemory, Steps};
-use stream_store::{EntryId, Store};
+use stream_store::{EntryId, Run, Store};
 use take2_heap::Entry;
 use tdp_core::Tree;
 
@@ -62,7 +62,7 @@ fn empty_node<R: Rank, A: Allocator + Clone>(
     let streams = list_with_room(alloc, tree.groups(node) as usize)?;
     Ok(NodeStreams {
         children,
-        first_head: EntryId::first(),
+        heads: Run::new(),
         streams,
         products,
     })
@@ -91,19 +91,16 @@ impl<R: Rank, A: Allocator> NodeStreams<R, A> {
     /// Adds the stream of the next group, whose queue has this solution. Its head comes after that of
     /// the group before it. `NoMemory` if memory is refused.
     fn add_stream(&mut self, head: EntryId, first: Entry<R, Source>) -> Result<(), NoMemory>
-        requires next { IsNextHead self.old.streams head }
-        requires fits { head < 2 ^ 32 }
+        requires { IsNextHead self.old.streams head }
         ensures { OnOk result
             (self.new ≡ record self.old {
               streams = self.old.streams
                   ++ record { head = head; queue = first ∷ []; room = 0 } ∷ [];
             }) }
     {
-        if self.streams.is_empty() {
-            self.first_head = head;
-        }
         self.streams.reserve(1)?;
         self.streams.push_reserved(Queue::of(first));
+        self.heads.add(head);
         Ok(())
     }
 }
@@ -131,10 +128,9 @@ fn begin_group<R: Rank, A: Allocator + Clone, L: Ledger>(
         (IsNextHead (lists_of nodes.new.items node).streams (length entries.new.entries)) }
     ensures cost { steps.new ≤ steps.old + 5 }
 {
-    let head = entries.next_id();
     let first = first_solution(tree, nodes.as_slice(), entries, node, group, 0, steps);
     entries.reserve(1)?;
-    entries.push_reserved(
+    let head = entries.push_reserved(
         Found {
             node,
             group,

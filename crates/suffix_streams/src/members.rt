@@ -11,7 +11,7 @@ ghost use Rattle.suffix_streams.specs.Firsts.{IsFirstOf, IsFirstBelow, AreFirsts
 
 use crate::node::NodeStreams;
 use crate::reads::first_cell;
-use crate::source::{Source, source_row};
+use crate::source::Source;
 use crate::stream::Found;
 use rank_key::Rank;
 use std::alloc::Allocator;
@@ -40,7 +40,7 @@ pub(crate) fn first_solution<R: Rank, A: Allocator + Clone, L: Ledger>(
     ensures first { IsFirstOf R.KEYS R.key tree.now entries.now.entries node group member result }
     ensures cost { steps.new ≤ steps.old + 4 }
 {
-    let row = source_row(tree, node, group, member, steps);
+    let row = tree.member(node, group, member, steps);
     let number = tree.row_at(node, row, steps).row;
     let rank = tree.best(node, row, steps);
     let cell = first_cell(tree, nodes, entries, node, row, steps);

@@ -22,7 +22,7 @@ use std::alloc::Allocator;
 use std::marker::Model;
 use std::sync::ledger::Ledger;
 use step_counter::{NoMemory, Steps};
-use stream_store::EntryId;
+use stream_store::{EntryId, Run};
 use take2_heap::Entry;
 
 /// The data of one node: its children, the stream of each of its groups, and the products of those
@@ -30,9 +30,9 @@ use take2_heap::Entry;
 #[derive(Drop)]
 pub(crate) struct NodeStreams<R: Rank, A: Allocator> {
     pub(crate) children: Vec<u32, A>,
-    /// The first entry of the first group. Those of the other groups come after it in their order,
-    /// so that none is kept for each group.
-    pub(crate) first_head: EntryId,
+    /// The first entry of each group. They are one run of the store, so that none is kept for each
+    /// group.
+    pub(crate) heads: Run,
     /// For each group a queue of what follows its stream. Its top is the last entry of the stream,
     /// until the entry after it is asked for. It begins with the first solution of the group's first
     /// member. The first solution of each other member enters when the one of the member above it in
@@ -42,7 +42,7 @@ pub(crate) struct NodeStreams<R: Rank, A: Allocator> {
 }
 
 impl<R: Rank, A: Allocator> Model for NodeStreams<R, A> {
-    ghost use Rattle.std.specs.Prelude.{◌≡◌, ◌+◌, ◌^◌, ◌≤◌, length};
+    ghost use Rattle.std.specs.Prelude.{◌≡◌, length};
     ghost use Rattle.suffix_streams.specs.StreamView.{headed};
     ghost use Rattle.suffix_streams.specs.NodeStreamsView.{NodeStreamsView};
 
@@ -50,12 +50,12 @@ impl<R: Rank, A: Allocator> Model for NodeStreams<R, A> {
 
     ghost view = { λ n. record {
       children = n.children.items;
-      streams = headed n.first_head n.streams.items;
+      streams = headed n.heads.first n.streams.items;
       products = n.products.rows;
     } };
 
     ghost invariant = { λ n. (n.products.width ≡ length n.children.items)
-        × (n.first_head + length n.streams.items ≤ 2 ^ 32) };
+        × (n.heads.count ≡ length n.streams.items) };
 }
 
 impl<R: Rank, A: Allocator> NodeStreams<R, A> {
@@ -79,7 +79,7 @@ impl<R: Rank, A: Allocator> NodeStreams<R, A> {
         requires group { group < length self.now.streams }
         ensures { result ≡ (stream_at self.now group).head }
     {
-        self.first_head.later(group)
+        self.heads.get(group)
     }
 
     /// Whether an entry is the first one of a group. Its name alone tells, so nothing of the entry
@@ -87,7 +87,7 @@ impl<R: Rank, A: Allocator> NodeStreams<R, A> {
     pub(crate) fn is_head(&self, entry: EntryId) -> bool
         ensures { IsTrue result ↔ HasHead self.now entry }
     {
-        entry.is_within(self.first_head, self.streams.len())
+        self.heads.contains(entry)
     }
 
     /// The number of products of a row.

@@ -29,7 +29,7 @@ pub(crate) enum Held<R: Rank, T: Copy, A: Allocator> {
 /// queue. Contracts see the entries in heap order, the top first, and the number of further ones
 /// for which room is reserved.
 #[derive(Drop)]
-pub struct Queue<R: Rank, T: Copy, A: Allocator> {
+pub(crate) struct Queue<R: Rank, T: Copy, A: Allocator> {
     held: Held<R, T, A>,
 }
 
@@ -44,7 +44,7 @@ impl<R: Rank, T: Copy, A: Allocator> Model for Queue<R, T, A> {
 
 impl<R: Rank, T: Copy, A: Allocator> Queue<R, T, A> {
     /// The queue of one entry. It takes no memory.
-    pub fn of(entry: Entry<R, T>) -> Queue<R, T, A>
+    pub(crate) fn of(entry: Entry<R, T>) -> Queue<R, T, A>
         ensures entries { result.entries ≡ entry ∷ [] }
         ensures spare { result.spare ≡ 0 }
     {
@@ -54,7 +54,7 @@ impl<R: Rank, T: Copy, A: Allocator> Queue<R, T, A> {
     }
 
     /// The number of entries.
-    pub fn len(&self) -> usize
+    pub(crate) fn len(&self) -> usize
         ensures { result ≡ length self.now.entries }
     {
         match &self.held {
@@ -65,7 +65,7 @@ impl<R: Rank, T: Copy, A: Allocator> Queue<R, T, A> {
     }
 
     /// The top, before which no entry is; `None` if the queue is empty.
-    pub fn top(&self) -> Option<Entry<R, T>>
+    pub(crate) fn top(&self) -> Option<Entry<R, T>>
         ensures variant { IsSome result ↔ (0 < length self.now.entries) }
         ensures top { IfSome result
             (λ e. (d : Entry R T) → e ≡ slice_index_or self.now.entries 0 d) }
@@ -88,7 +88,7 @@ impl<R: Rank, T: Copy, A: Allocator> Queue<R, T, A> {
     /// Passes the top: the one or two entries that follow it, if there are any, take its place. It
     /// takes no memory, and at most 2 * b + c steps for n entries, where n has b binary digits and
     /// n + 1 has c.
-    pub fn pass<L: Ledger>(
+    pub(crate) fn pass<L: Ledger>(
         &mut self,
         next: Option<Entry<R, T>>,
         other: Option<Entry<R, T>>,
@@ -117,7 +117,7 @@ impl<R: Rank, T: Copy, A: Allocator> Queue<R, T, A> {
 
     /// Adds an entry, if there is one, in reserved room. It takes at most as many steps as the new
     /// number of entries has binary digits.
-    pub fn offer<L: Ledger>(&mut self, entry: Option<Entry<R, T>>, steps: &mut Steps<L>)
+    pub(crate) fn offer<L: Ledger>(&mut self, entry: Option<Entry<R, T>>, steps: &mut Steps<L>)
         requires room { IsSome entry → 0 < self.old.spare }
         ensures moved { IsPermutation (offers entry None self.old.entries) self.new.entries }
         ensures cost { steps.new ≤ steps.old + bit_length (length self.new.entries) }
@@ -134,7 +134,7 @@ impl<R: Rank, T: Copy, A: Allocator> Queue<R, T, A> {
 impl<R: Rank, T: Copy, A: Allocator + Clone> Queue<R, T, A> {
     /// Makes room for at least `count` more entries, from `alloc` if there was none before. After
     /// `NoMemory` the queue is as it was. If there is room enough already, the call succeeds.
-    pub fn reserve(&mut self, alloc: &A, count: usize) -> Result<(), NoMemory>
+    pub(crate) fn reserve(&mut self, alloc: &A, count: usize) -> Result<(), NoMemory>
         ensures entries { self.new.entries ≡ self.old.entries }
         ensures ok { OnOk result (count ≤ self.new.spare) }
         ensures grows { self.old.spare ≤ self.new.spare }

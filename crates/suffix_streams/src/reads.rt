@@ -71,7 +71,7 @@ pub(crate) fn first_cell<R: Rank, A: Allocator + Clone, L: Ledger>(
     if children == 0 {
         return Cell {
             left: 0,
-            right: entries.next_id(),
+            right: EntryId::none(),
         };
     }
     let right = child_head(tree, nodes, entries, node, row, children - 1, steps);

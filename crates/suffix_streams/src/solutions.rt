@@ -16,7 +16,7 @@ ghost use Rattle.suffix_streams.specs.ProductTops.{IsStepReady};
 ghost use Rattle.suffix_streams.specs.Refusals.{AreUnstepped};
 ghost use Rattle.suffix_streams.specs.Growing.{IsStoreGrown, IsGrown, IsExtended, IsReached, IsAnswered, HasOtherProduct, AreQueuesGrown, IsWithinSteps, below_kids, kids_size};
 
-use crate::cell::{Cell, across_cell};
+use crate::cell::{Cell, cell_beside};
 use crate::members::pass_last;
 use crate::node::NodeStreams;
 use crate::product::Product;
@@ -220,7 +220,8 @@ impl<'t, R: Rank, A: Allocator + Clone> Solutions<'t, R, A> {
     {
         let lists = &self.nodes[node as usize];
         let count = lists.child_count();
-        (count, next_place(place, lists.known(row, count)))
+        prove!(place < lists.known(row, count));
+        (count, place + 1)
     }
 
     /// The search in the product before number `child` that a step from `cell` needs, as a number
@@ -241,8 +242,8 @@ impl<'t, R: Rank, A: Allocator + Clone> Solutions<'t, R, A> {
         ensures apart { IsFalse beside → (result.0 ≡ 0) × (result.1 ≡ 0) }
     {
         if beside {
-            let known = self.nodes[node as usize].known(row, child);
-            (child, next_place(cell.left, known))
+            prove!(cell.left < self.nodes[node as usize].known(row, child));
+            (child, cell.left + 1)
         } else {
             (0, 0)
         }
@@ -498,27 +499,4 @@ fn has_beside<R: Rank, A: Allocator>(
     }
     let child_node = nodes[node as usize].child(child);
     nodes[child_node as usize].is_head(right)
-}
-
-/// The cell beside this one, if the step can go there and the next left part is one of the `known`
-/// ones.
-fn cell_beside(cell: &Cell, beside: bool, known: u32) -> Option<Cell>
-    requires { cell.now.left < known }
-    ensures { MatchOption result (IsTrue beside → known ≤ cell.now.left + 1)
-        (λ c. (IsTrue beside) × (cell.now.left + 1 < known)
-        × (c ≡ record { left = cell.now.left + 1; right = cell.now.right })) }
-{
-    if beside {
-        across_cell(cell, cell.right, known)
-    } else {
-        None
-    }
-}
-
-/// The place after this one, which is one of `known` places.
-fn next_place(place: u32, known: u32) -> u32
-    requires { place < known }
-    ensures { result ≡ place + 1 }
-{
-    place + 1
 }

@@ -9,7 +9,7 @@ use Rattle.table_store.specs.Values.{IsNumber}
 use Rattle.table_store.specs.Tables.{IsSound, stored_views}
 use Rattle.table_store.specs.declared.stored.StoredTable.{StoredTable}
 use Rattle.table_store.proofs.Cuts.{cut_rows_cell, cut_rows_length}
-use Rattle.anyk_model.proofs.Flaws.{option_or_first, option_or_second, rows_few, rows_width, unmet}
+use Rattle.anyk_model.proofs.Flaws.{option_or_first, option_or_second, rows_few, unmet}
 use Rattle.table_store.proofs.Stands.{stands_at, stands_length}
 
 -- ---- sound tables
@@ -27,9 +27,6 @@ pub sound_few_columns : (table : Table) → IsSound table → length table.names
 sound_few_columns table sound =
     let h = option_or_first (header_flaw table.names) (rows_flaw (length table.names) 1 table.rows) sound in
     ltb-false 64 (length table.names) (unmet (nat_lt 64 (length table.names)) too_many_columns _ h).0
-
-pub sound_width : (table : Table) (i : ℕ) → IsSound table → i < length table.rows → length (get_or table.rows i []) ≡ length table.names
-sound_width table i sound inside = rows_width (length table.names) 1 table.rows i (sound_rows table sound) inside
 
 -- ---- places
 

@@ -102,9 +102,6 @@ stands_more old new numbers fields more stands = record {
   each = zip_more (λ n f. IsNumber old f n) (λ n f. IsNumber new f n) (λ n f has. number_more old new more (own_number f) f n has) numbers fields stands.each;
 }
 
-pub stands_none : (texts : List (List ℕ)) → StandsFor texts [] []
-stands_none texts = record { each = tt }
-
 pub stands_append : (texts : List (List ℕ)) (numbers more : List ℕ) (fields others : Fields) → StandsFor texts numbers fields → StandsFor texts more others
     → StandsFor texts (numbers ++ more) (fields ++ others)
 stands_append texts numbers more fields others a b = record { each = zip_append (λ n f. IsNumber texts f n) numbers more fields others a.each b.each }

@@ -37,8 +37,15 @@ impl Tables {
     ghost use Rattle.table_store.specs.StoredTables.{IsStored, stored_view};
     ghost use Rattle.table_store.specs.Tables.{IsSound};
 
+    /// No tables, which will be hashed with known keys. Takes no memory.
+    pub fn new(alloc: Global) -> Tables
+        ensures { result ≡ [] }
+    {
+        Tables::with_keys(alloc, Keys::Known)
+    }
+
     /// No tables, which will be hashed with these keys. Takes no memory.
-    pub fn new(alloc: Global, keys: Keys) -> Tables
+    pub fn with_keys(alloc: Global, keys: Keys) -> Tables
         ensures { result ≡ [] }
     {
         Tables {
@@ -95,39 +102,39 @@ impl Tables {
     }
 
     /// The name of a column. Tables and columns count from 0.
-    pub fn name(&self, table: u32, column: u32) -> &[u8]
+    pub fn name(&self, table: u32, col: u32) -> &[u8]
         requires table { table < length self.now }
-        requires column { column < length (table_at self.now table).names }
-        ensures { result.now ≡ get_or (table_at self.now table).names column [] }
+        requires column { col < length (table_at self.now table).names }
+        ensures { result.now ≡ get_or (table_at self.now table).names col [] }
     {
-        self.tables[table as usize].names[column as usize].as_slice()
+        self.tables[table as usize].names[col as usize].as_slice()
     }
 
     /// The number of a field, the same for two fields of any tables exactly if their bytes are the
     /// same. Tables and columns count from 0, and rows from 1.
-    pub fn value(&self, table: u32, row: u32, column: u32) -> u32
+    pub fn value(&self, table: u32, row: u32, col: u32) -> u32
         requires table { table < length self.now }
         requires first { 1 ≤ row }
         requires row { row ≤ length (table_at self.now table).rows }
-        requires column { column < length (table_at self.now table).names }
+        requires column { col < length (table_at self.now table).names }
         ensures { result ≡ number_of self.now
-            (field_at (table_at self.now table) (row - 1) column) }
+            (field_at (table_at self.now table) (row - 1) col) }
     {
         let stored = &self.tables[table as usize];
-        stored.rows.cells[(row as usize - 1) * stored.names.len() + column as usize]
+        stored.rows.cells[(row as usize - 1) * stored.names.len() + col as usize]
     }
 
     /// The number that a field writes as a decimal without a sign and without leading zeros, if it
     /// is below `FIRST_TEXT`, and `None` for any other field. It is read without the bytes of the
     /// field. Tables and columns count from 0, and rows from 1.
-    pub fn own_number(&self, table: u32, row: u32, column: u32) -> Option<u32>
+    pub fn own_number(&self, table: u32, row: u32, col: u32) -> Option<u32>
         requires table { table < length self.now }
         requires first { 1 ≤ row }
         requires row { row ≤ length (table_at self.now table).rows }
-        requires column { column < length (table_at self.now table).names }
-        ensures { result ≡ own_number (field_at (table_at self.now table) (row - 1) column) }
+        requires column { col < length (table_at self.now table).names }
+        ensures { result ≡ own_number (field_at (table_at self.now table) (row - 1) col) }
     {
-        let number = self.value(table, row, column);
+        let number = self.value(table, row, col);
         if number < FIRST_TEXT {
             Some(number)
         } else {
@@ -136,35 +143,35 @@ impl Tables {
     }
 
     /// The bytes of a field. Tables and columns count from 0, and rows from 1.
-    pub fn field(&self, table: u32, row: u32, column: u32) -> &[u8]
+    pub fn field(&self, table: u32, row: u32, col: u32) -> &[u8]
         requires table { table < length self.now }
         requires first { 1 ≤ row }
         requires row { row ≤ length (table_at self.now table).rows }
-        requires column { column < length (table_at self.now table).names }
-        ensures { result.now ≡ field_at (table_at self.now table) (row - 1) column }
+        requires column { col < length (table_at self.now table).names }
+        ensures { result.now ≡ field_at (table_at self.now table) (row - 1) col }
     {
         let stored = &self.tables[table as usize];
         let width = stored.names.len();
         stored
             .rows
             .fields
-            .get((row as usize - 1) * width + column as usize)
+            .get((row as usize - 1) * width + col as usize)
     }
 
     /// The weight that a field writes: 0 if it is empty, else an optional `+` or `-` and 1 to 39
     /// digits, if the number fits an `i128`. `None` for any other field. Tables and columns count
     /// from 0, and rows from 1.
-    pub fn weight(&self, table: u32, row: u32, column: u32) -> Option<i128>
+    pub fn weight(&self, table: u32, row: u32, col: u32) -> Option<i128>
         requires table { table < length self.now }
         requires first { 1 ≤ row }
         requires row { row ≤ length (table_at self.now table).rows }
-        requires column { column < length (table_at self.now table).names }
-        ensures { result ≡ weight_of (field_at (table_at self.now table) (row - 1) column) }
+        requires column { col < length (table_at self.now table).names }
+        ensures { result ≡ weight_of (field_at (table_at self.now table) (row - 1) col) }
     {
-        if let Some(number) = self.own_number(table, row, column) {
+        if let Some(number) = self.own_number(table, row, col) {
             return Some(number as i128);
         }
-        parse_weight(self.field(table, row, column))
+        parse_weight(self.field(table, row, col))
     }
 }
 

@@ -1,5 +1,4 @@
 pub mod Heights
 pub mod Holes
 pub mod Sifting
-pub mod Subtree
 pub mod Rooms

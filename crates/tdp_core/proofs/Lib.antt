@@ -15,4 +15,5 @@ pub mod RowKeys
 pub mod RowPlaces
 pub mod AnswerFacts
 pub mod TreeFacts
+pub mod WideTrees
 pub mod OptionFacts

@@ -87,9 +87,6 @@ module _ {R : Type 0} where
         }
 
   module _ (w : ℕ) (rows : List (NodeRow R)) (owns named : List ℕ) (formed : AreRawRows w rows owns named) (i : ℕ) (inside : i < length rows) where
-    abbrev at_row : RawRowView R → Type 0
-    at_row x = slice_get (raw_rows w rows owns named) i ≡ Some x
-
     -- the links that a row names
     pub names_read : (x : NodeRow R) → x ≡ get_or rows i x → get_or (map (λ r. r.children) (raw_rows w rows owns named)) i [] ≡ take w (drop (i * w) named)
     names_read x at = field_read (λ r. r.children) (raw_rows w rows owns named) i (with_links w owns named i x) [] (rows_read w rows owns named i x formed.all_own inside at)

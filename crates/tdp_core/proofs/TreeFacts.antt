@@ -1,17 +1,16 @@
 -- What a well-formed tree is for the theory of ranked enumeration.
-use Rattle.std.proofs.Common.{◌≡◌, ◌≢◌, ℕ, zero, suc, ◌+◌, ◌-◌, ◌<◌, ◌≤◌, Bool, true, false, cond, nat_eq, List, [], ◌∷◌, ◌++◌, length, map, get_or, unsigned_abs, refl, sym, ap, subst, ◌∙◌, inl, inr, arith}
+use Rattle.std.proofs.Common.{◌≡◌, ◌≢◌, ◌⊎◌, ℕ, zero, suc, ◌+◌, ◌-◌, ◌<◌, ◌≤◌, Bool, true, false, cond, nat_eq, List, [], ◌∷◌, ◌++◌, length, map, get_or, unsigned_abs, refl, sym, ap, subst, ◌∙◌, inl, inr, arith}
 use Rattle.std.proofs.lemmas.Bool.{cases_lt, cases_eq, eq-eqb, ne_eqb, cond-true, cond-false}
 use Rattle.std.proofs.lemmas.List.{length-map, get_or_past}
-use Rattle.tdp_model.specs.Laws.{TieFreeTree}
 use Rattle.tdp_model.specs.KeyTuple.{KeyOf, key_below, key_add, key_none, slot_of}
 use Rattle.tdp_model.specs.KeyNumbers.{sum_of}
 use Rattle.tdp_model.specs.TreeProblem.{sum_from, bound_of, IsAbove, IsTree, IsTieFree, IsReached, RowHas, PartHas}
 use Rattle.tdp_model.proofs.KeyTuples.{slot_of_add, slot_of_none, tuple_keys}
 use Rattle.tdp_model.proofs.KeyNumbers.{sum_of_none}
-use Rattle.rank_key.specs.Keys.{KeyFits, CanSwap}
+use Rattle.rank_key.specs.Keys.{IsHeld, KeyFits, CanSwap}
 use Rattle.tdp_model.specs.Remains.{AtMost}
 use Rattle.tdp_model.proofs.LeastKeys.{least_had, least_at_most}
-use Rattle.tdp_core.proofs.KeyRanges.{subtree_fits, part_fits, swap_fits}
+use Rattle.tdp_core.proofs.KeyRanges.{rank_had, subtree_fits, part_fits, swap_fits}
 use Rattle.tdp_core.specs.TreeView.{NodeView, node_at, parent, item, cap, rows, number, child_place, group_count, members, group_named, group_number, group, rank, best}
 use Rattle.tdp_core.specs.Solutions.{IsLeastKey}
 use Rattle.tdp_core.specs.WellFormed.{IsFormed, RowFits, IsTieFreeTree}
@@ -89,7 +88,7 @@ module _ {R : Type 0} (d : ℕ) (key : R → KeyOf d 16) (t : List (NodeView R))
 
   slot_at : (v r i : ℕ) → v < length t → i < 16 → slot_of d 16 i (rank t d key v r) ≡ cond (nat_eq i (item t v)) (number t v r) 0
   slot_at v r i l h = elim (cases_lt r (rows t v)) [
-    | inl in_range ↦ (formed.rows_fit v r l in_range).2 i h
+    | inl in_range ↦ (formed.rows_fit v r l in_range).slots i h
     | inr past ↦
         let no_rank : rank t d key v r ≡ key_none d 16 = get_or_past (map (λ x. key x.rank) (node_at t v).rows) r (key_none d 16) (omega (arith, length-map (node_at t v).rows (λ x. key x.rank))) in
         let no_number : number t v r ≡ 0 = get_or_past (map (λ x. x.row) (node_at t v).rows) r 0 (omega (arith, length-map (node_at t v).rows (λ x. x.row))) in
@@ -106,12 +105,14 @@ module _ {R : Type 0} (d : ℕ) (key : R → KeyOf d 16) (t : List (NodeView R))
     | inl in_range ↦ formed.rows_fit v r l in_range
     | inr past ↦
         let no_rank : rank t d key v r ≡ key_none d 16 = get_or_past (map (λ x. key x.rank) (node_at t v).rows) r (key_none d 16) (omega (arith, length-map (node_at t v).rows (λ x. key x.rank))) in
-        let no_number : number t v r ≡ 0 = get_or_past (map (λ x. x.row) (node_at t v).rows) r 0 (omega (arith, length-map (node_at t v).rows (λ x. x.row))) in (
-          omega (arith, no_number),
-          (λ i h. omega (arith, ap (λ k. unsigned_abs (sum_of d 16 i k)) no_rank, ap unsigned_abs (sum_of_none d 16 i))),
-          (λ i h. slot_at v r i l h),
-        )
+        record {
+          sums = λ i h. omega (arith, ap (λ k. unsigned_abs (sum_of d 16 i k)) no_rank, ap unsigned_abs (sum_of_none d 16 i));
+          slots = λ i h. slot_at v r i l h;
+        }
   ]
+
+  key_had : (v r : ℕ) → (rank t d key v r ≡ key_none d 16) ⊎ IsHeld d key (rank t d key v r)
+  key_had v r = rank_had d key (node_at t v).rows r
 
   -- A tree without equal row numbers in a group is tie-free as the theory has it.
   pub tie_free_of : IsTieFreeTree t → IsTieFree (KeyOf d 16) (key_add d 16) (key_none d 16) (length t) (rank t d key) (group t) (item t) (number t) (slot_of d 16)
@@ -127,28 +128,12 @@ module _ {R : Type 0} (d : ℕ) (key : R → KeyOf d 16) (t : List (NodeView R))
 
   -- what joins and swaps of keys ask
   pub subtree_key_fits : (depth v r : ℕ) (k : KeyOf d 16) → v < length t → RowHas (key_add d 16) (key_none d 16) (length t) (parent t) (rank t d key) (group t) depth v r k → KeyFits d key k
-  subtree_key_fits = subtree_fits d key (length t) (parent t) (item t) (cap t) (number t) (rank t d key) formed.shaped formed.held ranked_of (group t)
+  subtree_key_fits = subtree_fits d key (length t) (parent t) (item t) (cap t) (number t) (rank t d key) formed.shaped formed.held ranked_of key_had (group t)
 
   pub part_key_fits : (depth v r n : ℕ) (k : KeyOf d 16) → v < length t → n ≤ length t - suc v → PartHas (key_add d 16) (key_none d 16) (length t) (parent t) (rank t d key) (group t) depth v r n k → KeyFits d key k
-  part_key_fits = part_fits d key (length t) (parent t) (item t) (cap t) (number t) (rank t d key) formed.shaped formed.held ranked_of (group t)
+  part_key_fits = part_fits d key (length t) (parent t) (item t) (cap t) (number t) (rank t d key) formed.shaped formed.held ranked_of key_had (group t)
 
   pub can_swap : 0 < group_count t 0 → (n : ℕ) (pre : List ℕ) (x y : ℕ) → IsReached (length t) (λ v r. r < rows t v) (suc n) pre → x < rows t (length pre) → y < rows t (length pre)
       → CanSwap d key (bound_of (key_add d 16) (key_none d 16) (length t) (parent t) (rank t d key) (group t) (best t d key) (pre ++ (x ∷ []))) (best t d key (length pre) x) (best t d key (length pre) y)
   can_swap live =
-      swap_fits d key (length t) (parent t) (item t) (cap t) (number t) (rank t d key) formed.shaped formed.held ranked_of (group t) (best t d key) (λ v r. r < rows t v) (tree_of live)
-
-  -- the tree as the laws of ranked enumeration see it
-  abbrev pub tie_free_tree : 0 < group_count t 0 → IsTieFreeTree t → TieFreeTree d 16
-  tie_free_tree live apart = record {
-    nodes = length t;
-    parent = parent t;
-    rank = rank t d key;
-    group = group t;
-    best = best t d key;
-    rows = rows t;
-    item = item t;
-    number = number t;
-    slot = slot_of d 16;
-    formed = tree_of live;
-    tie_free = tie_free_of apart;
-  }
+      swap_fits d key (length t) (parent t) (item t) (cap t) (number t) (rank t d key) formed.shaped formed.held ranked_of key_had (group t) (best t d key) (λ v r. r < rows t v) (tree_of live)

@@ -1,4 +1,5 @@
 -- The bound on the steps of one answer never falls.
+-- A proof, and not a definition: ghost fields of types are made with it, so it stands here.
 use Rattle.std.proofs.Common.{ℕ, ◌+◌, ◌*◌, ◌≤◌, Bool, true, false, cond, nat_lt, List, get_or, arith}
 use Rattle.rank_key.specs.Bits.{bit_length}
 use Rattle.rank_key.proofs.BitLemmas.{bit_length_rises}

@@ -1,125 +1,60 @@
 -- The solutions in the order of the nodes, and the subtree solutions of the root, have the same keys.
-use Rattle.std.proofs.Common.{◌≡◌, ◌≢◌, ℕ, zero, suc, ◌+◌, ◌-◌, ◌*◌, ◌<◌, ◌≤◌, ◌⊎◌, cond, nat_eq, nat_lt, List, [], ◌∷◌, ◌++◌, length, get_or, refl, sym, ap, ◌∙◌, subst, inl, inr, arith, append_assoc}
+use Rattle.std.proofs.Common.{◌≡◌, ℕ, zero, suc, ◌+◌, ◌-◌, ◌*◌, ◌<◌, ◌≤◌, ◌⊎◌, cond, nat_eq, nat_lt, List, [], ◌∷◌, ◌++◌, length, get_or, refl, sym, ap, ◌∙◌, subst, inl, inr, arith, append_assoc}
 use Rattle.std.proofs.lemmas.Bool.{cases_lt}
-use Rattle.std.proofs.lemmas.Bool.Decides.{nat_tests}
 use Rattle.tdp_model.specs.KeyLaws.{IsKeys}
 use Rattle.tdp_model.specs.Regions.{place_of, stands, completes, is_empty}
 use Rattle.tdp_model.specs.TreeProblem.{sum_from, rows_after, rows_key, kid_key, RowHas, GroupHas}
 use Rattle.tdp_model.proofs.Subtrees.{cases_eq}
 use Rattle.tdp_model.proofs.Division.{place_le, get_place, stands_yes, stands_place, empty_found, append_nil, times_pos}
-use Rattle.tdp_model.proofs.Sums.{get_front, get_end, length_end, none_add, sum_same, sum_add, sum_last}
+use Rattle.tdp_model.proofs.Picks.{pick_eq, pick_ge, pick_ne}
+use Rattle.tdp_model.proofs.OpenKeys.{key_end, open_first, open_join, open_key}
+use Rattle.tdp_model.proofs.Sums.{get_front, get_end, length_end, none_add, sum_same, sum_add}
 
 pos_times : (a b : ℕ) → 0 < a → 0 < b → 0 < a * b
 pos_times zero b h i = absurd (omega arith)
 pos_times (suc a) zero h i = absurd (omega arith)
 pos_times (suc a) (suc b) h i = omega arith
 
-choose_lt : {K : Type 0} (x y : ℕ) (a b : K) → x < y → cond (nat_lt x y) a b ≡ a
-choose_lt x y a b e = grind (arith, nat_tests)
-
-choose_ge : {K : Type 0} (x y : ℕ) (a b : K) → y ≤ x → cond (nat_lt x y) a b ≡ b
-choose_ge x y a b e = grind (arith, nat_tests)
-
-choose_eq : {K : Type 0} (x y : ℕ) (a b : K) → x ≡ y → cond (nat_eq x y) a b ≡ a
-choose_eq x y a b e = grind (arith, nat_tests)
-
-choose_ne : {K : Type 0} (x y : ℕ) (a b : K) → x ≢ y → cond (nat_eq x y) a b ≡ b
-choose_ne x y a b e = grind (arith, nat_tests)
-
 module _ {K : Type 0} (Below : K → K → Type 0) (add : K → K → K) (none : K) (keys : IsKeys K Below add none)
     (m : ℕ) (parent : ℕ → ℕ) (rank : ℕ → ℕ → K) (group : ℕ → ℕ → List ℕ) (parents_first : (q : ℕ) → 0 < q → q < m → parent q < q) where
-  -- one more level of depth adds nothing, where the tree reaches no further
-  pub deeper : (d v r : ℕ) (k : K) → v < m → m ≤ d + v → RowHas add none m parent rank group d v r k → RowHas add none m parent rank group (suc d) v r k
-  deeper zero v r k l e h = absurd (omega arith)
-  deeper (suc d) v r k l e h = (
+  -- more depth adds nothing, where the tree reaches no further
+  as_deep : (d e v r : ℕ) (k : K) → v < m → m ≤ d + v → m ≤ e + v → RowHas add none m parent rank group d v r k → RowHas add none m parent rank group e v r k
+  as_deep zero e v r k l s t h = absurd (omega arith)
+  as_deep (suc d) zero v r k l s t h = absurd (omega arith)
+  as_deep (suc d) (suc e) v r k l s t h = (
     h.0,
     (λ q a b c. let g : GroupHas add none m parent rank group d q r (h.0 q) = h.1 q a b c in
-        (g.0, g.1, deeper d q (get_or (group q r) g.0 0) (h.0 q) b (omega arith) g.2)),
+        (g.0, g.1, as_deep d e q (get_or (group q r) g.0 0) (h.0 q) b (omega arith) (omega arith) g.2)),
     h.2,
   )
+
+  pub deeper : (d v r : ℕ) (k : K) → v < m → m ≤ d + v → RowHas add none m parent rank group d v r k → RowHas add none m parent rank group (suc d) v r k
+  deeper d v r k l e = as_deep d (suc d) v r k l e (omega arith)
 
   pub shallower : (d v r : ℕ) (k : K) → v < m → m ≤ d + v → RowHas add none m parent rank group (suc d) v r k → RowHas add none m parent rank group d v r k
-  shallower zero v r k l e h = absurd (omega arith)
-  shallower (suc d) v r k l e h = (
-    h.0,
-    (λ q a b c. let g : GroupHas add none m parent rank group (suc d) q r (h.0 q) = h.1 q a b c in
-        (g.0, g.1, shallower d q (get_or (group q r) g.0 0) (h.0 q) b (omega arith) g.2)),
-    h.2,
-  )
-
-  pub deepen : (e d v r : ℕ) (k : K) → v < m → m ≤ d + v → RowHas add none m parent rank group d v r k → RowHas add none m parent rank group (e + d) v r k
-  deepen zero d v r k l h x = subst (λ n. RowHas add none m parent rank group n v r k) (zero_plus d) x
-    where
-      zero_plus : (d : ℕ) → d ≡ 0 + d
-      zero_plus d = omega arith
-  deepen (suc e) d v r k l h x = subst (λ n. RowHas add none m parent rank group n v r k) (plus e d) (deeper (e + d) v r k l (omega arith) (deepen e d v r k l h x))
-    where
-      plus : (e d : ℕ) → suc (e + d) ≡ suc e + d
-      plus e d = omega arith
-
-  -- the key that node q adds, where it is open after p rows
-  unfoldable pub open_key : ℕ → (ℕ → K) → ℕ → K
-  open_key p f q = cond (nat_eq q 0) (f q) (cond (nat_lt (parent q) p) (f q) none)
-
-  key_end : (pre : List ℕ) (r : ℕ) → rows_key add none rank (pre ++ (r ∷ [])) ≡ add (rows_key add none rank pre) (rank (length pre) r)
-  key_end pre r =
-      subst (λ n. sum_from add none (λ q. rank q (get_or (pre ++ (r ∷ [])) q 0)) n 0 ≡ add (rows_key add none rank pre) (rank (length pre) r)) (sym (length_end pre r))
-      (sum_last Below add none keys (λ q. rank q (get_or (pre ++ (r ∷ [])) q 0)) (length pre) 0 (length pre) (omega arith)
-      ∙ ap (λ z. add z (rank (length pre) (get_or (pre ++ (r ∷ [])) (length pre) 0)))
-      (sum_same Below add none keys (λ q. rank q (get_or (pre ++ (r ∷ [])) q 0)) (λ q. rank q (get_or pre q 0)) (length pre) 0
-      (λ i l h. ap (λ z. rank i z) (get_front pre (r ∷ []) i (omega arith))))
-      ∙ ap (λ z. add (rows_key add none rank pre) (rank (length pre) z)) (get_end pre r (length pre) refl))
-
-  -- after one more row a node is open that was open before, or is a child of the node that was chosen
-  open_join : (p q : ℕ) (f g h : ℕ → K) → p < q → (parent q < p → h q ≡ f q) → (parent q ≡ p → h q ≡ g q)
-      → open_key (suc p) h q ≡ add (open_key p f q) (kid_key none parent p g q)
-  unfolding open_key kid_key
-  open_join p q f g h l a b =
-      choose_ne q 0 (h q) (cond (nat_lt (parent q) (suc p)) (h q) none) (λ e. omega arith)
-      ∙ elim (cases_lt (parent q) p) [
-        | inl c ↦ choose_lt (parent q) (suc p) (h q) none (omega arith) ∙ a c ∙ sym (keys.add_none (f q))
-            ∙ ap (λ z. add z none) (sym (choose_lt (parent q) p (f q) none c))
-            ∙ ap (λ z. add (cond (nat_lt (parent q) p) (f q) none) z) (sym (choose_ne (parent q) p (g q) none (λ e. omega arith)))
-        | inr c ↦ elim (cases_eq (parent q) p) [
-          | inl e ↦ choose_lt (parent q) (suc p) (h q) none (omega arith) ∙ b e ∙ sym (none_add Below add none keys (g q))
-              ∙ ap (λ z. add z (g q)) (sym (choose_ge (parent q) p (f q) none c))
-              ∙ ap (λ z. add (cond (nat_lt (parent q) p) (f q) none) z) (sym (choose_eq (parent q) p (g q) none e))
-          | inr n ↦ choose_ge (parent q) (suc p) (h q) none (omega arith) ∙ sym (keys.add_none none)
-              ∙ ap (λ z. add z none) (sym (choose_ge (parent q) p (f q) none c))
-              ∙ ap (λ z. add (cond (nat_lt (parent q) p) (f q) none) z) (sym (choose_ne (parent q) p (g q) none n))
-        ]
-      ]
-      ∙ ap (λ z. add z (cond (nat_eq (parent q) p) (g q) none)) (sym (choose_ne q 0 (f q) (cond (nat_lt (parent q) p) (f q) none) (λ e. omega arith)))
+  shallower d v r k l e = as_deep (suc d) d v r k l (omega arith) e
 
   -- (s + r) + (o + c) is s + ((r + c) + o)
   mix : (s r o c : K) → add (add s r) (add o c) ≡ add s (add (add r c) o)
   mix s r o c = keys.add_assoc s r (add o c) ∙ ap (λ z. add s z) (ap (λ z. add r z) (keys.add_comm o c) ∙ sym (keys.add_assoc r c o))
-
-  -- the node that is next is open
-  open_first : (p : ℕ) (f : ℕ → K) → p < m → open_key p f p ≡ f p
-  unfolding open_key
-  open_first p f l = elim (cases_lt 0 p) [
-    | inl h ↦ choose_ne p 0 (f p) _ (λ e. omega arith) ∙ choose_lt (parent p) p (f p) none (parents_first p h l)
-    | inr z ↦ choose_eq p 0 (f p) _ (omega arith)
-  ]
 
   next_is_open : (p : ℕ) → p < m → (p ≡ 0) ⊎ (parent p < p)
   next_is_open p l = elim (cases_lt 0 p) [ inl h ↦ inr (parents_first p h l) | inr z ↦ inl (omega arith) ]
 
   -- the sum over the open nodes, one row on
   sum_join : (n p : ℕ) (f g h : ℕ → K) → ((q : ℕ) → p < q → parent q < p → h q ≡ f q) → ((q : ℕ) → p < q → parent q ≡ p → h q ≡ g q)
-      → sum_from add none (open_key (suc p) h) n (suc p) ≡ add (sum_from add none (open_key p f) n (suc p)) (sum_from add none (kid_key none parent p g) n (suc p))
+      → sum_from add none (open_key none parent (suc p) h) n (suc p) ≡ add (sum_from add none (open_key none parent p f) n (suc p)) (sum_from add none (kid_key none parent p g) n (suc p))
   sum_join n p f g h a b =
-      sum_same Below add none keys (open_key (suc p) h) (λ q. add (open_key p f q) (kid_key none parent p g q)) n (suc p)
-      (λ q l u. open_join p q f g h (omega arith) (a q (omega arith)) (b q (omega arith)))
-      ∙ sum_add Below add none keys (open_key p f) (kid_key none parent p g) n (suc p)
+      sum_same Below add none keys (open_key none parent (suc p) h) (λ q. add (open_key none parent p f q) (kid_key none parent p g q)) n (suc p)
+      (λ q l u. open_join Below add none keys parent p q f g h (omega arith) (a q (omega arith)) (b q (omega arith)))
+      ∙ sum_add Below add none keys (open_key none parent p f) (kid_key none parent p g) n (suc p)
 
   module _ (d : ℕ) (deep : m ≤ d) where
     -- k is the key of the rows `pre` and of one subtree solution of each open node
     abbrev pub OpenHas : ℕ → List ℕ → K → Type 0
     OpenHas n pre k =
         (f : ℕ → K) × ((q : ℕ) → length pre ≤ q → q < m → (q ≡ 0) ⊎ (parent q < length pre) → GroupHas add none m parent rank group (suc d) q (get_or pre (parent q) 0) (f q))
-        × (k ≡ add (rows_key add none rank pre) (sum_from add none (open_key (length pre) f) n (length pre)))
+        × (k ≡ add (rows_key add none rank pre) (sum_from add none (open_key none parent (length pre) f) n (length pre)))
 
     stands_member : (xs : List ℕ) (i : ℕ) → i < length xs → 0 < stands (get_or xs i 0) xs
     stands_member xs i l = omega (arith, stands_yes (get_or xs i 0) xs (omega (arith, place_le i xs l)))
@@ -138,16 +73,16 @@ module _ {K : Type 0} (Below : K → K → Type 0) (add : K → K → K) (none :
         let h : ℕ → K = λ q. cond (nat_eq (parent q) p) (g q) (f q) in
         let len : length (pre ++ (r ∷ [])) ≡ suc p = length_end pre r in
         let left : m - suc p ≡ n = omega arith in
-        let was : (q : ℕ) → parent q < p → h q ≡ f q = λ q l. choose_ne (parent q) p (g q) (f q) (λ s. omega arith) in
-        let now : (q : ℕ) → parent q ≡ p → h q ≡ g q = λ q s. choose_eq (parent q) p (g q) (f q) s in
-        let sums : sum_from add none (open_key (suc p) h) n (suc p)
-        ≡ add (sum_from add none (open_key p f) n (suc p)) (sum_from add none (kid_key none parent p g) n (suc p)) = sum_join n p f g h (λ q l. was q) (λ q l. now q) in
-        let key : k ≡ add (rows_key add none rank (pre ++ (r ∷ []))) (sum_from add none (open_key (suc p) h) n (suc p)) =
+        let was : (q : ℕ) → parent q < p → h q ≡ f q = λ q l. pick_ne (parent q) p (g q) (f q) (λ s. omega arith) in
+        let now : (q : ℕ) → parent q ≡ p → h q ≡ g q = λ q s. pick_eq (parent q) p (g q) (f q) s in
+        let sums : sum_from add none (open_key none parent (suc p) h) n (suc p)
+        ≡ add (sum_from add none (open_key none parent p f) n (suc p)) (sum_from add none (kid_key none parent p g) n (suc p)) = sum_join n p f g h (λ q l. was q) (λ q l. now q) in
+        let key : k ≡ add (rows_key add none rank (pre ++ (r ∷ []))) (sum_from add none (open_key none parent (suc p) h) n (suc p)) =
         o.2
-        ∙ ap (λ z. add (rows_key add none rank pre) (add z (sum_from add none (open_key p f) n (suc p))))
-        (open_first p f (omega arith) ∙ own.2 ∙ ap (λ z. add (rank p r) (sum_from add none (kid_key none parent p g) z (suc p))) left)
-        ∙ sym (mix (rows_key add none rank pre) (rank p r) (sum_from add none (open_key p f) n (suc p)) (sum_from add none (kid_key none parent p g) n (suc p)))
-        ∙ ap (λ z. add z (add (sum_from add none (open_key p f) n (suc p)) (sum_from add none (kid_key none parent p g) n (suc p)))) (sym (key_end pre r))
+        ∙ ap (λ z. add (rows_key add none rank pre) (add z (sum_from add none (open_key none parent p f) n (suc p))))
+        (open_first none parent p f (λ h. parents_first p h (omega arith)) ∙ own.2 ∙ ap (λ z. add (rank p r) (sum_from add none (kid_key none parent p g) z (suc p))) left)
+        ∙ sym (mix (rows_key add none rank pre) (rank p r) (sum_from add none (open_key none parent p f) n (suc p)) (sum_from add none (kid_key none parent p g) n (suc p)))
+        ∙ ap (λ z. add z (add (sum_from add none (open_key none parent p f) n (suc p)) (sum_from add none (kid_key none parent p g) n (suc p)))) (sym (key_end Below add none keys rank pre r))
         ∙ ap (λ z. add (rows_key add none rank (pre ++ (r ∷ []))) z) (sym sums) in (
           mine.0,
           mine.1,
@@ -165,7 +100,7 @@ module _ {K : Type 0} (Below : K → K → Type 0) (add : K → K → K) (none :
                   subst (λ z. GroupHas add none m parent rank group (suc d) q z (h q)) (sym (get_end pre r (parent q) s))
                   (subst (λ z. GroupHas add none m parent rank group (suc d) q r z) (sym (now q s)) u)
             ]),
-            subst (λ z. k ≡ add (rows_key add none rank (pre ++ (r ∷ []))) (sum_from add none (open_key z h) n z)) (sym len) key,
+            subst (λ z. k ≡ add (rows_key add none rank (pre ++ (r ∷ []))) (sum_from add none (open_key none parent z h) n z)) (sym len) key,
           ),
         )
 
@@ -197,16 +132,16 @@ module _ {K : Type 0} (Below : K → K → Type 0) (add : K → K → K) (none :
         let c : K = sum_from add none (kid_key none parent p h) n (suc p) in
         let mine : K = add (rank p r) c in
         let f : ℕ → K = λ q. cond (nat_eq q p) mine (h q) in
-        let at : f p ≡ mine = choose_eq p p mine (h p) refl in
-        let later : (q : ℕ) → p < q → h q ≡ f q = λ q l. sym (choose_ne q p mine (h q) (λ s. omega arith)) in
+        let at : f p ≡ mine = pick_eq p p mine (h p) refl in
+        let later : (q : ℕ) → p < q → h q ≡ f q = λ q l. sym (pick_ne q p mine (h q) (λ s. omega arith)) in
         let kids : (q : ℕ) → p < q → q < m → parent q ≡ p → GroupHas add none m parent rank group d q r (h q) = λ q l b s.
         let t : GroupHas add none m parent rank group (suc d) q (get_or (pre ++ (r ∷ [])) (parent q) 0) (h q) = o.1 q (omega arith) b (inr (omega arith)) in
         let u : GroupHas add none m parent rank group (suc d) q r (h q) = subst (λ z. GroupHas add none m parent rank group (suc d) q z (h q)) (get_end pre r (parent q) s) t in
         (u.0, u.1, shallower d q (get_or (group q r) u.0 0) (h q) b (omega arith) u.2) in
         let own : RowHas add none m parent rank group (suc d) p r mine = (h, kids, ap (λ z. add (rank p r) (sum_from add none (kid_key none parent p h) z (suc p))) left) in
-        let sums : sum_from add none (open_key (suc p) h) n (suc p) ≡ add (sum_from add none (open_key p f) n (suc p)) c = sum_join n p f h h (λ q l s. later q l) (λ q l s. refl) in
-        let was : k ≡ add (rows_key add none rank (pre ++ (r ∷ []))) (sum_from add none (open_key (suc p) h) n (suc p)) =
-        subst (λ z. k ≡ add (rows_key add none rank (pre ++ (r ∷ []))) (sum_from add none (open_key z h) n z)) len o.2 in (
+        let sums : sum_from add none (open_key none parent (suc p) h) n (suc p) ≡ add (sum_from add none (open_key none parent p f) n (suc p)) c = sum_join n p f h h (λ q l s. later q l) (λ q l s. refl) in
+        let was : k ≡ add (rows_key add none rank (pre ++ (r ∷ []))) (sum_from add none (open_key none parent (suc p) h) n (suc p)) =
+        subst (λ z. k ≡ add (rows_key add none rank (pre ++ (r ∷ []))) (sum_from add none (open_key none parent z h) n z)) len o.2 in (
           f,
           (λ q a b s. elim (cases_eq q p) [
             | inl x ↦
@@ -220,10 +155,10 @@ module _ {K : Type 0} (Below : K → K → Type 0) (add : K → K → K) (none :
                 (subst (λ z. GroupHas add none m parent rank group (suc d) q z (h q)) (get_front pre (r ∷ []) (parent q) l) t)
           ]),
           was
-              ∙ ap (λ z. add z (sum_from add none (open_key (suc p) h) n (suc p))) (key_end pre r)
+              ∙ ap (λ z. add z (sum_from add none (open_key none parent (suc p) h) n (suc p))) (key_end Below add none keys rank pre r)
               ∙ ap (λ z. add (add (rows_key add none rank pre) (rank p r)) z) sums
-              ∙ mix (rows_key add none rank pre) (rank p r) (sum_from add none (open_key p f) n (suc p)) c
-              ∙ ap (λ z. add (rows_key add none rank pre) (add z (sum_from add none (open_key p f) n (suc p)))) (sym at ∙ sym (open_first p f (omega arith))),
+              ∙ mix (rows_key add none rank pre) (rank p r) (sum_from add none (open_key none parent p f) n (suc p)) c
+              ∙ ap (λ z. add (rows_key add none rank pre) (add z (sum_from add none (open_key none parent p f) n (suc p)))) (sym at ∙ sym (open_first none parent p f (λ h. parents_first p h (omega arith)))),
         )
 
     pub keys_of : (n : ℕ) (pre t : List ℕ) → n + length pre ≡ m → 0 < completes (rows_after parent group) n pre t → OpenHas n pre (rows_key add none rank (pre ++ t))
@@ -243,20 +178,20 @@ module _ {K : Type 0} (Below : K → K → Type 0) (add : K → K → K) (none :
         (closed n pre (rows_key add none rank ((pre ++ (r ∷ [])) ++ rest)) (place_of r (rows_after parent group pre)) e l
         (subst (λ z. OpenHas n (pre ++ (z ∷ [])) (rows_key add none rank ((pre ++ (r ∷ [])) ++ rest))) (sym g) o))
 
-    nothing_open : (n q : ℕ) (f : ℕ → K) → 0 < q → sum_from add none (open_key 0 f) n q ≡ none
+    nothing_open : (n q : ℕ) (f : ℕ → K) → 0 < q → sum_from add none (open_key none parent 0 f) n q ≡ none
     unfolding sum_from open_key
     nothing_open zero q f l = refl
     nothing_open (suc n) q f l =
-        ap (λ z. add z (sum_from add none (open_key 0 f) n (suc q)))
-        (choose_ne q 0 (f q) (cond (nat_lt (parent q) 0) (f q) none) (λ e. omega arith) ∙ choose_ge (parent q) 0 (f q) none (omega arith))
+        ap (λ z. add z (sum_from add none (open_key none parent 0 f) n (suc q)))
+        (pick_ne q 0 (f q) (cond (nat_lt (parent q) 0) (f q) none) (λ e. omega arith) ∙ pick_ge (parent q) 0 (f q) none (omega arith))
         ∙ none_add Below add none keys _
         ∙ nothing_open n (suc q) f (omega arith)
 
-    open_root : (n : ℕ) (f : ℕ → K) → add (rows_key add none rank []) (sum_from add none (open_key 0 f) (suc n) 0) ≡ f 0
+    open_root : (n : ℕ) (f : ℕ → K) → add (rows_key add none rank []) (sum_from add none (open_key none parent 0 f) (suc n) 0) ≡ f 0
     unfolding sum_from open_key
     open_root n f =
         none_add Below add none keys _
-        ∙ ap (λ z. add z (sum_from add none (open_key 0 f) n 1)) (choose_eq 0 0 (f 0) (cond (nat_lt (parent 0) 0) (f 0) none) refl)
+        ∙ ap (λ z. add z (sum_from add none (open_key none parent 0 f) n 1)) (pick_eq 0 0 (f 0) (cond (nat_lt (parent 0) 0) (f 0) none) refl)
         ∙ ap (λ z. add (f 0) z) (nothing_open n 1 f (omega arith))
         ∙ keys.add_none (f 0)
 
@@ -265,7 +200,7 @@ module _ {K : Type 0} (Below : K → K → Type 0) (add : K → K → K) (none :
         → (t : List ℕ) × (0 < completes (rows_after parent group) (suc n) [] t) × (rows_key add none rank t ≡ k)
     solution_of_root n k e g =
         let f : ℕ → K = λ q. cond (nat_eq q 0) k none in
-        let at : f 0 ≡ k = choose_eq 0 0 k none refl in
+        let at : f 0 ≡ k = pick_eq 0 0 k none refl in
         solution_of (suc n) [] k (omega arith) (
           f,
           (λ q a b s. elim (cases_eq q 0) [

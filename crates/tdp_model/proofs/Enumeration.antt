@@ -7,7 +7,8 @@ use Rattle.tdp_model.specs.TreeProblem.{RowHas, GroupHas, PartHas, all_sums, gat
 use Rattle.tdp_model.proofs.Subtrees.{cases_eq}
 use Rattle.rankings.proofs.Sorting.{ranked_is_ranking}
 use Rattle.tdp_model.proofs.Begin.{IsRanking-same}
-use Rattle.tdp_model.proofs.Parts.{pick_at, pick_off, part_first, part_first_only, part_skip, part_skipped, part_split, part_join, row_of_part, part_of_row}
+use Rattle.tdp_model.proofs.Picks.{pick_eq, pick_ne}
+use Rattle.tdp_model.proofs.Parts.{part_first, part_first_only, part_skip, part_skipped, part_split, part_join, row_of_part, part_of_row}
 
 sums_member : {K : Type 0} (add : K → K → K) (a b : K) (xs ys : List K) → IsMember a xs → IsMember b ys → IsMember (add a b) (all_sums add xs ys)
 sums_member add a b [] ys m n = absurd m
@@ -43,11 +44,11 @@ module _ {K : Type 0} (Below : K → K → Type 0) (add : K → K → K) (none :
     | inl e ↦
         let s : (a : K) × (b : K) × PartHas add none m parent rank group d v r n a × GroupHas add none m parent rank group d (suc v + n) r b × (k ≡ add a b) =
         part_split Below add none keys m parent rank group d v r n (suc v + n) k refl e h in
-        subst (λ z. IsMember k z) (sym (pick_at (parent (suc v + n)) v _ _ e))
+        subst (λ z. IsMember k z) (sym (pick_eq (parent (suc v + n)) v _ _ e))
         (subst (λ z. IsMember z (all_sums add (part_keys add parent v (rank v r) kids n) (kids (suc v + n)))) (sym s.4)
         (sums_member add s.0 s.1 _ _ (part_listed d v r n kids s.0 (λ q x a b. g q x a (omega arith)) s.2) (g (suc v + n) s.1 (omega arith) (omega arith) s.3)))
     | inr e ↦
-        subst (λ z. IsMember k z) (sym (pick_off (parent (suc v + n)) v _ _ e))
+        subst (λ z. IsMember k z) (sym (pick_ne (parent (suc v + n)) v _ _ e))
         (part_listed d v r n kids k (λ q x a b. g q x a (omega arith)) (part_skipped Below add none keys m parent rank group d v r n (suc v + n) k refl e h))
   ]
 
@@ -59,12 +60,12 @@ module _ {K : Type 0} (Below : K → K → Type 0) (add : K → K → K) (none :
   listed_part d v r (suc n) kids k g h = elim (cases_eq (parent (suc v + n)) v) [
     | inl e ↦
         let s : (a : K) × (b : K) × IsMember a (part_keys add parent v (rank v r) kids n) × IsMember b (kids (suc v + n)) × (k ≡ add a b) =
-        member_sums add k _ _ (subst (λ z. IsMember k z) (pick_at (parent (suc v + n)) v _ _ e) h) in
+        member_sums add k _ _ (subst (λ z. IsMember k z) (pick_eq (parent (suc v + n)) v _ _ e) h) in
         subst (λ z. PartHas add none m parent rank group d v r (suc n) z) (sym s.4)
         (part_join Below add none keys m parent rank group d v r n (suc v + n) s.0 s.1 refl e (listed_part d v r n kids s.0 (λ q x a b. g q x a (omega arith)) s.2) (g (suc v + n) s.1 (omega arith) (omega arith) s.3))
     | inr e ↦
         part_skip Below add none keys m parent rank group d v r n (suc v + n) k refl e
-        (listed_part d v r n kids k (λ q x a b. g q x a (omega arith)) (subst (λ z. IsMember k z) (pick_off (parent (suc v + n)) v _ _ e) h))
+        (listed_part d v r n kids k (λ q x a b. g q x a (omega arith)) (subst (λ z. IsMember k z) (pick_ne (parent (suc v + n)) v _ _ e) h))
   ]
 
   abbrev pub group_keys : ℕ → ℕ → ℕ → List K

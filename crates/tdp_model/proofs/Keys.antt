@@ -1,7 +1,7 @@
 -- Sums of keys, and places of an ascending list.
 use Rattle.std.proofs.lemmas.Bool.{cases_lt}
-use Rattle.std.proofs.Common.{◌≡◌, ℕ, zero, suc, ◌<◌, ◌≤◌, List, [], ◌∷◌, length, get_or, refl, sym, ap, subst, inl, inr, arith}
-use Rattle.rankings.specs.Order.{IsOrder, IsMember, IsAscending}
+use Rattle.std.proofs.Common.{◌≡◌, ℕ, zero, suc, ◌<◌, ◌≤◌, List, [], ◌∷◌, length, get_or, sym, ap, subst, inl, inr, arith}
+use Rattle.rankings.specs.Order.{IsOrder, IsAscending}
 use Rattle.tdp_model.specs.KeyLaws.{IsKeys}
 use Rattle.tdp_model.specs.Remains.{AtMost}
 use Rattle.rankings.proofs.Members.{below_member, get_member}

@@ -1,17 +1,13 @@
 -- The best solution of a region has the least key of the region.
-use Rattle.std.proofs.Common.{◌≡◌, ℕ, zero, suc, ◌*◌, ◌<◌, List, [], ◌∷◌, ◌++◌, length, get_or, refl, sym, ap, ◌∙◌, subst, inl, inr, arith, append_assoc}
+use Rattle.std.proofs.Common.{◌≡◌, ℕ, zero, suc, ◌*◌, ◌<◌, List, [], ◌∷◌, ◌++◌, length, get_or, refl, sym, ap, ◌∙◌, subst, inr, arith, append_assoc}
 use Rattle.rankings.specs.Order.{IsOrder}
 use Rattle.tdp_model.specs.Remains.{AtMost}
 use Rattle.tdp_model.specs.Heap.{under}
 use Rattle.tdp_model.specs.Regions.{place_of, stands, completes, held, Region, in_region, completion, opening, best_of}
 use Rattle.tdp_model.specs.StagedProblem.{IsStaged}
+use Rattle.tdp_model.proofs.Keys.{at_most_trans}
 use Rattle.tdp_model.proofs.Subtrees.{climbs_ordered, climbs_all}
 use Rattle.tdp_model.proofs.Division.{get_place, stands_place, past_found, empty_found, append_nil, times_pos}
-
-pub at_most_trans : {K : Type 0} (Below : K → K → Type 0) (o : IsOrder K Below) (a b c : K) → AtMost Below a b → AtMost Below b c → AtMost Below a c
-at_most_trans Below o a b c (inl p) (inl q) = inl (o.transitive a b c p q)
-at_most_trans Below o a b c (inl p) (inr e) = inl (subst (λ z. Below a z) e p)
-at_most_trans Below o a b c (inr e) q = subst (λ z. AtMost Below z c) (sym e) q
 
 module _ {K : Type 0} (Below : K → K → Type 0) (o : IsOrder K Below) (members : List ℕ → List ℕ) (bound : List ℕ → K) (Reach : ℕ → List ℕ → Type 0)
     (staged : IsStaged K Below members bound Reach) where

@@ -5,10 +5,11 @@ pub mod Cover
 pub mod Least
 pub mod PartNext
 pub mod Keys
-pub mod Queues
 pub mod Products
 pub mod Runs
 pub mod Sums
+pub mod Picks
+pub mod OpenKeys
 pub mod TreeStaged
 pub mod Bridge
 pub mod Ties
@@ -22,11 +23,7 @@ pub mod Begin
 pub mod Enumeration
 pub mod KeyTuples
 pub mod RowStreams
-pub mod Costs
-pub mod Reordered
 pub mod Example
 pub mod Ranges
 pub mod OpenRanges
-pub mod StreamSteps
-pub mod KeyViews
 pub mod KeyNumbers

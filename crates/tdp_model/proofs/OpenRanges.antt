@@ -1,10 +1,10 @@
 -- What a swap leaves of a total stays within the sum of the nodes' caps.
-use Rattle.std.proofs.Common.{◌≡◌, ℕ, zero, suc, ◌+◌, ◌*◌, ◌<◌, ◌≤◌, cond, nat_eq, nat_lt, List, length, get_or, refl, sym, ap, ◌∙◌, subst, inl, inr, arith}
+use Rattle.std.proofs.Common.{◌≡◌, ℕ, zero, suc, ◌+◌, ◌*◌, ◌<◌, ◌≤◌, cond, nat_lt, List, length, get_or, refl, sym, ap, ◌∙◌, subst, inl, inr, arith}
 use Rattle.std.proofs.lemmas.Bool.{cases_lt}
-use Rattle.std.proofs.lemmas.Bool.Decides.{nat_tests}
 use Rattle.tdp_model.specs.KeyLaws.{IsKeys}
 use Rattle.tdp_model.specs.Below.{is_below}
 use Rattle.tdp_model.specs.TreeProblem.{sum_from, open_part, key_of, least_of, IsTree, IsReached, IsAbove}
+use Rattle.tdp_model.proofs.Picks.{pick_ge, pick_lt, pick_pos}
 use Rattle.tdp_model.proofs.Descent.{below_less, below_once, nodes_apart}
 use Rattle.tdp_model.proofs.Ranges.{sum_of, sum_of_le, sum_of_zero, sum_of_eq, sum_of_join, times_small, under_yes, under_no, weight_sum, span, weight_row}
 use Rattle.tdp_model.proofs.Bests.{best_had}
@@ -102,15 +102,6 @@ module _ {K : Type 0} (Below : K → K → Type 0) (add : K → K → K) (none :
   best_weight v r l row =
       weight_row add none weight weight_add weight_none m parent rank group tree.parents_first cap capped m v r (best v r) l
       (best_had Below add none keys m parent rank group best IsRow tree m v r (omega arith) l row)
-
-  pick_pos : (q : ℕ) (a b : K) → 0 < q → cond (nat_eq q 0) a b ≡ b
-  pick_pos q a b e = grind (arith, nat_tests)
-
-  pick_lt : (x y : ℕ) (a b : K) → x < y → cond (nat_lt x y) a b ≡ a
-  pick_lt x y a b e = grind (arith, nat_tests)
-
-  pick_ge : (x y : ℕ) (a b : K) → y ≤ x → cond (nat_lt x y) a b ≡ b
-  pick_ge x y a b e = grind (arith, nat_tests)
 
   open_weight : (n : ℕ) (pre : List ℕ) (q : ℕ) → IsReached m IsRow (suc n) pre → length pre < q → q < m
       → weight (open_part add none m parent rank group best (length pre) pre q) ≤ cond (nat_lt (parent q) (length pre)) (span_of q) 0

@@ -10,7 +10,8 @@ use Rattle.tdp_model.specs.Queue.{present, AllReached, whole_region, rank_of, Is
 use Rattle.tdp_model.proofs.Removal.{take_least, Remains-same}
 use Rattle.tdp_model.proofs.Division.{past_same, held_past_end, completes_held, exactly_at, exactly_only}
 use Rattle.tdp_model.proofs.Cover.{region_division}
-use Rattle.tdp_model.proofs.Least.{at_most_trans, region_least, best_bound}
+use Rattle.tdp_model.proofs.Keys.{at_most_trans}
+use Rattle.tdp_model.proofs.Least.{region_least, best_bound}
 
 pub in_regions_append : (members : List ℕ → List ℕ) (xs ys : List Region) (s : List ℕ) → in_regions members (xs ++ ys) s ≡ in_regions members xs s + in_regions members ys s
 unfolding in_regions
@@ -125,21 +126,3 @@ module _ {K : Type 0} (Below : K → K → Type 0) (o : IsOrder K Below) (member
     all_open = ((reach, staged.inhabited n [] reach), tt);
     remains = Remains-same Below bound (completes members (suc n) []) (in_regions members (whole_region n ∷ [])) ks (λ s. whole_at members n s) h;
   }
-
-  -- each region's choices have this bound
-  abbrev pub AllBound : K → List Region → Type 0
-  AllBound k [] = Unit {0}
-  AllBound k (r ∷ rs) = (bound r.chosen ≡ k) × AllBound k rs
-
-  -- Every later region of a completion has the bound of the completion, so that its rank is a swap away.
-  pub deviations_bound : (n : ℕ) (pre : List ℕ) → Reach n pre → AllBound (bound pre) (deviations members n pre)
-  unfolding deviations
-  deviations_bound zero pre reach = tt
-  deviations_bound (suc n) pre reach = (
-    refl,
-    (
-      refl,
-      subst (λ z. AllBound z (deviations members n (pre ++ (get_or (members pre) 0 0 ∷ [])))) (staged.first n pre reach)
-          (deviations_bound n (pre ++ (get_or (members pre) 0 0 ∷ [])) (staged.step n pre 0 reach (staged.inhabited n pre reach))),
-    ),
-  )

@@ -1,17 +1,11 @@
 -- A row's subtree solutions, as binary products one after the other.
 use Rattle.std.proofs.Common.{◌≡◌, ◌≢◌, ℕ, suc, ◌+◌, ◌-◌, ◌<◌, cond, nat_eq, List, refl, sym, ap, ◌∙◌, subst, inl, inr, arith}
-use Rattle.std.proofs.lemmas.Bool.Decides.{nat_tests}
 use Rattle.tdp_model.specs.KeyLaws.{IsKeys}
 use Rattle.tdp_model.specs.TreeProblem.{sum_from, kid_key, RowHas, GroupHas, PartHas}
+use Rattle.tdp_model.proofs.Picks.{pick_eq, pick_ne}
 use Rattle.tdp_model.proofs.Subtrees.{cases_eq}
 use Rattle.tdp_model.proofs.Sums.{sum_same, sum_last}
 use Rattle.tdp_model.proofs.SubtreeTies.{kid_yes, kid_no}
-
-pub pick_at : {K : Type 0} (x y : ℕ) (a b : K) → x ≡ y → cond (nat_eq x y) a b ≡ a
-pick_at x y a b e = grind (arith, nat_tests)
-
-pub pick_off : {K : Type 0} (x y : ℕ) (a b : K) → x ≢ y → cond (nat_eq x y) a b ≡ b
-pick_off x y a b e = grind (arith, nat_tests)
 
 kid_swap : {K : Type 0} (none : K) (parent : ℕ → ℕ) (v : ℕ) (f g : ℕ → K) (i : ℕ) → f i ≡ g i → kid_key none parent v f i ≡ kid_key none parent v g i
 unfolding kid_key
@@ -68,14 +62,14 @@ module _ {K : Type 0} (Below : K → K → Type 0) (add : K → K → K) (none :
       → PartHas add none m parent rank group d v r (suc n) (add a b)
   part_join d v r n c a b e kid h g =
       let f : ℕ → K = λ q. cond (nat_eq q c) b (h.0 q) in
-      let at : f c ≡ b = pick_at c c b (h.0 c) refl in (
+      let at : f c ≡ b = pick_eq c c b (h.0 c) refl in (
         f,
         (λ q x y s. elim (cases_eq q c) [
           | inl w ↦ subst (λ z. GroupHas add none m parent rank group d z r (f z)) (sym w) (subst (λ z. GroupHas add none m parent rank group d c r z) (sym at) g)
-          | inr w ↦ subst (λ z. GroupHas add none m parent rank group d q r z) (sym (pick_off q c b (h.0 q) w)) (h.1 q x (omega arith) s)
+          | inr w ↦ subst (λ z. GroupHas add none m parent rank group d q r z) (sym (pick_ne q c b (h.0 q) w)) (h.1 q x (omega arith) s)
         ]),
         ap (λ z. add z b) (h.2 ∙ ap (λ z. add (rank v r) z) (sum_same Below add none keys (kid_key none parent v h.0) (kid_key none parent v f) n (suc v)
-            (λ i x y. kid_swap none parent v h.0 f i (sym (pick_off i c b (h.0 i) (λ w. omega arith))))))
+            (λ i x y. kid_swap none parent v h.0 f i (sym (pick_ne i c b (h.0 i) (λ w. omega arith))))))
             ∙ ap (λ z. add (add (rank v r) (sum_from add none (kid_key none parent v f) n (suc v))) z) (sym (kid_yes none parent v f c kid ∙ at))
             ∙ sym (part_last v r n c f e),
       )

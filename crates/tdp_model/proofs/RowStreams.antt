@@ -1,18 +1,15 @@
 -- The rankings of a tree's rows and groups, as their queues enumerate them.
-use Rattle.std.proofs.Common.{◌≡◌, ℕ, suc, ◌+◌, ◌*◌, ◌<◌, cond, nat_le, List, [], ◌∷◌, length, get_or, sym, ◌∙◌, arith}
-use Rattle.std.proofs.lemmas.Bool.Decides.{nat_tests}
+use Rattle.std.proofs.Common.{◌≡◌, ℕ, suc, ◌+◌, ◌<◌, List, [], ◌∷◌, length, arith}
 use Rattle.rankings.specs.Order.{IsRanking}
 use Rattle.tdp_model.specs.KeyLaws.{IsKeys}
 use Rattle.tdp_model.specs.Remains.{Remains, total}
-use Rattle.tdp_model.specs.StagedProblem.{IsDistinct}
-use Rattle.tdp_model.specs.Product.{Pair, pair_key, is_pair, stands_for, is_run, runs_to, run_key, run_heads}
-use Rattle.tdp_model.specs.TreeProblem.{RowHas, GroupHas, PartHas, IsTieFree}
+use Rattle.tdp_model.specs.Product.{Pair, pair_key, is_pair, stands_for}
+use Rattle.tdp_model.specs.TreeProblem.{GroupHas, PartHas, IsTieFree}
 use Rattle.tdp_model.proofs.Removal.{Remains-same}
 use Rattle.tdp_model.proofs.Parts.{part_split, part_join}
-use Rattle.tdp_model.proofs.SubtreeTies.{product_apart, rows_apart}
+use Rattle.tdp_model.proofs.SubtreeTies.{product_apart}
 use Rattle.tdp_model.proofs.Products.{first_stands}
-use Rattle.tdp_model.proofs.Runs.{heads_stand}
-use Rattle.tdp_model.proofs.Streams.{product_remains, group_remains}
+use Rattle.tdp_model.proofs.Streams.{product_remains}
 
 module _ {K : Type 0} (Below : K → K → Type 0) (add : K → K → K) (none : K) (keys : IsKeys K Below add none)
     (m : ℕ) (parent : ℕ → ℕ) (rank : ℕ → ℕ → K) (group : ℕ → ℕ → List ℕ) (parents_first : (q : ℕ) → 0 < q → q < m → parent q < q)
@@ -30,19 +27,3 @@ module _ {K : Type 0} (Below : K → K → Type 0) (add : K → K → K) (none :
       (λ a b ha hb. part_join Below add none keys m parent rank group d v r n c a b at e ha hb)
       (λ k h. part_split Below add none keys m parent rank group d v r n c k at e h)
       (λ a a' b b' ha ha' hb hb' s. product_apart Below add none keys m parent rank group parents_first item number slot free d v r n c a a' b b' at lc e ha ha' hb hb' s))
-
-  -- A group's queue begins with the head of each row, and holds the ranking of the group.
-  pub group_begins : (d q r : ℕ) (lists : ℕ → List K) (zs : List K) → q < m → IsDistinct (group q r)
-      → ((i : ℕ) → i < length (group q r) → IsRanking K Below (RowHas add none m parent rank group d q (get_or (group q r) i 0)) (lists i))
-      → IsRanking K Below (GroupHas add none m parent rank group d q r) zs
-      → Remains Pair K Below (run_key none lists) (total (runs_to (length (group q r)) (λ i. length (lists i))) (run_heads (length (group q r)) 0)) zs
-  group_begins d q r lists zs l distinct rows rz =
-      Remains-same Below (run_key none lists) (is_run (length (group q r)) (λ i. length (lists i))) (total (runs_to (length (group q r)) (λ i. length (lists i))) (run_heads (length (group q r)) 0)) zs
-      (λ p. heads_all (is_run (length (group q r)) (λ i. length (lists i)) p) p.left ∙ sym (heads_stand (length (group q r)) (λ i. length (lists i)) (length (group q r)) 0 (omega arith) p))
-      (group_remains Below none keys.order (length (group q r)) (λ i. RowHas add none m parent rank group d q (get_or (group q r) i 0)) (GroupHas add none m parent rank group d q r) lists zs rows rz
-      (λ i k il h. (i, il, h))
-      (λ k h. h)
-      (λ i j k il jl hi hj. distinct i j il jl (rows_apart Below add none keys m parent rank group parents_first item number slot free d q r i j k l il jl hi hj)))
-    where
-      heads_all : (a x : ℕ) → a ≡ a * cond (nat_le 0 x) 1 0
-      heads_all a x = grind (arith, nat_tests)

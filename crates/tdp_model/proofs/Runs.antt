@@ -1,10 +1,10 @@
 -- The queue of a group: the merge of the lists of its rows.
-use Rattle.std.proofs.Common.{◌≡◌, ◌≢◌, ℕ, zero, suc, ◌+◌, ◌*◌, ◌<◌, ◌≤◌, cond, nat_eq, nat_lt, nat_le, List, length, get_or, sym, ap, subst, inl, inr, arith}
+use Rattle.std.proofs.Common.{◌≡◌, ◌≢◌, ℕ, ◌+◌, ◌*◌, ◌<◌, ◌≤◌, cond, nat_eq, nat_lt, nat_le, List, length, get_or, sym, ap, subst, inl, inr, arith}
 use Rattle.std.proofs.lemmas.Bool.{cases_lt}
 use Rattle.std.proofs.lemmas.Bool.Decides.{nat_tests}
 use Rattle.rankings.specs.Order.{IsOrder, IsAscending}
 use Rattle.tdp_model.specs.Remains.{AtMost, total, IsDivided}
-use Rattle.tdp_model.specs.Product.{Pair, same_pair, is_run, runs_to, run_key, run_after, run_heads}
+use Rattle.tdp_model.specs.Product.{Pair, same_pair, runs_to, run_key, run_after}
 use Rattle.tdp_model.proofs.Keys.{ascending_at_most}
 use Rattle.tdp_model.proofs.Products.{same_pair_at, same_pair_only}
 
@@ -44,18 +44,6 @@ runs_none m sizes f p l = elim (cases_lt 0 (runs_to m sizes f p)) [
       let e : sizes f.left ≡ sizes p.left = ap sizes r.0 in absurd (omega arith)
   | inr z ↦ omega arith
 ]
-
--- the heads of all rows stand for all places
-pub heads_stand : (m : ℕ) (sizes : ℕ → ℕ) (n r : ℕ) → n + r ≡ m → (p : Pair) → total (runs_to m sizes) (run_heads n r) p ≡ is_run m sizes p * cond (nat_le r p.left) 1 0
-unfolding runs_to total run_heads
-heads_stand m sizes zero r e p = at m r p.left (sizes p.left) p.right (omega arith)
-  where
-    at : (m r x s y : ℕ) → m ≤ r → 0 ≡ cond (nat_lt x m) (cond (nat_lt y s) 1 0) 0 * cond (nat_le r x) 1 0
-    at m r x s y l = grind (arith, nat_tests)
-heads_stand m sizes (suc n) r e p = at (is_run m sizes p) r p.left p.right (total (runs_to m sizes) (run_heads n (suc r)) p) (heads_stand m sizes n (suc r) (omega arith) p)
-  where
-    at : (a r x y t : ℕ) → t ≡ a * cond (nat_le (suc r) x) 1 0 → a * cond (nat_eq r x) (cond (nat_le 0 y) 1 0) 0 + t ≡ a * cond (nat_le r x) 1 0
-    at a r x y t e = grind (arith, nat_tests)
 
 pub run_divided : {K : Type 0} (Below : K → K → Type 0) (o : IsOrder K Below) (none : K) (m : ℕ) (lists : ℕ → List K) → ((r : ℕ) → r < m → IsAscending Below (lists r))
     → (f : Pair) → f.left < m → f.right < length (lists f.left)

@@ -1,16 +1,12 @@
 -- What the queues of a product and of a group enumerate: the rankings of the sums and of the group.
-use Rattle.std.proofs.Common.{◌≡◌, ℕ, ◌<◌, ◌≤◌, cond, nat_lt, List, [], ◌∷◌, ◌++◌, length, get_or, sym, ap, ◌∙◌, subst, inl, inr, arith}
+use Rattle.std.proofs.Common.{◌≡◌, ℕ, ◌<◌, ◌≤◌, cond, nat_lt, List, length, get_or, sym, ap, ◌∙◌, subst, inl, inr, arith}
 use Rattle.std.proofs.lemmas.Bool.{cases_lt}
 use Rattle.std.proofs.lemmas.Bool.Decides.{nat_tests}
 use Rattle.rankings.specs.Order.{IsOrder, IsAscending, IsRanking}
-use Rattle.tdp_model.specs.KeyLaws.{IsKeys}
-use Rattle.tdp_model.specs.Remains.{AtMost, Remains, total, IsLeastKey}
-use Rattle.tdp_model.specs.Product.{Pair, pair_key, is_pair, stands_for, same_pair, offered, is_run, runs_to, run_key, run_after}
-use Rattle.tdp_model.proofs.Keys.{ascending_below, at_most_trans}
+use Rattle.tdp_model.specs.Remains.{Remains}
+use Rattle.tdp_model.specs.Product.{Pair, pair_key, is_pair, is_run, run_key}
+use Rattle.tdp_model.proofs.Keys.{ascending_below}
 use Rattle.rankings.proofs.Members.{get_member, member_get}
-use Rattle.tdp_model.proofs.Products.{product_divided}
-use Rattle.tdp_model.proofs.Runs.{run_divided}
-use Rattle.tdp_model.proofs.Queues.{queue_next}
 
 -- a place of an ascending list is determined by the key there
 pub ascending_place : {K : Type 0} (Below : K → K → Type 0) (o : IsOrder K Below) (xs : List K) (i j : ℕ) (d : K) → IsAscending Below xs → i < length xs → j < length xs → get_or xs i d ≡ get_or xs j d → i ≡ j
@@ -93,44 +89,3 @@ group_remains {K} Below none o n Has HasC lists zs rows rc join split apart = re
       let x : (j : ℕ) × (j < length (lists s.0)) × (get_or (lists s.0) j none ≡ k) = member_get (lists s.0) k none ((rows s.0 s.1).complete k s.2) in
       (record { left = s.0; right = x.0 }, inside_yes s.0 n x.0 (length (lists s.0)) s.1 x.1, x.2);
 }
-
--- # One step of each
-
-module _ {X K : Type 0} (Below : K → K → Type 0) (o : IsOrder K Below) (key : X → K) (count : X → X → ℕ) (InRange : X → Type 0)
-    (begins : (c x : X) → InRange c → 0 < count c x → AtMost Below (key c) (key x)) where
-  abbrev pub AllInRange : List X → Type 0
-  AllInRange [] = Unit {0}
-  AllInRange (c ∷ cs) = InRange c × AllInRange cs
-
-  abbrev pub IsTop : K → List X → Type 0
-  IsTop k [] = Unit {0}
-  IsTop k (c ∷ cs) = AtMost Below k (key c) × IsTop k cs
-
-  -- an entry with the least key bounds all that the others stand for
-  pub top_least : (k : K) (cs : List X) → AllInRange cs → IsTop k cs → IsLeastKey Below key count k cs
-  unfolding total
-  top_least k [] r t x h = absurd (omega arith)
-  top_least k (c ∷ cs) r t x h = elim (cases_lt 0 (count c x)) [
-    | inl p ↦ at_most_trans Below o k (key c) (key x) t.0 (begins c x r.0 p)
-    | inr z ↦ top_least k cs r.1 t.1 x (omega arith)
-  ]
-
--- One step of a product's queue.
-pub product_next : {K : Type 0} (Below : K → K → Type 0) (add : K → K → K) (none : K) (keys : IsKeys K Below add none) (xs ys zs : List K) → IsAscending Below xs → IsAscending Below ys
-    → (f : Pair) (others : List Pair) → f.left < length xs → f.right < length ys
-    → IsLeastKey Below (pair_key add none xs ys) (stands_for (length xs) (length ys)) (pair_key add none xs ys f) others
-    → Remains Pair K Below (pair_key add none xs ys) (total (stands_for (length xs) (length ys)) (f ∷ others)) zs
-    → (zs' : List K) × (zs ≡ pair_key add none xs ys f ∷ zs') × Remains Pair K Below (pair_key add none xs ys) (total (stands_for (length xs) (length ys)) (offered f ++ others)) zs'
-product_next Below add none keys xs ys zs ax ay f others a b l q =
-    queue_next Below keys.order (pair_key add none xs ys) (stands_for (length xs) (length ys)) f (same_pair f) f (offered f) others zs
-    (product_divided Below add none keys xs ys ax ay f a b) l q
-
--- One step of a group's queue.
-pub group_next : {K : Type 0} (Below : K → K → Type 0) (o : IsOrder K Below) (none : K) (n : ℕ) (lists : ℕ → List K) (zs : List K) → ((r : ℕ) → r < n → IsAscending Below (lists r))
-    → (f : Pair) (others : List Pair) → f.left < n → f.right < length (lists f.left)
-    → IsLeastKey Below (run_key none lists) (runs_to n (λ r. length (lists r))) (run_key none lists f) others
-    → Remains Pair K Below (run_key none lists) (total (runs_to n (λ r. length (lists r))) (f ∷ others)) zs
-    → (zs' : List K) × (zs ≡ run_key none lists f ∷ zs') × Remains Pair K Below (run_key none lists) (total (runs_to n (λ r. length (lists r))) (run_after f ++ others)) zs'
-group_next Below o none n lists zs asc f others a b l q =
-    queue_next Below o (run_key none lists) (runs_to n (λ r. length (lists r))) f (same_pair f) f (run_after f) others zs
-    (run_divided Below o none n lists asc f a b) l q

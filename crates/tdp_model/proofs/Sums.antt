@@ -1,12 +1,11 @@
 -- Sums of keys over places.
 use Rattle.std.proofs.Common.{◌≡◌, ℕ, zero, suc, ◌+◌, ◌<◌, ◌≤◌, List, [], ◌∷◌, ◌++◌, length, get_or, refl, sym, ap, ◌∙◌, subst, arith}
+use Rattle.std.proofs.lemmas.List.{get_or_append_left}
 use Rattle.tdp_model.specs.KeyLaws.{IsKeys}
 use Rattle.tdp_model.specs.TreeProblem.{sum_from}
 
 pub get_front : (xs ys : List ℕ) (i : ℕ) → i < length xs → get_or (xs ++ ys) i 0 ≡ get_or xs i 0
-get_front [] ys i l = absurd (omega arith)
-get_front (x ∷ xs) ys zero l = refl
-get_front (x ∷ xs) ys (suc i) l = get_front xs ys i (omega arith)
+get_front xs ys i l = get_or_append_left xs ys 0 i l
 
 pub get_end : (xs : List ℕ) (y i : ℕ) → i ≡ length xs → get_or (xs ++ (y ∷ [])) i 0 ≡ y
 get_end [] y zero l = refl
@@ -17,6 +16,19 @@ get_end (x ∷ xs) y (suc i) l = get_end xs y i (omega arith)
 pub length_end : (xs : List ℕ) (y : ℕ) → length (xs ++ (y ∷ [])) ≡ suc (length xs)
 length_end [] y = refl
 length_end (x ∷ xs) y = ap (λ n. suc n) (length_end xs y)
+
+pub same_sums : {K : Type 0} (add : K → K → K) (none : K) (f g : ℕ → K) (n q : ℕ) → ((i : ℕ) → q ≤ i → i < q + n → f i ≡ g i) → sum_from add none f n q ≡ sum_from add none g n q
+unfolding sum_from
+same_sums add none f g zero q e = refl
+same_sums add none f g (suc n) q e =
+    ap (λ z. add z (sum_from add none f n (suc q))) (e q (omega arith) (omega arith))
+    ∙ ap (λ z. add (g q) z) (same_sums add none f g n (suc q) (λ i l h. e i (omega arith) (omega arith)))
+
+-- if each is at most this much, so are all together
+pub sum_fewer : (few many : ℕ → ℕ) (n q : ℕ) → ((u : ℕ) → q ≤ u → u < q + n → few u ≤ many u) → sum_from ◌+◌ 0 few n q ≤ sum_from ◌+◌ 0 many n q
+unfolding sum_from
+sum_fewer few many zero q h = omega arith
+sum_fewer few many (suc n) q h = omega (arith, h q (omega arith) (omega arith), sum_fewer few many n (suc q) (λ u a b. h u (omega arith) (omega arith)))
 
 module _ {K : Type 0} (Below : K → K → Type 0) (add : K → K → K) (none : K) (keys : IsKeys K Below add none) where
   -- (a + b) + (c + d) is (a + c) + (b + d)
@@ -34,11 +46,7 @@ module _ {K : Type 0} (Below : K → K → Type 0) (add : K → K → K) (none :
   none_add a = keys.add_comm none a ∙ keys.add_none a
 
   pub sum_same : (f g : ℕ → K) (n q : ℕ) → ((i : ℕ) → q ≤ i → i < q + n → f i ≡ g i) → sum_from add none f n q ≡ sum_from add none g n q
-  unfolding sum_from
-  sum_same f g zero q e = refl
-  sum_same f g (suc n) q e =
-      ap (λ z. add z (sum_from add none f n (suc q))) (e q (omega arith) (omega arith))
-      ∙ ap (λ z. add (g q) z) (sum_same f g n (suc q) (λ i l h. e i (omega arith) (omega arith)))
+  sum_same = same_sums add none
 
   pub sum_add : (f g : ℕ → K) (n q : ℕ) → sum_from add none (λ i. add (f i) (g i)) n q ≡ add (sum_from add none f n q) (sum_from add none g n q)
   unfolding sum_from

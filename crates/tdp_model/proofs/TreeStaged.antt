@@ -1,75 +1,25 @@
 -- A well-formed tree is answered one row after the other, with the least key of what begins with the rows as bound.
-use Rattle.std.proofs.Common.{◌≡◌, ◌≢◌, ℕ, suc, ◌+◌, ◌-◌, ◌/◌, ◌<◌, ◌≤◌, cond, nat_eq, nat_lt, List, [], ◌∷◌, ◌++◌, length, get_or, refl, sym, ap, ◌∙◌, subst, inl, inr, arith}
+use Rattle.std.proofs.Common.{◌≡◌, ℕ, suc, ◌+◌, ◌-◌, ◌/◌, ◌<◌, List, [], ◌∷◌, ◌++◌, length, get_or, refl, sym, ap, ◌∙◌, subst, inl, inr, arith}
 use Rattle.std.proofs.lemmas.Bool.{cases_lt}
-use Rattle.std.proofs.lemmas.Bool.Decides.{nat_tests}
 use Rattle.tdp_model.specs.KeyLaws.{IsKeys}
 use Rattle.tdp_model.specs.Remains.{AtMost}
 use Rattle.tdp_model.specs.StagedProblem.{IsStaged}
-use Rattle.tdp_model.specs.TreeProblem.{sum_from, least_of, kid_part, members_after, open_part, key_of, bound_of, IsAbove, IsTree, IsReached}
-use Rattle.tdp_model.proofs.Subtrees.{cases_eq}
+use Rattle.tdp_model.specs.TreeProblem.{kid_key, sum_from, least_of, kid_part, members_after, open_part, key_of, bound_of, IsAbove, IsTree, IsReached}
 use Rattle.tdp_model.proofs.Keys.{add_at_most, cancel, cancel_at_most}
-use Rattle.tdp_model.proofs.Sums.{get_front, get_end, length_end, add_swap, add_right, none_add, sum_same, sum_add, sum_last}
+use Rattle.tdp_model.proofs.OpenKeys.{key_end, open_first, open_join, open_key}
+use Rattle.tdp_model.proofs.Sums.{get_front, get_end, length_end, add_swap, add_right, sum_same, sum_add}
 
 module _ {K : Type 0} (Below : K → K → Type 0) (add : K → K → K) (none : K) (keys : IsKeys K Below add none)
     (m : ℕ) (parent : ℕ → ℕ) (rank : ℕ → ℕ → K) (group : ℕ → ℕ → List ℕ) (best : ℕ → ℕ → K) (IsRow : ℕ → ℕ → Type 0)
     (tree : IsTree K Below add none m parent rank group best IsRow) where
-  pick_zero : (q : ℕ) (a b : K) → q ≡ 0 → cond (nat_eq q 0) a b ≡ a
-  pick_zero q a b e = grind (arith, nat_tests)
-
-  pick_pos : (q : ℕ) (a b : K) → 0 < q → cond (nat_eq q 0) a b ≡ b
-  pick_pos q a b e = grind (arith, nat_tests)
-
-  pick_lt : (x y : ℕ) (a b : K) → x < y → cond (nat_lt x y) a b ≡ a
-  pick_lt x y a b e = grind (arith, nat_tests)
-
-  pick_ge : (x y : ℕ) (a b : K) → y ≤ x → cond (nat_lt x y) a b ≡ b
-  pick_ge x y a b e = grind (arith, nat_tests)
-
-  pick_eq : (x y : ℕ) (a b : K) → x ≡ y → cond (nat_eq x y) a b ≡ a
-  pick_eq x y a b e = grind (arith, nat_tests)
-
-  pick_ne : (x y : ℕ) (a b : K) → x ≢ y → cond (nat_eq x y) a b ≡ b
-  pick_ne x y a b e = grind (arith, nat_tests)
-
   -- a later node is open after one more row where it was open before, or is a child of the node that was chosen
   open_next : (pre : List ℕ) (r q : ℕ) → length pre < q → open_part add none m parent rank group best (suc (length pre)) (pre ++ (r ∷ [])) q
       ≡ add (open_part add none m parent rank group best (length pre) pre q) (kid_part add none m parent rank group best (length pre) r q)
-  unfolding open_part kid_part
+  unfolding open_part kid_part open_key kid_key
   open_next pre r q l =
-      let p : ℕ = length pre in
-      let new : K = least_of add none m parent rank group best q (get_or (pre ++ (r ∷ [])) (parent q) 0) in
-      let old : K = least_of add none m parent rank group best q (get_or pre (parent q) 0) in
-      let kid : K = least_of add none m parent rank group best q r in
-      pick_pos q new (cond (nat_lt (parent q) (suc p)) new none) (omega arith)
-      ∙ elim (cases_lt (parent q) p) [
-        | inl a ↦ pick_lt (parent q) (suc p) new none (omega arith)
-            ∙ ap (λ z. least_of add none m parent rank group best q z) (get_front pre (r ∷ []) (parent q) a)
-            ∙ sym (keys.add_none old)
-            ∙ ap (λ z. add z none) (sym (pick_lt (parent q) p old none a))
-            ∙ ap (λ z. add (cond (nat_lt (parent q) p) old none) z) (sym (pick_ne (parent q) p kid none (λ e. omega arith)))
-        | inr a ↦ elim (cases_eq (parent q) p) [
-          | inl e ↦ pick_lt (parent q) (suc p) new none (omega arith)
-              ∙ ap (λ z. least_of add none m parent rank group best q z) (get_end pre r (parent q) e)
-              ∙ sym (none_add Below add none keys kid)
-              ∙ ap (λ z. add z kid) (sym (pick_ge (parent q) p old none a))
-              ∙ ap (λ z. add (cond (nat_lt (parent q) p) old none) z) (sym (pick_eq (parent q) p kid none e))
-          | inr n ↦ pick_ge (parent q) (suc p) new none (omega arith)
-              ∙ sym (keys.add_none none)
-              ∙ ap (λ z. add z none) (sym (pick_ge (parent q) p old none a))
-              ∙ ap (λ z. add (cond (nat_lt (parent q) p) old none) z) (sym (pick_ne (parent q) p kid none n))
-        ]
-      ]
-      ∙ ap (λ z. add z (cond (nat_eq (parent q) p) kid none)) (sym (pick_pos q old (cond (nat_lt (parent q) p) old none) (omega arith)))
-
-  -- the key of one more row
-  key_next : (pre : List ℕ) (r : ℕ) → key_of add none m parent rank group best (pre ++ (r ∷ [])) ≡ add (key_of add none m parent rank group best pre) (rank (length pre) r)
-  key_next pre r =
-      subst (λ n. sum_from add none (λ q. rank q (get_or (pre ++ (r ∷ [])) q 0)) n 0 ≡ add (key_of add none m parent rank group best pre) (rank (length pre) r)) (sym (length_end pre r))
-      (sum_last Below add none keys (λ q. rank q (get_or (pre ++ (r ∷ [])) q 0)) (length pre) 0 (length pre) (omega arith)
-      ∙ ap (λ z. add z (rank (length pre) (get_or (pre ++ (r ∷ [])) (length pre) 0)))
-      (sum_same Below add none keys (λ q. rank q (get_or (pre ++ (r ∷ [])) q 0)) (λ q. rank q (get_or pre q 0)) (length pre) 0
-      (λ i l h. ap (λ z. rank i z) (get_front pre (r ∷ []) i (omega arith))))
-      ∙ ap (λ z. add (key_of add none m parent rank group best pre) (rank (length pre) z)) (get_end pre r (length pre) refl))
+      let least : ℕ → ℕ → K = λ v z. least_of add none m parent rank group best v z in
+      open_join Below add none keys parent (length pre) q (λ v. least v (get_or pre (parent v) 0)) (λ v. least v r) (λ v. least v (get_or (pre ++ (r ∷ [])) (parent v) 0)) l
+      (λ a. ap (least q) (get_front pre (r ∷ []) (parent q) a)) (λ e. ap (least q) (get_end pre r (parent q) e))
 
   rest_of : ℕ → ℕ → List ℕ → ℕ → K
   rest_of n p pre q = sum_from add none (open_part add none m parent rank group best p pre) n q
@@ -83,11 +33,8 @@ module _ {K : Type 0} (Below : K → K → Type 0) (add : K → K → K) (none :
 
   -- the node that is next is open
   open_here : (pre : List ℕ) → length pre < m → open_part add none m parent rank group best (length pre) pre (length pre) ≡ least_of add none m parent rank group best (length pre) (get_or pre (parent (length pre)) 0)
-  unfolding open_part
-  open_here pre l = elim (cases_lt 0 (length pre)) [
-    | inl p ↦ pick_pos (length pre) _ _ p ∙ pick_lt (parent (length pre)) (length pre) _ none (tree.parents_first (length pre) p l)
-    | inr z ↦ pick_zero (length pre) _ _ (omega arith)
-  ]
+  unfolding open_part open_key
+  open_here pre l = open_first none parent (length pre) (λ v. least_of add none m parent rank group best v (get_or pre (parent v) 0)) (λ p. tree.parents_first (length pre) p l)
 
   rest_next : (n : ℕ) (pre : List ℕ) (r : ℕ) → suc n + length pre ≡ m → rest_of n (suc (length pre)) (pre ++ (r ∷ [])) (suc (length pre))
       ≡ add (rest_of n (length pre) pre (suc (length pre))) (sum_from add none (kid_part add none m parent rank group best (length pre) r) n (suc (length pre)))
@@ -112,7 +59,7 @@ module _ {K : Type 0} (Below : K → K → Type 0) (add : K → K → K) (none :
       let d : m - suc p ≡ n = omega arith in
       let new : bound_of add none m parent rank group best (pre ++ (r ∷ [])) ≡ add (add s q) (add o c) =
       bound_left n (pre ++ (r ∷ [])) (omega (arith, length_end pre r))
-      ∙ ap (λ z. add z (rest_of n (length (pre ++ (r ∷ []))) (pre ++ (r ∷ [])) (length (pre ++ (r ∷ []))))) (key_next pre r)
+      ∙ ap (λ z. add z (rest_of n (length (pre ++ (r ∷ []))) (pre ++ (r ∷ [])) (length (pre ++ (r ∷ []))))) (key_end Below add none keys rank pre r)
       ∙ ap (λ k. add (add s q) (rest_of n k (pre ++ (r ∷ [])) k)) (length_end pre r)
       ∙ ap (λ z. add (add s q) z) (rest_next n pre r e) in
       let old : bound_of add none m parent rank group best pre ≡ add s (add h o) =
@@ -170,22 +117,6 @@ module _ {K : Type 0} (Below : K → K → Type 0) (add : K → K → K) (none :
   unfolding sum_from rest_of
   bound_whole s e = bound_left 0 s (omega arith) ∙ keys.add_none _
 
-  -- One row in place of another: the bound changes by their bests. This is the rank of a candidate by one swap.
-  pub bound_swap : (n : ℕ) (pre : List ℕ) (x y : ℕ) → suc n + length pre ≡ m → IsRow (length pre) x → IsRow (length pre) y
-      → add (bound_of add none m parent rank group best (pre ++ (x ∷ []))) (best (length pre) y)
-      ≡ add (bound_of add none m parent rank group best (pre ++ (y ∷ []))) (best (length pre) x)
-  bound_swap n pre x y e rx ry =
-      let h : K = least_of add none m parent rank group best (length pre) (get_or pre (parent (length pre)) 0) in
-      let bx : K = best (length pre) x in
-      let by : K = best (length pre) y in
-      let b : K = bound_of add none m parent rank group best pre in
-      cancel Below add none keys _ _ h
-      (add_right Below add none keys _ by h
-      ∙ ap (λ z. add z by) (bound_next n pre x e rx)
-      ∙ add_right Below add none keys b bx by
-      ∙ ap (λ z. add z bx) (sym (bound_next n pre y e ry))
-      ∙ add_right Below add none keys _ h bx)
-
   -- what a bound has beside the best of the row at the position: the rows before it, and the bests of the other open nodes
   unfoldable pub other_of : ℕ → List ℕ → K
   other_of n pre = add (key_of add none m parent rank group best pre) (sum_from add none (open_part add none m parent rank group best (length pre) pre) n (suc (length pre)))
@@ -202,7 +133,7 @@ module _ {K : Type 0} (Below : K → K → Type 0) (add : K → K → K) (none :
       let q : K = rank p r in
       let d : m - suc p ≡ n = omega arith in
       bound_left n (pre ++ (r ∷ [])) (omega (arith, length_end pre r))
-      ∙ ap (λ z. add z (rest_of n (length (pre ++ (r ∷ []))) (pre ++ (r ∷ [])) (length (pre ++ (r ∷ []))))) (key_next pre r)
+      ∙ ap (λ z. add z (rest_of n (length (pre ++ (r ∷ []))) (pre ++ (r ∷ [])) (length (pre ++ (r ∷ []))))) (key_end Below add none keys rank pre r)
       ∙ ap (λ k. add (add s q) (rest_of n k (pre ++ (r ∷ [])) k)) (length_end pre r)
       ∙ ap (λ z. add (add s q) z) (rest_next n pre r e)
       ∙ add_swap Below add none keys s q o c

@@ -4,7 +4,7 @@ ghost use Rattle.std.specs.List.{AllByRecursion};
 ghost use Rattle.bound_query.specs.WeighedQuery.{Fits};
 
 use bound_query::Query;
-use csv_tables::{TableFault, TableReader};
+use csv_tables::TableFault;
 use query_bind::bind;
 use query_parse::parse;
 use query_select::Select;
@@ -17,18 +17,18 @@ pub(crate) const S: &str = "b,c,w\nx,p,5\ny,q,2\nx,q,4\n";
 
 /// Reads the tables of two small files.
 pub(crate) fn read_two(
-    reader: &mut TableReader,
+    tables: &mut csv_tables::Tables,
     first: &str,
     second: &str,
 ) -> Result<(), TableFault>
-    requires { reader.old ≡ [] }
-    ensures { OnOk result (length reader.new ≡ 2) }
+    requires { tables.old ≡ [] }
+    ensures { OnOk result (length tables.new ≡ 2) }
 {
     if first.len() > 1000 || second.len() > 1000 {
         return Err(TableFault::NoMemory);
     }
-    reader.read(first.as_bytes())?;
-    reader.read(second.as_bytes())?;
+    tables.read(first.as_bytes())?;
+    tables.read(second.as_bytes())?;
     Ok(())
 }
 

@@ -21,4 +21,6 @@ mod scripts;
 #[cfg(test)]
 mod tables;
 #[cfg(test)]
+mod unions;
+#[cfg(test)]
 mod words;

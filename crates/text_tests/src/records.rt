@@ -4,16 +4,15 @@ ghost use Rattle.anyk_model.specs.Query.{IsCombination, row_counts};
 ghost use Rattle.bound_query.specs.WeighedQuery.{Fits};
 
 use crate::fixtures::{R, S, query_of, read_two};
-use answer_print::{RecordWriter, Style, write_header, write_line};
+use answer_print::{Style, header, line};
 use bound_query::Query;
-use csv_tables::TableReader;
 use std::alloc::Global;
 use table_store::Tables;
 
 const SUM: &str = "select R.a, S.c from R, S where R.b = S.b order by R.w + S.w";
 
 /// Whether each item has the row that is given for it.
-fn are_rows(query: &Query, tables: &Tables, rows: &[u32; 16]) -> bool
+pub(crate) fn are_rows(query: &Query, tables: &Tables, rows: &[u32; 16]) -> bool
     requires { Fits query.now tables.now }
     ensures { IsTrue result
         → IsCombination (row_counts query.now.query.items tables.now)
@@ -50,24 +49,26 @@ fn style_of(case: &Case) -> Style<'static> {
     }
 }
 
-/// Whether the header is printed.
+/// Whether the header is that of the case.
 fn has_header(alloc: Global, query: &Query, tables: &Tables, case: &Case) -> bool
     requires { Fits query.now tables.now }
 {
-    let mut records = RecordWriter::new(alloc);
-    let written = write_header(alloc, &mut records, query, tables, &style_of(case));
-    written.is_ok() && records.text() == case.header.as_bytes()
+    match header(alloc, query, tables, &style_of(case)) {
+        Ok(text) => text.as_slice() == case.header.as_bytes(),
+        Err(_) => false,
+    }
 }
 
-/// Whether the line is printed.
+/// Whether the line is that of the case.
 fn has_line(alloc: Global, query: &Query, tables: &Tables, rows: &[u32; 16], case: &Case) -> bool
     requires fits { Fits query.now tables.now }
     requires rows { IsCombination (row_counts query.now.query.items tables.now)
         (take (length query.now.query.items) rows.now) }
 {
-    let mut records = RecordWriter::new(alloc);
-    let written = write_line(&mut records, query, tables, rows, &style_of(case));
-    written.is_ok() && records.text() == case.line.as_bytes()
+    match line(alloc, query, tables, rows, &style_of(case)) {
+        Ok(text) => text.as_slice() == case.line.as_bytes(),
+        Err(_) => false,
+    }
 }
 
 /// Whether the header and the line of a query over these tables are printed.
@@ -94,9 +95,8 @@ fn prints_over(alloc: Global, tables: &Tables, case: &Case) -> bool
 
 /// The same for the tables of the case's texts.
 fn prints(alloc: Global, case: &Case) -> bool {
-    let mut reader = TableReader::new(alloc);
-    read_two(&mut reader, case.first, case.second).is_ok()
-        && prints_over(alloc, reader.tables(), case)
+    let mut tables = csv_tables::Tables::new(alloc);
+    read_two(&mut tables, case.first, case.second).is_ok() && prints_over(alloc, &tables, case)
 }
 
 /// The place of the first case that is printed in another way.
@@ -131,6 +131,17 @@ const OF_STYLES: &[Case] = &[
         cursor: None,
         header: "a,c,rank1,row1,row2\n",
         line: "2,q,3,2,2\n",
+    },
+    Case {
+        first: "a,b,w\n1,x,3\n1,x,3\n",
+        second: "b,c,w\nx,p,5\n",
+        query: SUM,
+        rows: (1, 1),
+        ranks: false,
+        numbers: true,
+        cursor: None,
+        header: "a,c,row1,row2\n",
+        line: "1,p,1,1\n",
     },
     Case {
         first: "a,b,w\n1,x,3\n1,x,3\n",

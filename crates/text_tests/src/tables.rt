@@ -1,8 +1,7 @@
 //! Tables: worked files, and that each call succeeds with ample memory, which no clause says.
 use answer_print::RecordWriter;
-use csv_tables::{TableFault, TableReader};
+use csv_tables::{TableFault, Tables};
 use std::alloc::Global;
-use table_store::Tables;
 
 /// A table, a row and a column.
 type Place = (u32, u32, u32);
@@ -21,9 +20,9 @@ enum Call {
 }
 
 /// Reads one more table; a test reads few and small ones.
-fn read(reader: &mut TableReader, bytes: &[u8]) -> Result<u32, TableFault> {
-    if reader.tables().count() < 16 && bytes.len() <= 67_108_864 {
-        reader.read(bytes)
+fn read(tables: &mut Tables, bytes: &[u8]) -> Result<u32, TableFault> {
+    if tables.count() < 16 && bytes.len() <= 67_108_864 {
+        tables.read(bytes)
     } else {
         Err(TableFault::NoMemory)
     }
@@ -75,10 +74,10 @@ fn are_same(tables: &Tables, first: Place, second: Place, same: bool) -> bool {
     }
 }
 
-fn returns(reader: &mut TableReader, call: Call) -> bool {
+fn returns(tables: &mut Tables, call: Call) -> bool {
     match call {
-        Call::Read(text, outcome) => read(reader, text.as_bytes()) == outcome,
-        call => shows(reader.tables(), call),
+        Call::Read(text, outcome) => read(tables, text.as_bytes()) == outcome,
+        call => shows(tables, call),
     }
 }
 
@@ -96,9 +95,9 @@ fn shows(tables: &Tables, call: Call) -> bool {
 }
 
 /// The place of the first call, made on tables one after another, that returns something else.
-fn first_failing_on(reader: &mut TableReader, calls: &[Call]) -> Option<usize> {
+fn first_failing_on(tables: &mut Tables, calls: &[Call]) -> Option<usize> {
     for (i, call) in calls.iter().enumerate() {
-        if !returns(reader, *call) {
+        if !returns(tables, *call) {
             return Some(i);
         }
     }
@@ -107,7 +106,7 @@ fn first_failing_on(reader: &mut TableReader, calls: &[Call]) -> Option<usize> {
 
 /// The same, starting without a table.
 fn first_failing(alloc: Global, calls: &[Call]) -> Option<usize> {
-    first_failing_on(&mut TableReader::new(alloc), calls)
+    first_failing_on(&mut Tables::new(alloc), calls)
 }
 
 const OF_TWO_TABLES: &[Call] = &[

@@ -118,7 +118,7 @@ module _ {R : Type 0} (d : ℕ) (key : R → KeyOf d 16) (t : List (NodeView R))
       slot_row i l =
           ap (λ xs. slot_of d 16 i (key_of_rows xs)) after ∙ ap (slot_of d 16 i) (key_push (take q chosen) row) ∙ slot_of_add d 16 i (key_of_rows (take q chosen)) (rank t d key (length (take q chosen)) row)
           ∙ ap (λ n. slot_of d 16 i (key_of_rows (take q chosen)) + slot_of d 16 i (rank t d key n row)) taken
-          ∙ ap (λ n. slot_of d 16 i (key_of_rows (take q chosen)) + n) ((ranked_of d key t formed q row inside).2 i l)
+          ∙ ap (λ n. slot_of d 16 i (key_of_rows (take q chosen)) + n) ((ranked_of d key t formed q row inside).slots i l)
 
       -- the numbers of the chosen rows, by item
       pub slots_go_on : IsTieFreeTree t → (numbers : List ℕ) → length numbers ≡ 16 → ((i : ℕ) → i < 16 → get_or numbers i 0 ≡ slot_of d 16 i (key_of_rows (take q chosen)))

@@ -15,7 +15,7 @@ use Rattle.tdp_core.specs.TreeView.{NodeView, node_at, parent, item, cap, rows, 
 use Rattle.tdp_core.specs.WellFormed.{RowFits}
 use Rattle.tdp_core.proofs.Children.{kids_below_first, kids_below_other, child_place_within}
 use Rattle.tdp_core.proofs.GroupMembers.{member_below}
-use Rattle.tdp_core.proofs.KeyRanges.{part_fits}
+use Rattle.tdp_core.proofs.KeyRanges.{part_fits, rank_had}
 use Rattle.tdp_model.proofs.LeastKeys.{least_had}
 use Rattle.tdp_core.specs.WellFormed.{IsLaidOut}
 use Rattle.tree_dp.specs.Progress.{IsSolvedFrom}
@@ -70,11 +70,11 @@ module _ {R : Type 0} (d : ℕ) (key : R → KeyOf d 16) (t : List (NodeView R))
     | inl in_range ↦ laid.rows_fit v r l in_range
     | inr past ↦
         let no_rank : rank t d key v r ≡ key_none d 16 = get_or_past (map (λ x. key x.rank) (node_at t v).rows) r (key_none d 16) (omega (arith, length-map (node_at t v).rows (λ x. key x.rank))) in
-        let no_number : number t v r ≡ 0 = get_or_past (map (λ x. x.row) (node_at t v).rows) r 0 (omega (arith, length-map (node_at t v).rows (λ x. x.row))) in (
-          omega (arith, no_number),
-          (λ i h. omega (arith, ap (λ k. unsigned_abs (sum_of d 16 i k)) no_rank, ap unsigned_abs (sum_of_none d 16 i))),
-          (λ i h. ap (slot_of d 16 i) no_rank ∙ slot_of_none d 16 i ∙ sym (ap (λ z. cond (nat_eq i (item t v)) z 0) no_number ∙ same_zero (nat_eq i (item t v)))),
-        )
+        let no_number : number t v r ≡ 0 = get_or_past (map (λ x. x.row) (node_at t v).rows) r 0 (omega (arith, length-map (node_at t v).rows (λ x. x.row))) in
+        record {
+          sums = λ i h. omega (arith, ap (λ k. unsigned_abs (sum_of d 16 i k)) no_rank, ap unsigned_abs (sum_of_none d 16 i));
+          slots = λ i h. ap (slot_of d 16 i) no_rank ∙ slot_of_none d 16 i ∙ sym (ap (λ z. cond (nat_eq i (item t v)) z 0) no_number ∙ same_zero (nat_eq i (item t v)));
+        }
   ]
 
   module _ (v : ℕ) (solved : IsSolvedFrom d key t (suc v)) where
@@ -94,7 +94,7 @@ module _ {R : Type 0} (d : ℕ) (key : R → KeyOf d 16) (t : List (NodeView R))
         → KeyFits d key (first_part (key_below d 16) (key_add d 16) (key_none d 16) (tuple_keys d 16) (length t) (parent t) (rank t d key) (group t) (best t d key) v r n)
     unfolding kid_part kid_key
     first_part_fits r n l few row =
-        part_fits d key (length t) (parent t) (item t) (cap t) (number t) (rank t d key) laid.shaped laid.held row_fits (group t) (length t) v r n
+        part_fits d key (length t) (parent t) (item t) (cap t) (number t) (rank t d key) laid.shaped laid.held row_fits (λ u s. rank_had d key (node_at t u).rows s) (group t) (length t) v r n
         (first_part (key_below d 16) (key_add d 16) (key_none d 16) (tuple_keys d 16) (length t) (parent t) (rank t d key) (group t) (best t d key) v r n)
         l few (
           (λ q. least_of (key_add d 16) (key_none d 16) (length t) (parent t) (rank t d key) (group t) (best t d key) q r),

@@ -1,5 +1,5 @@
 //! The record above the members of a union.
-ghost use Rattle.std.specs.Prelude.{◌≡◌, ◌≤◌, ◌++◌, ◌∷◌, [], List, ℕ, codes, if◌then◌else◌, length, map, OnOk};
+ghost use Rattle.std.specs.Prelude.{◌≡◌, ◌≤◌, ◌++◌, ◌∷◌, [], List, ℕ, codes, if◌then◌else◌, length, map, IfOk, OnOk};
 ghost use Rattle.std.specs.List.{All};
 ghost use Rattle.anyk_model.specs.Output.{numbered};
 ghost use Rattle.bound_query.specs.WeighedQuery.{Fits};
@@ -14,6 +14,25 @@ use bound_query::Query;
 use std::alloc::Global;
 use step_counter::NoMemory;
 use table_store::Tables;
+
+/// The record of the columns' titles, as `write_header_of` writes it. `NoMemory` if memory is
+/// refused.
+pub fn header_of(
+    alloc: Global,
+    queries: &[Query],
+    tables: &Tables,
+    style: &Style<'_>,
+) -> Result<Vec<u8>, NoMemory>
+    requires some { 1 ≤ length queries.now }
+    requires fits { All (λ q. Fits q tables.now) queries.now }
+    ensures { IfOk result
+        (λ text. text.items ≡ output.union_header_text (map (λ q. q.query) queries.now) tables.now
+        (style_view style.now)) }
+{
+    let mut records = RecordWriter::new(alloc);
+    write_header_of(alloc, &mut records, queries, tables, style)?;
+    Ok(Vec::from_slice(alloc, records.text())?)
+}
 
 /// Writes the record of the columns' titles: `cursor` if a cursor is named, the names of the first
 /// branch's columns, `rank1` and so on if sums are shown, and if row numbers are shown `branch`,

@@ -16,8 +16,8 @@ mod merge_laws;
 mod sums;
 mod tagged;
 
-pub use header::write_header_of;
-pub use line::write_line_of;
+pub use header::{header_of, write_header_of};
+pub use line::{line_of, write_line_of};
 pub use merge::Merge;
 pub use merge_laws::rankings_are_left;
 pub use tagged::Tagged;

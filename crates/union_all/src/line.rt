@@ -1,5 +1,5 @@
 //! The record of a member of a union.
-ghost use Rattle.std.specs.Prelude.{◌≡◌, ◌+◌, ◌-◌, ◌<◌, ◌++◌, ◌∷◌, [], List, ℕ, if◌then◌else◌, length, map, replicate, OnOk};
+ghost use Rattle.std.specs.Prelude.{◌≡◌, ◌+◌, ◌-◌, ◌<◌, ◌++◌, ◌∷◌, [], List, ℕ, if◌then◌else◌, length, map, replicate, IfOk, OnOk};
 ghost use Rattle.std.specs.Fmt.{decimal, signed_decimal};
 ghost use Rattle.std.specs.List.{All};
 ghost use Rattle.anyk_model.specs.Query.{IsCombination, row_counts, sum_of};
@@ -18,8 +18,31 @@ use answer_print::{
     RecordWriter, Style, push_optional, push_rows, push_signed, push_sums, push_values,
 };
 use bound_query::Query;
+use std::alloc::Global;
 use step_counter::NoMemory;
 use table_store::Tables;
+
+/// The record of a member, as `write_line_of` writes it. `NoMemory` if memory is refused.
+pub fn line_of(
+    alloc: Global,
+    tagged: &Tagged,
+    queries: &[Query],
+    tables: &Tables,
+    style: &Style<'_>,
+) -> Result<Vec<u8>, NoMemory>
+    requires branch { tagged.now.branch < length queries.now }
+    requires fits { All (λ q. Fits q tables.now) queries.now }
+    requires rows { let all = map (λ q. q.query) queries.now in
+        let shown = tagged_view all tagged.now in
+        IsCombination (row_counts (branch_at all shown.branch).items tables.now) shown.rows }
+    ensures { let all = map (λ q. q.query) queries.now in IfOk result
+        (λ text. text.items ≡ output.union_line_text all tables.now (style_view style.now)
+        (tagged_view all tagged.now)) }
+{
+    let mut records = RecordWriter::new(alloc);
+    write_line_of(&mut records, tagged, queries, tables, style)?;
+    Ok(Vec::from_slice(alloc, records.text())?)
+}
 
 /// Writes the record of a member: the cursor's name if there is one, the selected columns of its
 /// branch, the sums of the order keys if they are shown, and if row numbers are shown the branch,

@@ -18,7 +18,7 @@ use Rattle.proof_model.specs.Faults.{fault_of}
 use Rattle.proof_model.specs.Valid.{Flaw as ProofFlaw}
 use Rattle.proof_model.proofs.OneFlaw.{one_flaw}
 use Rattle.proof_model.proofs.QueryLaws.{no_flaw}
-use Rattle.verdict.specs.Words.{Asked, Command, Sought, no_command, built, run, plan, session, load, prove, verify, sought_by}
+use Rattle.verdict.specs.Words.{Asked, Command, Sought, no_command, a_command, run, plan, session, load, prove, verify, sought_by}
 use Rattle.verdict.specs.Faults.{of_parse, of_proof, of_shape}
 use Rattle.verdict.specs.Laws.{OneLoading, OneVerdict}
 use Rattle.verdict.specs.Loading.{Beside, IsParse, IsParseAll, IsReading, Loaded, are_several, branches_of, loaded_in, told_branch}
@@ -155,7 +155,7 @@ one_read sought files bytes = one_then _ _ (one_reading sought.several bytes) (o
 
 pub one_loading : OneLoading
 one_loading no_command files = one_computed (Err Usage)
-one_loading (built command) files = one_then _ _ (one_computed _) (one_read (sought_by command) (files_of command files))
+one_loading (a_command command) files = one_then _ _ (one_computed _) (one_read (sought_by command) (files_of command files))
 
 -- the certificate
 one_certified : (query : Query) (tables : List Table) (shape : Shape) (proof : Certificate)
@@ -179,22 +179,22 @@ one_structured : (asked : Asked) (files : Files) → AtMostOne (IsStructured ask
 one_structured asked files = one_then _ _ (one_loading asked files) one_shaped
 
 pub one_verdict : OneVerdict
-one_verdict (built (verify proof words)) files = one_then _ _ (one_structured (built (verify proof words)) files) one_verified
+one_verdict (a_command (verify proof words)) files = one_then _ _ (one_structured (a_command (verify proof words)) files) one_verified
 one_verdict no_command files = one_structured no_command files
-one_verdict (built (run words)) files = one_structured (built (run words)) files
-one_verdict (built (plan words)) files = one_structured (built (plan words)) files
-one_verdict (built (session script words)) files = one_structured (built (session script words)) files
-one_verdict (built (load number rows)) files = one_structured (built (load number rows)) files
-one_verdict (built (prove words)) files = one_structured (built (prove words)) files
+one_verdict (a_command (run words)) files = one_structured (a_command (run words)) files
+one_verdict (a_command (plan words)) files = one_structured (a_command (plan words)) files
+one_verdict (a_command (session script words)) files = one_structured (a_command (session script words)) files
+one_verdict (a_command (load number rows)) files = one_structured (a_command (load number rows)) files
+one_verdict (a_command (prove words)) files = one_structured (a_command (prove words)) files
 
 -- the verdict on arguments that are not a command
 abbrev Same : Asked → Asked → Type 0
 Same a b = a ≡ b
 
-differ_built_none : {A : Type 0} {k : Command} → Same (built k) no_command → A
+differ_built_none : {A : Type 0} {k : Command} → Same (a_command k) no_command → A
 differ_built_none h = cc
 
 pub usage_verdict : (files : Files) (asked : Asked) (result : Result Found Reason) → asked ≡ no_command → IsVerdict asked files result → result ≡ Err Usage
 usage_verdict files no_command _ e (refused h) = refused_same h
 usage_verdict files no_command result e (followed h k) = absurd (no_both (sym h))
-usage_verdict files (built command) result e v = differ_built_none e
+usage_verdict files (a_command command) result e v = differ_built_none e

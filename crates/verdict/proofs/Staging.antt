@@ -101,10 +101,6 @@ found_then G T H U old mid new a r =
     found_within G T (H a) (U a) (λ files. Then (G files) (λ a. H a files)) (EitherTurn G T U) old mid new a r
     (λ files g h. followed g h) (λ files name g h. second_turn g h)
 
--- a stage that is refused memory, and the shelf is as it was
-pub memory_staged : {A : Type 0} (G : Files → Result A Reason → Type 0) (T : Files → List ℕ → Type 0) (s : Shelved) → Staged G T s s (Err reason.NoMemory)
-memory_staged G T s = record { fits = tt; caused = tt; files = refl; misses = omega arith; faults = omega arith; taken = omega arith }
-
 -- ---- stages that read no file
 
 pure_fits : {A : Type 0} (G : Result A Reason → Type 0) (told : Option Files) (r : Result A Reason) → Pure G r → Fits (λ files. G) NoTurn told r
@@ -152,18 +148,6 @@ wider_staged {A} G K T V old new r gives turns s = record {
     by_result None (Ok a) h more = tt
     by_result (Some files) (Ok a) h more = more files h
     by_result told (Err e) h more = wider_fits G T K V told e (λ files is k. more files k) (λ files name is k. turns files name k) h
-
--- ---- a stage, and then one that reads no file
-
-pub refused_before : {A B : Type 0} (G : Files → Result A Reason → Type 0) (T : Files → List ℕ → Type 0) (H : A → Result B Reason → Type 0) (old new : Shelved) (e : Reason)
-    → Staged G T old new (Err e) → Staged (λ files. Then (G files) H) T old new (Err e)
-refused_before G T H old new e = refusal_within G T (λ files. Then (G files) H) T old new e (λ files h. refused h) (λ files name h. h)
-
-pub found_before : {A B : Type 0} (G : Files → Result A Reason → Type 0) (T : Files → List ℕ → Type 0) (H : A → Result B Reason → Type 0) (old new : Shelved) (a : A) (r : Result B Reason)
-    → Staged G T old new (Ok a) → Pure (H a) r → Staged (λ files. Then (G files) H) T old new r
-found_before G T H old new a r s h =
-    found_within G T (λ files. H a) NoTurn (λ files. Then (G files) H) T old new new a r
-    (λ files g k. followed g k) (λ files name g no_turn. absurd no_turn) s (pure_staged (H a) new r h)
 
 -- ---- two stages that read no file, one after another
 

@@ -1,21 +1,15 @@
 -- The structure of what was loaded, as a stage that reads no file.
-use Rattle.std.proofs.Common.{◌≡◌, ◌+◌, ℕ, Bool, List, [], ◌∷◌, ◌++◌, length, Option, Result, Ok, Err, refl, sym, subst, arith}
+use Rattle.std.proofs.Common.{◌≡◌, ◌+◌, ℕ, Bool, List, [], ◌∷◌, ◌++◌, length, Result, Ok, Err, refl, sym, subst, arith}
 use Rattle.anyk_model.specs.Query.{Query}
 use Rattle.anyk_model.specs.Table.{Table}
-use Rattle.bound_query.specs.Shape.{Flaw, IsShape, Shape, cyclic, too_many_rows}
+use Rattle.bound_query.specs.Shape.{Shape}
 use Rattle.refusals.specs.Reason.{Reason}
-use Rattle.verdict.specs.Faults.{of_shape}
 use Rattle.verdict.specs.AcceptedInput.{found_of}
 use Rattle.verdict.specs.Loading.{Loaded, are_several, told_branch}
 use Rattle.verdict.specs.StageResults.{Pure}
 use Rattle.verdict.specs.Stages.{followed, refused}
 use Rattle.verdict.specs.UnionBound.{HaveShapes}
 use Rattle.verdict.specs.Verdict.{AreStructures, IsFlawed, IsShaped}
-
--- a fault of the structure is not one of the outside
-pub pure_flaw : {A : Type 0} (Gives : Result A Reason → Type 0) (branch : Option ℕ) (flaw : Flaw) → Gives (Err (of_shape branch flaw)) → Pure Gives (Err (of_shape branch flaw))
-pure_flaw Gives branch (cyclic items) h = h
-pure_flaw Gives branch too_many_rows h = h
 
 -- each query has a structure
 pub structures_found : (several : Bool) (number : ℕ) (tables : List Table) (queries : List Query) (shapes : List Shape)
@@ -41,9 +35,6 @@ structures_refused several number place tables (first ∷ before) query later (s
 abbrev Found : Result (List Shape) Reason → Result (List Shape) Reason → Type 0
 Found a b = a ≡ b
 
-no_found : {A : Type 0} {shapes : List Shape} {reason : Reason} → Found (Err reason) (Ok shapes) → A
-no_found e = cc
-
 same_found : {a b : List Shape} → Found (Ok a) (Ok b) → a ≡ b
 same_found e = cc
 
@@ -59,15 +50,3 @@ pub shapes_found : (loaded : Loaded) (shapes : List Shape) → HaveShapes loaded
     → Pure (IsShaped loaded) (Ok (found_of loaded shapes))
 shapes_found loaded shapes h =
     followed {a = shapes} (structures_found (are_several loaded.queries) 1 loaded.tables loaded.queries shapes h) refl
-
--- one query of it has none
-pub flaw_found : (loaded : Loaded) (before : List Query) (query : Query) (later : List Query) (shapes : List Shape) (place : ℕ) (flaw : Flaw)
-    → loaded.queries ≡ before ++ query ∷ later → HaveShapes loaded.tables before shapes → place ≡ 1 + length before → IsShape query loaded.tables (Err flaw)
-    → Pure (IsShaped loaded) (Err (of_shape (told_branch (are_several loaded.queries) place) flaw))
-flaw_found loaded before query later shapes place flaw parts h e is =
-    let several = are_several loaded.queries in
-    let branch = told_branch several place in
-    let one = structures_refused several 1 place loaded.tables before query later shapes (of_shape branch flaw) h e
-    (record { flaw = flaw; is_flaw = is; told = refl }) in
-    pure_flaw (IsShaped loaded) branch flaw
-    (refused (subst (λ qs. AreStructures several 1 loaded.tables qs (Err (of_shape branch flaw))) (sym parts) one))

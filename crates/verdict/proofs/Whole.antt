@@ -5,8 +5,8 @@ use Rattle.std.specs.Io.KnownBytes.{Appends}
 use Rattle.outer_io.specs.Files.{Files}
 use Rattle.refusals.specs.Reason as reason
 use Rattle.refusals.specs.Reason.{Reason, status_of}
-use Rattle.verdict.specs.Words.{Command, Asked, no_command, built}
-use Rattle.verdict.specs.Outcome.{Outside, Outcome, Ended, IsReason, IsComplete, IsDoneWhereAccepted, statuses}
+use Rattle.verdict.specs.Words.{Command, Asked, no_command, a_command, run, plan, session, load, prove, verify}
+use Rattle.verdict.specs.Outcome.{Outside, Outcome, Ended, IsReason, IsComplete, IsDoneWhereAccepted, IsUntouched, statuses}
 use Rattle.verdict.proofs.Complete.{complete_only, complete_unrefused, done_only, refused_only, unwritten_only}
 
 known_status : (asked : Asked) (told : Option Files) (a : Reason) → IsReason asked told a → list_any (λ s. s == status_of a) statuses ≡ true
@@ -34,12 +34,12 @@ ended_outcome asked told old new a h usage = record {
 abbrev Same : Asked → Asked → Type 0
 Same a b = a ≡ b
 
-differ_none : {A : Type 0} {k : Command} → Same (built k) no_command → A
+differ_none : {A : Type 0} {k : Command} → Same (a_command k) no_command → A
 differ_none h = cc
 
 complete_command : {A : Type 0} (asked : Asked) (told : Option Files) (old new : Outside) → IsComplete asked told old new → asked ≡ no_command → A
 complete_command no_command told old new h e = absurd h
-complete_command (built command) told old new h e = differ_none e
+complete_command (a_command command) told old new h e = differ_none e
 
 zero_accepted : (asked : Asked) (told : Option Files) (old new : Outside) → IsDoneWhereAccepted asked told old new 0
 zero_accepted asked None old new = tt
@@ -58,3 +58,13 @@ done_outcome asked told old new h quiet = record {
   exact = complete_only asked told old new h;
   unwritten = complete_unrefused asked told old new h;
 }
+
+-- no file was opened
+pub untouched_still : {F : Type 0} (asked : Asked) (shelf : F) → IsUntouched asked shelf shelf
+untouched_still no_command shelf = refl
+untouched_still (a_command (run words)) shelf = tt
+untouched_still (a_command (plan words)) shelf = tt
+untouched_still (a_command (session script words)) shelf = tt
+untouched_still (a_command (load number rows)) shelf = refl
+untouched_still (a_command (prove words)) shelf = tt
+untouched_still (a_command (verify proof words)) shelf = tt

@@ -4,11 +4,12 @@ use Rattle.outer_io.specs.Files.{Files}
 use Rattle.bound_query.specs.RunBounds.{cost_over, records_in}
 use Rattle.bound_query.specs.Steps.{calls_for}
 use Rattle.verdict.specs.AcceptedInput.{Found, is_union, query_of, structure_of}
-use Rattle.verdict.specs.Output.{asked_list, style_of, tagged_of}
+use Rattle.verdict.specs.Output.{asked_list, members_of, style_of, tagged_of}
 use Rattle.verdict.specs.UnionBound.{union_cost, union_records}
 use Rattle.output_model.specs.SessionCalls.{session_calls, session_reach}
+use Rattle.output_model.specs.SessionPieces.{pieces_in}
 use Rattle.verdict.specs.Verdict.{IsVerdict}
-use Rattle.verdict.specs.Words.{Asked, Command, Words, built, load, plan, prove, run, session, verify}
+use Rattle.verdict.specs.Words.{Asked, Command, Words, a_command, load, plan, prove, run, session, verify}
 
 -- the bound for this many calls for answers of the first query
 abbrev pub cost_of : Found → ℕ → ℕ
@@ -39,8 +40,8 @@ IsWithin command found before now = IfSome (most_steps command found) (λ most. 
 -- if the files are known and the input is accepted, the steps are within the bound, even if the
 -- call ended early
 abbrev pub IsBounded : Asked → Option Files → ℕ → ℕ → Type 0
-IsBounded (built command) told before now = IfSome told
-    (λ files. (found : Found) → IsVerdict (built command) files (Ok found)
+IsBounded (a_command command) told before now = IfSome told
+    (λ files. (found : Found) → IsVerdict (a_command command) files (Ok found)
     → IsWithin command found before now)
 IsBounded asked told before now = Unit {0}
 
@@ -55,20 +56,32 @@ steps_for_part words found part =
     else cost_of found (records_in (query_of found) found.tables (asked_list found)
     (style_of words) part + 1)
 
--- a run took no more steps than for the whole records that the output got, and one call more
+-- the bound for the whole pieces in a part of the output of `session`, and for one more, with 4
+-- more steps for each
+abbrev pub steps_for_pieces : Words → Found → List ℕ → ℕ
+steps_for_pieces words found part =
+    cost_of found (pieces_in (query_of found) found.tables (style_of words) (members_of found)
+    found.steps part + 1)
+    + 4 * (pieces_in (query_of found) found.tables (style_of words) (members_of found)
+    found.steps part + 1)
+
+-- A run took no more steps than for the whole records that the output got, and one call more, and
+-- a session no more than for its whole pieces, and one call more.
 abbrev pub IsPaced : Command → Found → Option (List ℕ) → Option (List ℕ) → ℕ → ℕ → Type 0
 IsPaced (run words) found old new before now = (start part : List ℕ) → old ≡ Some start
     → new ≡ Some (start ++ part)
     → now ≤ before + steps_for_part words found part
 IsPaced (plan words) found old new before now = Unit {0}
-IsPaced (session script words) found old new before now = Unit {0}
+IsPaced (session script words) found old new before now = (start part : List ℕ)
+    → old ≡ Some start → new ≡ Some (start ++ part)
+    → now ≤ before + steps_for_pieces words found part
 IsPaced (load number rows) found old new before now = Unit {0}
 IsPaced (prove words) found old new before now = Unit {0}
 IsPaced (verify proof words) found old new before now = Unit {0}
 
 -- the same, if the files are known and the input is accepted
 abbrev pub IsPrompt : Asked → Option Files → Option (List ℕ) → Option (List ℕ) → ℕ → ℕ → Type 0
-IsPrompt (built command) told old new before now =
-    IfSome told (λ files. (found : Found) → IsVerdict (built command) files (Ok found)
+IsPrompt (a_command command) told old new before now =
+    IfSome told (λ files. (found : Found) → IsVerdict (a_command command) files (Ok found)
     → IsPaced command found old new before now)
 IsPrompt asked told old new before now = Unit {0}

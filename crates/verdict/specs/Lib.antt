@@ -9,7 +9,9 @@ pub mod Output
 pub mod SessionBound
 pub mod UnionBound
 pub mod Outcome
+pub mod Silence
 pub mod Sides
 pub mod Bound
+pub mod Execution
 pub mod Laws
 pub mod StageResults

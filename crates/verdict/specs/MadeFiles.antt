@@ -3,7 +3,7 @@ use Rattle.std.specs.Prelude.{ℕ, List, [], ◌∷◌, map, Option, Some}
 use Rattle.std.specs.List.{zip}
 use Rattle.make_input.specs.Input.{files, load_query, query_file, table_files}
 use Rattle.outer_io.specs.Files.{Files}
-use Rattle.verdict.specs.Words.{Asked, Command, no_command, built, run, plan, session, load, prove, verify}
+use Rattle.verdict.specs.Words.{Asked, Command, no_command, a_command, run, plan, session, load, prove, verify}
 
 -- the query over the four tables, and the tables that are made from the number
 abbrev pub made_files : ℕ → ℕ → Files
@@ -22,9 +22,9 @@ files_of (load number rows) given = made_files number rows
 -- the files that are known to a call: `load` needs to know none, since it makes those that it reads
 abbrev pub known_to : Asked → Option Files → Option Files
 known_to no_command told = told
-known_to (built (run words)) told = told
-known_to (built (plan words)) told = told
-known_to (built (session script words)) told = told
-known_to (built (prove words)) told = told
-known_to (built (verify proof words)) told = told
-known_to (built (load number rows)) told = Some []
+known_to (a_command (run words)) told = told
+known_to (a_command (plan words)) told = told
+known_to (a_command (session script words)) told = told
+known_to (a_command (prove words)) told = told
+known_to (a_command (verify proof words)) told = told
+known_to (a_command (load number rows)) told = Some []

@@ -9,7 +9,7 @@ use Rattle.query_select.specs.declared.select.Select.{Select}
 use Rattle.rankings.specs.Order.{IsMember}
 use Rattle.refusals.specs.Reason as reason
 use Rattle.refusals.specs.Reason.{Reason, status_of, line_of}
-use Rattle.verdict.specs.Words.{Command, Asked, Sought, no_command, built, run, plan, session, load, prove, verify, aside_name, sought_by}
+use Rattle.verdict.specs.Words.{Command, Asked, Sought, no_command, a_command, run, plan, session, load, prove, verify, IsNamedBy, aside_name, sought_by}
 use Rattle.verdict.specs.AcceptedInput.{Found}
 use Rattle.verdict.specs.Loading.{Beside, IsReading, all_items, most_bytes, beside_in, file_in, unknown_table, first_uses, files_read}
 use Rattle.verdict.specs.Output.{HasOutput}
@@ -36,15 +36,15 @@ pub record HasLine (old new : Outside) (line : List ℕ) : Type 0 where
 
 -- if the files are known: the input is accepted, and its complete output was written
 abbrev pub IsComplete : Asked → Option Files → Outside → Outside → Type 0
-IsComplete (built command) told old new =
-    IfSome told (λ files. (found : Found) × IsVerdict (built command) files (Ok found)
+IsComplete (a_command command) told old new =
+    IfSome told (λ files. (found : Found) × IsVerdict (a_command command) files (Ok found)
     × (text : List ℕ) × HasOutput command found text × Appends old.output new.output text)
 IsComplete asked told old new = ⊥
 
 -- if the files are known: the input is accepted, and the output got a prefix of its complete output
 abbrev pub GotAccepted : Asked → Option Files → Outside → Outside → Type 0
-GotAccepted (built command) told old new =
-    IfSome told (λ files. (found : Found) × IsVerdict (built command) files (Ok found)
+GotAccepted (a_command command) told old new =
+    IfSome told (λ files. (found : Found) × IsVerdict (a_command command) files (Ok found)
     × (text : List ℕ) × HasOutput command found text × GotPrefix old.output new.output text)
 GotAccepted asked told old new = ⊥
 
@@ -83,7 +83,7 @@ IsCommandTurn (verify proof words) told name = IfSome told
 IsCommandTurn (load number rows) told name = ⊥
 
 abbrev pub IsTurn : Asked → Option Files → List ℕ → Type 0
-IsTurn (built command) told name = IsCommandTurn command told name
+IsTurn (a_command command) told name = IsCommandTurn command told name
 IsTurn no_command told name = ⊥
 
 -- if the files are known, the reason is the verdict on the input, or it says what happened on the
@@ -97,25 +97,36 @@ IsReason asked told reason.NoMemory = Unit {0}
 IsReason asked told refusal = IfSome told (λ files. IsVerdict asked files (Err refusal))
 
 -- A reason about the outside is given only if the count that belongs to it rose: for a file that is
--- too large, more bytes were read than a file may have.
-abbrev pub IsCaused : Outside → Outside → Reason → Type 0
-IsCaused old new (reason.NoFile name) = Rose old.misses new.misses
-IsCaused old new (reason.ReadFault name) = Rose old.read_faults new.read_faults
-IsCaused old new (reason.TooLarge name) = RoseAbove most_bytes old.taken new.taken
-IsCaused old new reason.WriteFault = Rose old.write_faults new.write_faults
-IsCaused old new other = Unit {0}
+-- too large, more bytes were read than a file may have. The file is one that the arguments name,
+-- also if no file is known.
+abbrev pub IsCaused : Asked → Outside → Outside → Reason → Type 0
+IsCaused asked old new (reason.NoFile name) = Rose old.misses new.misses × IsNamedBy asked name
+IsCaused asked old new (reason.ReadFault name) = Rose old.read_faults new.read_faults
+    × IsNamedBy asked name
+IsCaused asked old new (reason.TooLarge name) = RoseAbove most_bytes old.taken new.taken
+    × IsNamedBy asked name
+IsCaused asked old new reason.WriteFault = Rose old.write_faults new.write_faults
+IsCaused asked old new other = Unit {0}
+
+-- what the output got if memory ran out: `plan`, `load` and `prove` write once, at their end
+abbrev pub IsCutShort : Asked → Option Files → Outside → Outside → Type 0
+IsCutShort no_command told old new = GotNothing old new
+IsCutShort (a_command (plan words)) told old new = GotNothing old new
+IsCutShort (a_command (load number rows)) told old new = GotNothing old new
+IsCutShort (a_command (prove words)) told old new = GotNothing old new
+IsCutShort asked told old new = GotNothing old new ⊎ GotAccepted asked told old new
 
 -- what the output got if the call ended with a reason
 abbrev pub IsCut : Asked → Option Files → Outside → Outside → Reason → Type 0
 IsCut asked told old new reason.WriteFault = GotAccepted asked told old new
-IsCut asked told old new reason.NoMemory = GotNothing old new ⊎ GotAccepted asked told old new
+IsCut asked told old new reason.NoMemory = IsCutShort asked told old new
 IsCut asked told old new other = GotNothing old new
 
 -- the call ended for this reason
 pub record Ended (asked : Asked) (told : Option Files) (old new : Outside)
     (reason : Reason) : Type 0 where
   pub fits : IsReason asked told reason
-  pub caused : IsCaused old new reason
+  pub caused : IsCaused asked old new reason
   pub cut : IsCut asked told old new reason
   pub line : HasLine old new (line_of reason)
 
@@ -157,3 +168,9 @@ pub record Outcome (asked : Asked) (told : Option Files) (old new : Outside)
   pub accepted : IsDoneWhereAccepted asked told old new status
   pub exact : IsRefusedWhereRefused asked told old new status
   pub unwritten : IsUnwrittenWhereRefused asked told old new
+
+-- if the arguments are not a command, or ask for `load`, the shelf is as it was: no file was opened
+abbrev pub IsUntouched : {F : Type 0} → Asked → F → F → Type 0
+IsUntouched no_command old new = new ≡ old
+IsUntouched (a_command (load number rows)) old new = new ≡ old
+IsUntouched asked old new = Unit {0}

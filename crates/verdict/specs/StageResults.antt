@@ -51,6 +51,13 @@ pub record Staged {A : Type 0} (Gives : Files → Result A Reason → Type 0)
   pub faults : old.faults ≤ new.faults
   pub taken : old.taken ≤ new.taken
 
+-- a reason that tells a file tells one of these
+abbrev pub TellsOne : (List ℕ → Type 0) → Reason → Type 0
+TellsOne IsOne (reason.NoFile name) = IsOne name
+TellsOne IsOne (reason.ReadFault name) = IsOne name
+TellsOne IsOne (reason.TooLarge name) = IsOne name
+TellsOne IsOne other = Unit {0}
+
 -- a stage that reads no file: its result, or no memory
 abbrev pub Pure : {A : Type 0} → (Result A Reason → Type 0) → Result A Reason → Type 0
 Pure Gives (Err reason.NoMemory) = Unit {0}

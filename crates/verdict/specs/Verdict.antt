@@ -13,7 +13,7 @@ use Rattle.proof_model.specs.Faults.{fault_of}
 use Rattle.proof_model.specs.Valid.{Flaw as ProofFlaw, IsFirst, IsValid}
 use Rattle.verdict.specs.Faults.{of_proof, of_shape}
 use Rattle.verdict.specs.MadeFiles.{files_of}
-use Rattle.verdict.specs.Words.{Asked, Sought, no_command, built, verify, sought_by}
+use Rattle.verdict.specs.Words.{Asked, Sought, no_command, a_command, verify, sought_by}
 use Rattle.verdict.specs.Loading.{Beside, Loaded, IsReading, all_items, are_several, beside_in, file_in, told_branch}
 use Rattle.verdict.specs.Loading.{unknown_table, tables_in, first_uses, bound_in, loaded_in}
 use Rattle.verdict.specs.AcceptedInput.{Found, found_of, query_of, structure_of}
@@ -56,7 +56,7 @@ IsLoadedOn sought files = Then (Is (file_in files sought.query)) (IsRead sought 
 -- the arguments
 abbrev pub IsLoaded : Asked → Files → Result Loaded Reason → Type 0
 IsLoaded no_command files = Is (Err Usage)
-IsLoaded (built command) files = IsLoadedOn (sought_by command) (files_of command files)
+IsLoaded (a_command command) files = IsLoadedOn (sought_by command) (files_of command files)
 
 -- ---- the structure
 
@@ -112,6 +112,6 @@ IsStructured asked files = Then (IsLoaded asked files) IsShaped
 
 -- and then, if the command is `verify`, its certificate is checked
 abbrev pub IsVerdict : Asked → Files → Result Found Reason → Type 0
-IsVerdict (built (verify proof words)) files = Then
-    (IsStructured (built (verify proof words)) files) IsVerified
+IsVerdict (a_command (verify proof words)) files = Then
+    (IsStructured (a_command (verify proof words)) files) IsVerified
 IsVerdict asked files = IsStructured asked files

@@ -1,7 +1,8 @@
 -- What the arguments of the command line ask for, without the engine: both engines give the same
 -- text.
-use Rattle.std.specs.Prelude.{ℕ, List, Bool, true, false, Option, Some, None}
+use Rattle.std.specs.Prelude.{◌≡◌, ℕ, List, map, Bool, true, false, Option, Some, None}
 use Rattle.make_input.specs.Input.{query_file, table_files}
+use Rattle.rankings.specs.Order.{IsMember}
 
 -- the names of files and tables are written as on the command line
 pub record Words : Type 0 where
@@ -90,4 +91,22 @@ sought_by (verify name words) =
 pub data Asked : Type 0 where
   -- the arguments are not a command
   no_command : Asked
-  built : Command → Asked
+  a_command : Command → Asked
+
+-- ---- the files that are named
+
+-- the names of the tables' files
+abbrev pub table_file_names : Named → List (List ℕ)
+table_file_names named = map (λ (table : List ℕ × List ℕ). table.1) named
+
+-- the file is that of the query, of the script or the certificate, or of one of the tables
+pub data IsNamed (sought : Sought) (name : List ℕ) : Type 0 where
+  names_query : name ≡ sought.query → IsNamed sought name
+  names_aside : aside_name sought.aside ≡ Some name → IsNamed sought name
+  names_table : IsMember name (table_file_names sought.named) → IsNamed sought name
+
+-- the arguments name the file; those of `load` name none
+abbrev pub IsNamedBy : Asked → List ℕ → Type 0
+IsNamedBy no_command name = ⊥
+IsNamedBy (a_command (load number rows)) name = ⊥
+IsNamedBy (a_command command) name = IsNamed (sought_by command) name

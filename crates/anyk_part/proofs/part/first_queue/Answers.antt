@@ -33,7 +33,7 @@ returns-clause-part g c =
     let e : Entry g.row.R.Denot Candidate = first_entry c.best-best.result in
     let live : 0 < group_count t 0 = search rules in
     let empty : c.reserve.new.self.entries ≡ [] = c.reserve.ensures.entries ∙ c.new-queue.ensures.entries in
-    let whole : c.new-whole.result ≡ e.tag = c.new-whole.ensures.parts ∙ ap (λ id. record { position = 0; place = 0; before = id }) c.first.ensures in
+    let whole : c.new-whole.result ≡ e.tag = c.new-whole.ensures.parts in
     let put : IsPermutation (e ∷ []) c.push_reserved.new.self.entries =
     subst (λ (k : Candidate). IsPermutation (record { rank = c.best-best.result; tag = k } ∷ []) c.push_reserved.new.self.entries) whole
     (subst (λ (es : List (Entry g.row.R.Denot Candidate)). IsPermutation (record { rank = c.best-best.result; tag = c.new-whole.result } ∷ es) c.push_reserved.new.self.entries) empty c.push_reserved.ensures.permutation) in

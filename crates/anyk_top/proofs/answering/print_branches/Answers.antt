@@ -15,13 +15,14 @@ use Rattle.verdict.specs.Words.{run}
 use Rattle.command_input.specs.Tasks.{words_of}
 use Rattle.anyk_top.specs.Plans.{shapes_of}
 use Rattle.command_input.proofs.Inputs.{input_view}
-use Rattle.anyk_top.specs.Answered.{IsAnswered}
+use Rattle.command_input.proofs.Judging.{never_several}
+use Rattle.anyk_top.specs.OutputPrinting.{PrintsOutput}
 use Rattle.anyk_top.proofs.Bounds.{several_output, several_paced, several_within}
 use Rattle.anyk_top.proofs.PlanList.{plans_shaped}
 use Rattle.anyk_top.proofs.answering.print_branches.Goals as goal
 
-pub returns-in-Run : goal.returns-in-Run
-returns-in-Run g c =
+pub returns : goal.returns
+returns g c =
     let input = input_view c.input.inside in
     let words = words_of (words_view c.in-Run.words) in
     let shapes = shapes_of c.args.plans.now in
@@ -41,15 +42,21 @@ returns-in-Run g c =
     let K = λ (style : Style). (before : ℕ) → ArePrepared all input.tables before c.args.steps.now
     → KeepsUnionPace all input.tables members style old.written new.written before now in
     let paced = subst K c.style_in-style.ensures (rw c.as_slice-queries.ensures.value at c.print_union_run.ensures.paced) in
-    let P = λ (i : InputView). IsAnswered (run words) (found_of (loaded_of i) shapes)
+    let P = λ (i : InputView). PrintsOutput (run words) (found_of (loaded_of i) shapes)
     (λ (before : ℕ). ArePrepared (queries_in i.queries) i.tables before c.args.steps.now) old new now
     c.print_union_run.result in
     let own : P input = record {
       printed = printed_some (HasOutput (run words) (found_of (loaded_of input) shapes)) _ _ _ _
           (text ∙ sym (several_output words input shapes more)) printed;
+      silent = tt;
       bounded = λ before prepared.
           several_within words input shapes before now more (bounded before prepared shapes has);
       paced = λ before prepared.
           several_paced words input shapes old.written new.written before now more (paced before prepared shapes has);
     } in
     rw c.in-Run.is (subst P c.input.view_is own)
+
+-- only `run` may have several queries
+pub unreachable-requires : goal.unreachable-requires
+unreachable-requires g c =
+    never_several c.args.task.now c.args.input.now c.in_default.not-Run c.requires.alone c.requires.several

@@ -10,7 +10,7 @@ use Rattle.command_input.specs.Tasks.{command_of}
 use Rattle.command_input.proofs.Inputs.{input_view}
 use Rattle.command_input.proofs.Judging.{unnamed_of}
 use Rattle.anyk_top.proofs.PlanList.{first_only, first_planned, one_cost, one_printed}
-use Rattle.anyk_top.specs.Answered.{IsAnswered}
+use Rattle.anyk_top.specs.OutputPrinting.{PrintsOutput}
 use Rattle.anyk_top.proofs.answering.print_plan.Goals as goal
 
 pub print_output-requires-clause-plan : goal.print_output-requires-clause-plan
@@ -25,6 +25,9 @@ print_output-requires-clause-unnamed g c =
     subst (λ (i : InputView). IsUnnamed (command_of c.args.task.now) i.best) (sym c.input.view_is)
     (unnamed_of (command_of c.args.task.now) c.args.input.now c.requires.alone)
 
+pub print_output-requires-clause-planned : goal.print_output-requires-clause-planned
+print_output-requires-clause-planned g c = c.requires.planned
+
 pub returns : goal.returns
 returns g c =
     let input = input_view c.input.inside in
@@ -36,7 +39,7 @@ returns g c =
     let found = one_printed input query c.as_slice-script.result.now (shape_of made) only
     (sym c.as_slice-script.ensures.value) in
     let ready = λ (i : InputView) (before : ℕ). ArePrepared (queries_in i.queries) i.tables before c.args.steps.now in
-    let P = λ (i : InputView) (f : Found). IsAnswered (command_of c.args.task.now) f (ready i)
+    let P = λ (i : InputView) (f : Found). PrintsOutput (command_of c.args.task.now) f (ready i)
     (state_of g.S.Sink c.args.out.now) (state_of g.S.Sink c.print_output.new.out) c.print_output.new.steps
     c.print_output.result in
     let own = c.print_output.ensures input.proof in
@@ -44,6 +47,7 @@ returns g c =
     subst (λ (i : InputView). P i (found_of (loaded_of i) (shape_of made ∷ []))) c.input.view_is
     (subst (P input) (sym found) (record {
       printed = own.printed;
+      silent = own.silent;
       bounded = λ before prepared. own.bounded before (one before prepared);
       paced = λ before prepared. own.paced before (one before prepared);
     }))

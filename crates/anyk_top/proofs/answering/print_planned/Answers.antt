@@ -6,6 +6,9 @@ print_one-requires-clause-plan g c = rw c.in-One.is at c.requires.plans
 pub print_one-requires-clause-alone : goal.print_one-requires-clause-alone
 print_one-requires-clause-alone g c = c.requires.alone
 
+pub print_one-requires-clause-planned : goal.print_one-requires-clause-planned
+print_one-requires-clause-planned g c = c.requires.planned
+
 pub print_branches-requires-clause-several : goal.print_branches-requires-clause-several
 print_branches-requires-clause-several g c =
     let plans = rw c.in-Sums.is at c.requires.plans in

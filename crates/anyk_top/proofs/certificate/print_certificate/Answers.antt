@@ -1,7 +1,7 @@
 use Rattle.std.proofs.Common.{◌≡◌, Err, List, refl, rules, subst, sym}
 use Rattle.proof_model.specs.ProofTexts.{IsProofText}
 use Rattle.outer_io.specs.declared.fault.PrintFault.TheVariants as fault
-use Rattle.outer_io.proofs.Prints.{none_printed}
+use Rattle.outer_io.proofs.Prints.{appends_nothing, none_printed}
 use Rattle.tdp_core.specs.Solutions.{IsTreeRanking}
 use Rattle.tdp_core.specs.TreeView.{NodeView}
 use Rattle.anyk_top.proofs.certificate.print_certificate.Goals as goal
@@ -14,6 +14,7 @@ returns-in_err-chosen g c = record {
   printed = λ tables fits is.
       let e : c.from_residual.result ≡ Err fault.NoMemory = search rules in
       rw e (none_printed (IsProofText c.args.query.now.query tables) _);
+  silent = let e : c.from_residual.result ≡ Err fault.NoMemory = search rules in rw e (appends_nothing _);
 }
 
 pub print_proof-printed-requires-clause-planned : goal.print_proof-printed-requires-clause-planned
@@ -31,4 +32,7 @@ print_proof-printed-requires-clause-rest g c =
 
 pub returns : goal.returns
 returns g c =
-    record { printed = λ tables fits is. c.print_proof-printed.ensures.printed tables c.args.plan.now fits is (sym c.tree.ensures) }
+    record {
+      printed = λ tables fits is. c.print_proof-printed.ensures.printed tables c.args.plan.now fits is (sym c.tree.ensures);
+      silent = c.print_proof-printed.ensures.silent;
+    }

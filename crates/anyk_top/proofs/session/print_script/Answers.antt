@@ -6,6 +6,9 @@ use Rattle.outer_io.proofs.Prints.{unprinted}
 use Rattle.bound_query.specs.Steps.{steps_for}
 use Rattle.tdp_core.specs.Shares.{share_of, size_of}
 use Rattle.output_model.specs.SessionCalls.{session_calls, session_reach}
+use Rattle.output_model.specs.SessionPieces.{pieces_in}
+use Rattle.answer_print.specs.StyleView.{style_view}
+use Rattle.anyk_model.specs.Output.{cut}
 use Rattle.plan_build.proofs.Rooted.{whole_of}
 use Rattle.plan_build.proofs.ShapeIs.{rows_counted}
 use Rattle.engine_choice.proofs.RunBounds.{called_by, started}
@@ -39,6 +42,9 @@ returns-in_err-chosen g c =
       bounded = λ before prepared shape has.
           no_moves _ _ _ (started g.R.Rank.KEYS g.R.Rank.key query tables c.requires.fits.some shape view plan.nodes
           (rows_counted g.R.Rank.KEYS g.R.Rank.key bound tables view plan shape has) before c.args.steps.now c.engine_over.new.steps reach prepared c.in_err-chosen.ensures.cost);
+      paced = λ before prepared shape has start part is_old is_new.
+          no_moves _ _ _ (started g.R.Rank.KEYS g.R.Rank.key query tables c.requires.fits.some shape view plan.nodes
+          (rows_counted g.R.Rank.KEYS g.R.Rank.key bound tables view plan shape has) before c.args.steps.now c.engine_over.new.steps _ prepared c.in_err-chosen.ensures.cost);
     }
 
 pub print_session-requires-clause-rows : goal.print_session-requires-clause-rows
@@ -67,4 +73,13 @@ returns g c =
           tree calls c.in_ok-chosen.ensures.tree c.in_ok-chosen.ensures.calls
           before c.args.steps.now c.engine_over.new.steps (c.print_session.new.steps - moves) reach prepared c.in_ok-chosen.ensures.cost
           (less_moves _ _ _ spent));
+      paced = λ before prepared shape has start part is_old is_new.
+          let made : ℕ = pieces_in query tables (style_view c.args.style.now) (cut query.limit list) c.args.script.now part + 1 in
+          let within : c.print_session.new.steps ≤ c.engine_over.new.steps + steps_for (λ n. share_of (size_of tree) (calls + n)) made + 4 * made =
+          rw left at (c.print_session.ensures.prompt start part is_old is_new) in
+          with_moves _ _ _ (called_by g.R.Rank.KEYS g.R.Rank.key query tables c.requires.fits.some shape view plan.nodes
+          (rows_counted g.R.Rank.KEYS g.R.Rank.key bound tables view plan shape has)
+          tree calls c.in_ok-chosen.ensures.tree c.in_ok-chosen.ensures.calls
+          before c.args.steps.now c.engine_over.new.steps (c.print_session.new.steps - 4 * made) made prepared c.in_ok-chosen.ensures.cost
+          (less_moves _ _ _ within));
     }

@@ -10,7 +10,7 @@ use Rattle.union_all.proofs.Rankings.{rankings_left}
 use Rattle.anyk_model.specs.TaggedRows.{Tagged}
 use Rattle.anyk_model.specs.Union.{left_of, union_of}
 use Rattle.verdict.specs.AcceptedInput.{queries_in}
-use Rattle.anyk_top.proofs.UnionRun.{called_any, due_any, engines_same, first_limit, prepared_any, rests_are}
+use Rattle.anyk_top.proofs.UnionRun.{called_any, due_any, engines_same, first_limit, rests_are}
 use Rattle.anyk_top.proofs.UnionRun.{started_any, tie_free_lem, union_left, union_members}
 use Rattle.anyk_top.proofs.union.print_union_run.Given.{Over}
 use Rattle.anyk_top.proofs.union.print_union_run.Goals.{In_ok-merge}
@@ -26,26 +26,15 @@ module _ (g : Over) where
       ∙ ap (λ (qs : List Query). left_of qs asked.tables.now (rests_of (rest_of g.R.Rank.KEYS g.R.Rank.key) qs engines)) c.in_ok-merge.ensures.queries
       ∙ union_left g.R.Rank.KEYS g.R.Rank.key asked.tables.now asked.queries.now asked.plans.now engines c.requires.plans c.in_ok-engines.ensures.started
 
-pub returns-in_err-arenas : goal.returns-in_err-arenas
-returns-in_err-arenas g c =
-    let asked = c.args.asked.now in
-    let e : c.from_residual.result ≡ Err fault.NoMemory = search rules in
-    record {
-      printed = rw e (unprinted _ _);
-      bounded = λ before prepared shapes has.
-          prepared_any asked.tables.now (queries_in asked.queries.now) before c.args.steps.now prepared _ shapes has;
-      paced = λ before prepared shapes has start part is_old is_new.
-          prepared_any asked.tables.now (queries_in asked.queries.now) before c.args.steps.now prepared _ shapes has;
-    }
-
-pub engines_over-requires-clause-tie_free : goal.engines_over-requires-clause-tie_free
-engines_over-requires-clause-tie_free g c =
-    tie_free_lem g.R.Rank.KEYS g.R.Rank.key c.args.asked.now.tables.now c.args.asked.now.queries.now c.args.asked.now.plans.now c.requires.plans
+pub engines_over-requires : goal.engines_over-requires
+engines_over-requires g c = record {
+  tie_free = tie_free_lem g.R.Rank.KEYS g.R.Rank.key c.args.asked.now.tables.now c.args.asked.now.queries.now c.args.asked.now.plans.now c.requires.plans;
+}
 
 pub returns-in_err-engines : goal.returns-in_err-engines
 returns-in_err-engines g c =
     let asked = c.args.asked.now in
-    let e : c.from_residual-in_err-engines.result ≡ Err fault.NoMemory = search rules in
+    let e : c.from_residual.result ≡ Err fault.NoMemory = search rules in
     record {
       printed = rw e (unprinted _ _);
       bounded = λ before prepared shapes has.

@@ -1,5 +1,6 @@
 use Rattle.std.proofs.Common.{Err, ap, arith}
 use Rattle.command_input.proofs.Files.{loaded_fits, refused_load}
+use Rattle.command_input.proofs.Telling.{file_told}
 use Rattle.command_input.proofs.file.load.Goals as goal
 
 pub returns-in-Err : goal.returns-in-Err
@@ -9,6 +10,7 @@ returns-in-Err g c = record {
       rw c.file_refusal.ensures
       (refused_load _ _ c.args.name.now c.in-Err.fault (λ h. e.lacks (ap Err h)) (λ h. e.long (ap Err h)) (λ h. e.missing (ap Err h)) (λ h. e.failed (ap Err h))
       (λ h. e.too_large (ap Err h)) e.files e.misses e.faults e.taken);
+  tells = rw c.file_refusal.ensures (file_told c.args.name.now c.in-Err.fault);
   short = tt;
 }
 
@@ -23,5 +25,6 @@ returns-in-Ok g c = record {
         faults = e.faults;
         taken = e.taken;
       };
+  tells = tt;
   short = let v = c.in-Ok.bytes in let short = c.in-Ok.ensures.short in omega (arith, short);
 }

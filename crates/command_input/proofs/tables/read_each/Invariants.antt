@@ -10,8 +10,8 @@ use Rattle.command_input.proofs.tables.read_each.Given as goal
 
 abbrev pub invariant-loop-entry : goal.invariant-loop-entry
 invariant-loop-entry g l =
-    (length l.reader ≡ l.entry-index)
+    (length l.tables ≡ l.entry-index)
     × ((named : List (List ℕ × List ℕ)) → AllByRecursion (IsEntryOf named) (map (λ e. named_pair e.now) l.entries)
     → Staged (IsReached named (map (λ e. named_pair e.now) l.entries) l.entry-index)
     (λ files file. IsMember file (files_read files named (tables_of (map (λ e. named_pair e.now) l.entries))))
-    (shelved g.F.Shelf l.initial.shelf) (shelved g.F.Shelf l.shelf) (Ok l.reader))
+    (shelved g.F.Shelf l.initial.shelf) (shelved g.F.Shelf l.shelf) (Ok l.tables))

@@ -2,8 +2,8 @@ use Rattle.std.proofs.Common.{ℕ, ◌≡◌, ◌+◌, ◌≤◌, inl, inr, Some
 use Rattle.std.specs.Prelude.{slice_set}
 use Rattle.anyk_model.specs.Output.{cut}
 use Rattle.command_output.specs.SessionCosts.{IsWithin, Spent}
-use Rattle.command_output.proofs.SessionCosts.{paid_spent, spent_call, spent_places, within_call, within_spent}
-use Rattle.command_output.proofs.Spending.{at_most_one}
+use Rattle.command_output.proofs.SessionCosts.{paid_spent, spent_call, spent_places, within_call, within_one, within_spent}
+use Rattle.command_output.proofs.Spending.{at_most_more, at_most_one}
 use Rattle.tdp_core.proofs.OptionFacts.{at_none, at_some}
 use Rattle.command_output.proofs.Follows.{cut_ended, cut_short, place_kept, same_place_in}
 use Rattle.command_output.proofs.Reach.{at_below, at_limit}
@@ -24,6 +24,8 @@ returns-in-Ok-Some g c =
           c.args.limit place (c.is_reached.ensures.within c.if-is_reached.false)
           (spent_call g.E.Ranked.share g.met.E.Ranked.share_rises c.args.set.now c.next.new.self c.args.id.number place c.args.steps.now c.next.new.steps c.requires
           c.next.ensures.kept c.next.ensures.grown c.next.ensures.known c.next.ensures.calls c.next.ensures.share (inl given.2)));
+      once = within_one g.E.Ranked.share g.met.E.Ranked.share_rises c.args.set.now c.next.new.self c.args.id.number place c.args.steps.now c.next.new.steps c.requires
+          c.next.ensures.kept c.next.ensures.grown c.next.ensures.known c.next.ensures.calls c.next.ensures.share;
     }
 
 pub returns-in-Ok-None : goal.returns-in-Ok-None
@@ -43,6 +45,8 @@ returns-in-Ok-None g c =
           c.args.limit place (c.is_reached.ensures.within c.if-is_reached.false)
           (spent_call g.E.Ranked.share g.met.E.Ranked.share_rises c.args.set.now c.next.new.self c.args.id.number place c.args.steps.now c.next.new.steps c.requires
           c.next.ensures.kept c.next.ensures.grown c.next.ensures.known c.next.ensures.calls c.next.ensures.share (inr ended.2)));
+      once = within_one g.E.Ranked.share g.met.E.Ranked.share_rises c.args.set.now c.next.new.self c.args.id.number place c.args.steps.now c.next.new.steps c.requires
+          c.next.ensures.kept c.next.ensures.grown c.next.ensures.known c.next.ensures.calls c.next.ensures.share;
     }
 
 pub returns-in-Err : goal.returns-in-Err
@@ -61,6 +65,8 @@ returns-in-Err g c =
                 (within_call g.E.Ranked.share g.met.E.Ranked.share_rises c.args.set.now c.next.new.self c.args.id.number place c.args.steps.now c.next.new.steps c.requires
                 c.next.ensures.kept c.next.ensures.grown c.next.ensures.known c.next.ensures.calls c.next.ensures.share);
           };
+      once = within_one g.E.Ranked.share g.met.E.Ranked.share_rises c.args.set.now c.next.new.self c.args.id.number place c.args.steps.now c.next.new.steps c.requires
+          c.next.ensures.kept c.next.ensures.grown c.next.ensures.known c.next.ensures.calls c.next.ensures.share;
     }
 
 pub returns-then-is_reached : goal.returns-then-is_reached
@@ -76,6 +82,7 @@ returns-then-is_reached g c =
           (at_limit (λ calls. Spent g.E.Ranked.share c.args.set.now c.args.set.now (place + calls) calls c.args.steps.now c.args.steps.now)
           c.args.limit place (c.is_reached.ensures.reached c.if-is_reached.true)
           (spent_places g.E.Ranked.share g.met.E.Ranked.share_rises c.args.set.now c.args.set.now (place + 0) 0 c.args.steps.now c.args.steps.now refl (at_most_one _ _)));
+      once = at_most_more _ _ _;
     }
 
 pub returns-in_default : goal.returns-in_default
@@ -95,4 +102,5 @@ returns-in_default g c =
                 (within_spent g.E.Ranked.share g.met.E.Ranked.share_rises set set (place + 1) 1 c.args.steps.now c.args.steps.now
                 (spent_places g.E.Ranked.share g.met.E.Ranked.share_rises set set (place + 1) 1 c.args.steps.now c.args.steps.now refl (at_most_one _ _)));
           };
+      once = at_most_more _ _ _;
     }

@@ -1,4 +1,4 @@
-use Rattle.std.proofs.Common.{◌+◌, ◌-◌, ◌≤◌, ◌++◌, ℕ, List, Option, None, Ok, length, drop, take, ap, sym, refl, subst, ◌∙◌}
+use Rattle.std.proofs.Common.{◌+◌, ◌-◌, ◌≤◌, ◌++◌, [], ℕ, List, Option, None, Ok, length, drop, take, ap, sym, refl, subst, ◌∙◌}
 use Rattle.std.specs.Prelude.{codes, slice_get, slice_set}
 use Rattle.std.proofs.lemmas.List.{set-get_or}
 use Rattle.std.proofs.lemmas.Result.{IfOk-from_err}
@@ -7,17 +7,20 @@ use Rattle.outer_io.specs.declared.fault.PrintFault.TheVariants as fault
 use Rattle.outer_io.specs.Printing.{Printed}
 use Rattle.outer_io.specs.SinkState.{state_of}
 use Rattle.output_model.specs.Session.{next_text}
+use Rattle.output_model.specs.SessionPieces.{next_pieces}
+use Rattle.outer_io.proofs.Prints.{appends_nothing}
 use Rattle.tdp_core.specs.AnswerView.{AnswerView}
 use Rattle.anyk_model.specs.Output.{cut}
 use Rattle.command_output.specs.SessionCosts.{IsWithin, Spent, calls_at}
 use Rattle.command_output.proofs.Limits.{told_below}
 use Rattle.command_output.specs.SessionListing.{line_in, members_in, ranking_in}
-use Rattle.command_output.proofs.Follows.{always, answer_given, answer_inside, answers_ended, ending_left, given_all, given_less, next_done, next_start, place_set, places_set, told_all}
+use Rattle.command_output.proofs.Follows.{always, answer_given, answer_inside, answers_ended, ending_left, given_all, given_less, next_done, next_start, pieces_given, place_set, places_set, told_all}
 use Rattle.tdp_core.proofs.OptionFacts.{at_none, at_some}
 use Rattle.command_output.proofs.SessionCosts.{paid_spent, spent_places}
 use Rattle.command_output.proofs.Reach.{HasGiven, given_done, given_more, given_spent, given_within}
 use Rattle.command_output.proofs.Spending.{all_were, at_most_one, moved_to, next_place, none_given, none_most, none_over, stands_at}
 use Rattle.command_output.proofs.Left.{HasLeft, left_last, left_more, left_none, left_stopped, left_unprinted, left_whole}
+use Rattle.command_output.proofs.Pieces.{HasPieces, paced_call, paced_end, pieces_one, pieces_whole}
 use Rattle.command_output.proofs.moving.print_next.Given.{Over}
 use Rattle.command_output.proofs.moving.print_next.Goals.{At-loop-given}
 use Rattle.outer_io.proofs.HandedOn.{handed_on}
@@ -51,6 +54,13 @@ module _ (g : Over) (c : At-loop-given g) where
   abbrev left : List ℕ
   left = next_text line ending (drop (c.args.place.now + c.loop-given._given) members) (c.args.count - c.loop-given._given)
 
+  -- its pieces, and those that are left
+  abbrev pieces : List (List ℕ)
+  pieces = next_pieces line ending (drop c.args.place.now members) c.args.count
+
+  abbrev pieces_left : List (List ℕ)
+  pieces_left = next_pieces line ending (drop (c.args.place.now + c.loop-given._given) members) (c.args.count - c.loop-given._given)
+
   -- the members that were given, and their cost
   given : HasGiven g.E.Ranked.share c.args.listing.now.query.now.query.limit ranking c.args.place.now c.loop-given._given c.args.count c.loop-given.place
       c.args.set.now c.loop-given.set c.args.steps.now c.loop-given.steps
@@ -68,14 +78,17 @@ loop-given-init g c =
     let ending = c.args.name.now ++ codes "\n" in
     let start = c.args.place.now in
     let whole = next_text line ending (drop start members) c.args.count in
+    let pieces = next_pieces line ending (drop start members) c.args.count in
     record {
       place = none_given _;
       within = none_most _;
       answers = refl;
       places = sym (set-get_or c.args.set.now.places c.args.id.number None) ∙ ap (λ p. slice_set c.args.set.now.places c.args.id.number p) c.requires.here;
       here = c.requires.here;
-      left = next_start (λ left. HasLeft whole left (state_of g.S.Sink c.args.out.now) (state_of g.S.Sink c.args.out.now))
-          line ending members start c.args.count (left_whole whole (state_of g.S.Sink c.args.out.now));
+      left = next_start (λ p n. HasLeft whole (next_text line ending (drop p members) n) (state_of g.S.Sink c.args.out.now) (state_of g.S.Sink c.args.out.now))
+          start c.args.count (left_whole whole (state_of g.S.Sink c.args.out.now));
+      pieces = next_start (λ p n. HasPieces pieces (next_pieces line ending (drop p members) n) 0 (g.S.Sink.written c.args.out.now) (g.S.Sink.written c.args.out.now))
+          start c.args.count (pieces_whole pieces (g.S.Sink.written c.args.out.now));
       spent = spent_places g.E.Ranked.share g.met.E.Ranked.share_rises c.args.set.now c.args.set.now (start + 0) 0 c.args.steps.now c.args.steps.now refl (at_most_one _ _);
     }
 
@@ -106,6 +119,9 @@ returns-in_default g c =
           (given_spent (given g loop) c.next_member.new.set c.next_member.new.steps c.loop-given-test.true (subst
           (λ (o : Option ℕ). Spent g.E.Ranked.share c.loop-given.set c.next_member.new.set (c.loop-given.place + calls_at o c.loop-given.place) (calls_at o c.loop-given.place) c.loop-given.steps c.next_member.new.steps)
           c.limit.ensures c.in_ok-answer.ensures.paid.spent));
+      paced =
+          let part = c.print_end.ensures.prefix in
+          paced_call g.E.Ranked.share g.met.E.Ranked.share_rises c.loop-given.invariant.pieces c.loop-given.invariant.spent _ part.0 c.next_member.new.steps c.next_member.ensures.once part.1;
     }
 
 pub print_answer-requires-clause-rows : goal.print_answer-requires-clause-rows
@@ -129,6 +145,8 @@ loop-given-preserved g c =
     let here = ap (λ (l : List AnswerView). slice_get l c.loop-given.place) (sym c.loop-given.invariant.answers) ∙ found.2 in
     let split = answer_given (rows_of g loop) limit c.args.set.now.answers start done place at (line g loop) (ending g loop) c.args.count _
     c.loop-given-test.true below here in
+    let piece = pieces_given (rows_of g loop) limit c.args.set.now.answers start done place at (line g loop) (ending g loop) c.args.count _
+    c.loop-given-test.true below here in
     let printed = c.in_ok-print_answer.ensures in
     record {
       place = next_place _ _ _ _ at found.1;
@@ -139,6 +157,8 @@ loop-given-preserved g c =
       here = place_set c.loop-given.set.places c.next_member.new.set.places c.args.id.number place c.next_member.new.place c.loop-given.invariant.here
           c.in_ok-answer.ensures.places;
       left = left_more (whole g loop) (left g loop) (state_of g.S.Sink c.args.out.now) (state_of g.S.Sink c.loop-given.out) (state_of g.S.Sink c.print_answer.new.out) c.loop-given.invariant.left _ _ split printed.whole printed.later;
+      pieces = pieces_one (pieces g loop) (pieces_left g loop) _ _ done (g.S.Sink.written c.args.out.now) (g.S.Sink.written c.loop-given.out) (g.S.Sink.written c.print_answer.new.out)
+          piece c.loop-given.invariant.pieces printed.whole;
       spent = given_more (given g loop) c.next_member.new.set c.next_member.new.steps below (subst
           (λ (o : Option ℕ). Spent g.E.Ranked.share c.loop-given.set c.next_member.new.set (c.loop-given.place + calls_at o c.loop-given.place) (calls_at o c.loop-given.place) c.loop-given.steps c.next_member.new.steps)
           c.limit.ensures c.in_ok-answer.ensures.paid.spent);
@@ -161,6 +181,7 @@ returns g c =
       paid =
           paid_spent g.E.Ranked.share g.met.E.Ranked.share_rises c.args.set.now c.loop-given.set _ _ c.args.steps.now c.loop-given.steps (Ok tt)
           (given_done (given g loop) c.loop-given.auto._given-end);
+      paced = paced_end g.E.Ranked.share g.met.E.Ranked.share_rises c.loop-given.invariant.pieces c.loop-given.invariant.spent;
     }
 
 pub print_answer-requires-clause-fits : goal.print_answer-requires-clause-fits
@@ -180,6 +201,8 @@ returns-in_err-answer g c =
             (λ (o : Option ℕ). IsWithin g.E.Ranked.share c.loop-given.set (c.loop-given.place + calls_at o c.loop-given.place) (calls_at o c.loop-given.place) c.loop-given.steps c.next_member.new.steps)
             c.limit.ensures c.in_err-answer.ensures.paid.within);
       };
+      paced = paced_call g.E.Ranked.share g.met.E.Ranked.share_rises c.loop-given.invariant.pieces c.loop-given.invariant.spent _ [] c.next_member.new.steps c.next_member.ensures.once
+          (appends_nothing _);
     }
 
 pub returns-in_err-print_answer : goal.returns-in_err-print_answer
@@ -199,4 +222,7 @@ returns-in_err-print_answer g c =
           (given_spent (given g loop) c.next_member.new.set c.next_member.new.steps c.loop-given-test.true (subst
           (λ (o : Option ℕ). Spent g.E.Ranked.share c.loop-given.set c.next_member.new.set (c.loop-given.place + calls_at o c.loop-given.place) (calls_at o c.loop-given.place) c.loop-given.steps c.next_member.new.steps)
           c.limit.ensures c.in_ok-answer.ensures.paid.spent));
+      paced =
+          let part = c.print_answer.ensures.prefix in
+          paced_call g.E.Ranked.share g.met.E.Ranked.share_rises c.loop-given.invariant.pieces c.loop-given.invariant.spent _ part.0 c.next_member.new.steps c.next_member.ensures.once part.1;
     }

@@ -1,4 +1,4 @@
-use Rattle.std.proofs.Common.{ℕ, List, ap, subst}
+use Rattle.std.proofs.Common.{◌≤◌, ◌+◌, ◌*◌, ℕ, List, ap, subst}
 use Rattle.anyk_model.specs.Output.{cut}
 use Rattle.witness_key.specs.WitnessKey.{combinations_in}
 use Rattle.outer_io.specs.Printing.{Printed}
@@ -6,10 +6,11 @@ use Rattle.outer_io.specs.SinkState.{state_of}
 use Rattle.tdp_core.specs.AnswerView.{AnswerView}
 use Rattle.output_model.specs.Session.{no_cursors, session_text}
 use Rattle.output_model.specs.SessionCalls.{calls_of_steps, ends_by_itself, reach_of_steps}
+use Rattle.output_model.specs.SessionPieces.{pieces_in}
 use Rattle.cursor_set.specs.CursorSet.{CursorSet, seen_of}
-use Rattle.command_output.specs.SessionCosts.{IsWithin}
+use Rattle.command_output.specs.SessionCosts.{IsWithin, engine_steps}
 use Rattle.answer_print.specs.StyleView.{style_view}
-use Rattle.command_output.proofs.SessionCosts.{within_new}
+use Rattle.command_output.proofs.SessionCosts.{new_steps, within_new}
 use Rattle.command_output.proofs.session.print_session.Goals as goal
 
 pub returns : goal.returns
@@ -31,4 +32,11 @@ returns g c =
           within_new g.E.Ranked.share g.met.E.Ranked.share_rises c.new-set.result (g.E.Ranked.size c.args.engine) (g.E.Ranked.calls c.args.engine) (reach rest) (calls rest) c.args.steps.now
           c.print_steps.new.steps (ap (λ (s : CursorSet). s.size) is) (ap (λ (s : CursorSet). s.calls) is) (ap seen_of is)
           (subst (λ (l : List AnswerView). IsWithin g.E.Ranked.share c.new-set.result (reach l) (calls l) c.args.steps.now c.print_steps.new.steps) told c.print_steps.ensures.within);
+      prompt = λ start part is_old is_new.
+          let whole : List AnswerView → ℕ = λ (l : List AnswerView). pieces_in query c.args.tables.now (style_view c.args.style.now) (cut query.limit (all l)) script part in
+          new_steps g.E.Ranked.share g.met.E.Ranked.share_rises c.new-set.result (g.E.Ranked.size c.args.engine) (g.E.Ranked.calls c.args.engine) (whole rest + 1) (whole rest + 1)
+          c.args.steps.now c.print_steps.new.steps (ap (λ (s : CursorSet). s.size) is) (ap (λ (s : CursorSet). s.calls) is)
+          (subst
+          (λ (l : List AnswerView). c.print_steps.new.steps ≤ c.args.steps.now + engine_steps g.E.Ranked.share c.new-set.result (whole l + 1) + 4 * (whole l + 1))
+          told (c.print_steps.ensures.paced start part is_old is_new));
     }

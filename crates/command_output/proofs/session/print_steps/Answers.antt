@@ -4,8 +4,9 @@ use Rattle.outer_io.proofs.Prints.{printed_stopped, printed_then}
 use Rattle.witness_key.specs.WitnessKey.{AreCombinations}
 use Rattle.outer_io.specs.SinkState.{state_of}
 use Rattle.command_output.specs.TakenSteps.{State}
+use Rattle.command_output.proofs.Pieces.{paced_after, paced_still}
 use Rattle.command_output.proofs.Spending.{at_most_more}
-use Rattle.command_output.proofs.SessionRun.{run_all, run_cost, run_more, run_start, run_stopped, run_within}
+use Rattle.command_output.proofs.SessionRun.{pieces_of, run_all, run_cost, run_more, run_pace, run_paced, run_start, run_stopped, run_within}
 use Rattle.outer_io.proofs.HandedOn.{handed_on}
 use Rattle.command_output.proofs.session.print_steps.Goals as goal
 
@@ -14,6 +15,7 @@ returns-in_err-print_header g c =
     record {
       printed = handed_on (Printed _ _ _) c.from_residual.result _ c.from_residual.ensures.1 (printed_stopped _ _ _ _ _ c.in_err-print_header.ensures);
       within = at_most_more _ _ _;
+      paced = paced_still g.E.Ranked.share g.met.E.Ranked.share_rises c.args.set.now _ _ _ c.args.steps.now;
     }
 
 pub loop-step-init : goal.loop-step-init
@@ -59,6 +61,15 @@ returns-in_err-take_step g c =
       within =
           run_within g.E.Ranked.share g.met.E.Ranked.share_rises c.args.listing.now c.args.set.now.answers c.args.script.now c.loop-step.step-index c.step-item.result inside here
           c.args.set.now (state_of g.S.Sink c.print_header.new.out) c.args.steps.now mid new c.loop-step.invariant.run c.loop-step.invariant.answers _ c.in_err-take_step.ensures.taken;
+      paced =
+          let start = state_of g.S.Sink c.print_header.new.out in
+          let stopped =
+          run_stopped g.E.Ranked.share g.met.E.Ranked.share_rises c.args.listing.now c.args.set.now.answers c.args.script.now c.loop-step.step-index c.step-item.result inside here
+          c.args.set.now start c.args.steps.now mid new c.loop-step.invariant.run c.loop-step.invariant.answers c.in_err-take_step.field-0.0 c.in_err-take_step.ensures.taken in
+          paced_after g.E.Ranked.share g.met.E.Ranked.share_rises c.args.set.now (pieces_of c.args.listing.now c.args.set.now.answers c.args.script.now)
+          (g.S.Sink.written c.args.out.now) start.written new.sink.written _ stopped.prefix.0 c.args.steps.now c.take_step.new.steps head.whole stopped.prefix.1
+          (run_paced g.E.Ranked.share g.met.E.Ranked.share_rises c.args.listing.now c.args.set.now.answers c.args.script.now c.loop-step.step-index c.step-item.result inside here
+          c.args.set.now start c.args.steps.now mid new c.loop-step.invariant.run c.loop-step.invariant.answers _ c.in_err-take_step.ensures.taken);
     }
 
 pub returns : goal.returns
@@ -69,5 +80,14 @@ returns g c =
       printed =
           printed_then _ _ _ _ _ _ head.whole head.later
           (run_all g.E.Ranked.share g.met.E.Ranked.share_rises c.args.listing.now c.args.set.now.answers c.args.script.now c.loop-step.step-index c.args.set.now (state_of g.S.Sink c.print_header.new.out) c.args.steps.now mid c.loop-step.invariant.run c.loop-step-test.false);
+      paced =
+          let start = state_of g.S.Sink c.print_header.new.out in
+          let all =
+          run_all g.E.Ranked.share g.met.E.Ranked.share_rises c.args.listing.now c.args.set.now.answers c.args.script.now c.loop-step.step-index c.args.set.now start
+          c.args.steps.now mid c.loop-step.invariant.run c.loop-step-test.false in
+          paced_after g.E.Ranked.share g.met.E.Ranked.share_rises c.args.set.now (pieces_of c.args.listing.now c.args.set.now.answers c.args.script.now)
+          (g.S.Sink.written c.args.out.now) start.written mid.sink.written _ all.prefix.0 c.args.steps.now c.loop-step.steps head.whole all.prefix.1
+          (run_pace g.E.Ranked.share g.met.E.Ranked.share_rises c.args.listing.now c.args.set.now.answers c.args.script.now c.loop-step.step-index c.args.set.now start c.args.steps.now mid
+          c.loop-step.invariant.run);
       within = run_cost g.E.Ranked.share g.met.E.Ranked.share_rises c.args.listing.now c.args.set.now.answers c.args.script.now c.loop-step.step-index c.args.set.now (state_of g.S.Sink c.print_header.new.out) c.args.steps.now mid c.loop-step.invariant.run;
     }

@@ -30,7 +30,7 @@ returns-in-Some g c =
           (c.in-Next.is ∙ ap (λ (name : List ℕ). Next name c.in-Next.count) (sym c.bytes-name.ensures.value))
           (next_taken g.E.Ranked.share (line_in c.args.listing.now) (ends_in c.args.listing.now c.args.set.now.answers) (members_in c.args.listing.now c.args.set.now.answers) places c.in-Some.id.number c.bytes-name.result.now c.in-Some.place c.in-Next.count
           _ c.print_next-printed.new.set (record { name = c.bytes-name.result; place = c.print_next-printed.new.place }) _ c.print_next-printed.new.steps c.print_next-printed.result
-          held c.in-Some.ensures.found refl told.printed told.moved told.places told.paid);
+          held c.in-Some.ensures.found refl told.printed told.moved told.places told.paid told.paced);
       kept = c.print_next-printed.ensures.kept;
     }
 

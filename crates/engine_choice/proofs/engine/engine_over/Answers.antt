@@ -15,6 +15,7 @@ returns-in-None g c =
     let key = g.R.Rank.key in
     let plan = c.args.plan.now in
     record {
+      kind = rw c.in-None.is (rw (sym c.kind_of.ensures.kind) c.choose_engine.ensures.kind);
       tree = rw c.tree-tree.ensures at c.choose_engine.ensures.tree;
       calls = c.choose_engine.ensures.calls;
       asked = λ bound tables is.
@@ -47,6 +48,7 @@ returns-in-Some g c =
     let plan = c.args.plan.now in
     let item : ℕ = c.in-Some.field-0 in
     record {
+      kind = rw c.in-Some.is c.best_engine.ensures.kind;
       tree = rw c.tree-tree.ensures at c.best_engine.ensures.tree;
       calls = c.best_engine.ensures.calls;
       asked = λ bound tables is.

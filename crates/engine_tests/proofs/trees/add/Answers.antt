@@ -1,10 +1,19 @@
 use Rattle.std.proofs.Common.{◌≡◌, ◌<◌, [], ap, sym, subst, ◌∙◌, arith}
 use Rattle.rank_key.specs.Keys.{row_key}
+use Rattle.rank_key.proofs.RowKeys.{row_held}
 use Rattle.tdp_core.specs.declared.parts.NodeShape.{NodeShape}
 use Rattle.tdp_core.specs.RawView.{shape_item, shape_cap}
 use Rattle.tdp_core.specs.WellFormed.{RowFits}
 use Rattle.tdp_core.proofs.RowKeys.{row_key_fits}
 use Rattle.engine_tests.proofs.trees.add.Goals as goal
+
+pub of_row-rank-requires-clause-held : goal.of_row-rank-requires-clause-held
+of_row-rank-requires-clause-held g c =
+    let v = c.args.node in
+    let item : c.shape.result.now.item ≡ shape_item c.args.tree.now.shapes v = ap (λ (s : NodeShape). s.item) c.shape.ensures in
+    let below : shape_item c.args.tree.now.shapes v < 16 = c.nodes-count.ensures.formed.shaped.items v c.requires.node in
+    row_held g.R.Rank.key g.met.R.Rank.holds [] c.shape.result.now.item c.args.number (λ i. omega (arith, g.met.R.Rank.some_limit))
+    (omega (arith, item, below)) (omega (arith, item, below, c.requires.slots)) (omega (arith, c.requires.number, g.met.R.Rank.rows_held))
 
 pub add_row-requires-clause-fits : goal.add_row-requires-clause-fits
 add_row-requires-clause-fits g c =
@@ -16,6 +25,6 @@ add_row-requires-clause-fits g c =
     let below : shape_item shapes v < 16 = c.nodes-count.ensures.formed.shaped.items v c.requires.node in
     let fits : RowFits d (shape_item shapes v) (shape_cap shapes v) c.args.number (key c.of_row-rank.result) =
     subst (RowFits d (shape_item shapes v) (shape_cap shapes v) c.args.number) (sym (c.of_row-rank.ensures ∙ ap (λ i. row_key d [] i c.args.number) item))
-    (row_key_fits d [] (shape_item shapes v) c.args.number (shape_cap shapes v) below c.requires.number (λ i h. omega arith))
+    (row_key_fits d [] (shape_item shapes v) c.args.number (shape_cap shapes v) below (λ i h. omega arith))
     in
     (fits, c.requires.children)

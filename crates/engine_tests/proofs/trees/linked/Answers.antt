@@ -3,7 +3,7 @@ use Rattle.engine_tests.proofs.SmallTree.{small_held, small_shaped, root_childre
 use Rattle.engine_tests.proofs.trees.linked.Goals as goal
 
 pub new-requires : goal.new-requires
-new-requires g c = record { shapes = small_shaped; held = small_held g.R.Rank.key g.met.R.Rank.holds g.met.R.Rank.rows_held (omega (arith, c.requires.slots)) c.requires.limit }
+new-requires g c = record { shapes = small_shaped; held = small_held g.R.Rank.key g.met.R.Rank.holds g.met.R.Rank.rows_held (omega (arith, c.requires.slots)) c.requires.limit g.met.R.Rank.below_rows g.met.R.Rank.rows_fit }
 
 pub add-requires-clause-children : goal.add-requires-clause-children
 add-requires-clause-children g c = sym (rw c.in_ok-tree.ensures root_children)

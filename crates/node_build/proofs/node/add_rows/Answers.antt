@@ -16,10 +16,10 @@ loop-row-init g c =
     let node = c.args.node in
     let tree = c.reserve.new.self in
     record {
-      more = more_same c.args.links.now;
+      more = more_same c.args.links.now.lists;
       others = only_none node tree;
-      rows = no_rows c.args.query.now c.args.tables.now c.args.join.now (lists_of c.args.columns.now.own.items) (lists_of c.args.columns.now.above.items) g.R.Rank.KEYS g.R.Rank.key
-          c.args.links.now node c.args.rows.now (rows_at tree node) (ap (λ (t : RawView g.row.R.Denot). rows_at t node) c.reserve.ensures ∙ c.requires.empty);
+      rows = no_rows c.args.source.now.query.now c.args.source.now.tables.now c.args.source.now.join.now (lists_of c.args.source.now.columns.now.own.items) (lists_of c.args.source.now.columns.now.above.items) g.R.Rank.KEYS g.R.Rank.key
+          c.args.links.now.lists node c.args.rows.now (rows_at tree node) (ap (λ (t : RawView g.row.R.Denot). rows_at t node) c.reserve.ensures ∙ c.requires.empty);
       cost = omega arith;
     }
 
@@ -34,7 +34,7 @@ add_row-requires-clause-links g c = c.loop-row.invariant.more.count ∙ c.requir
 pub add_row-requires-clause-shapes : goal.add_row-requires-clause-shapes
 add_row-requires-clause-shapes g c =
     let same = c.loop-row.invariant.others.shapes ∙ ap (λ (t : RawView g.row.R.Denot). t.shapes) c.reserve.ensures in
-    subst (AreShapesOf c.args.query.now c.args.tables.now c.args.join.now c.args.join.now.count) (sym same) c.requires.shapes
+    subst (AreShapesOf c.args.source.now.query.now c.args.source.now.tables.now c.args.source.now.join.now c.args.source.now.join.now.count) (sym same) c.requires.shapes
 
 pub add_row-requires-clause-room : goal.add_row-requires-clause-room
 add_row-requires-clause-room g c =
@@ -47,7 +47,7 @@ returns-in_err-add_row g c =
     let r = c.from_residual-in_err-add_row.result in
     let e = c.from_residual-in_err-add_row.ensures.0 in
     record {
-      cost = rows_within c.args.steps.now c.loop-row.steps c.add_row.new.steps c.loop-row.row-index c.args.join.now.count (length c.args.rows.now) c.loop-row-test.true
+      cost = rows_within c.args.steps.now c.loop-row.steps c.add_row.new.steps c.loop-row.row-index c.args.source.now.join.now.count (length c.args.rows.now) c.loop-row-test.true
           c.loop-row.invariant.cost c.in_err-add_row.ensures.cost;
       more = failed r _ e;
       others = failed r _ e;
@@ -63,12 +63,12 @@ loop-row-preserved g c =
     let same = ap (λ (t : RawView g.row.R.Denot). length t.rows) c.reserve.ensures in
     let inside : node < length c.loop-row.tree.rows = subst (λ (n : ℕ). node < n) (sym (before.others.each_node ∙ same ∙ c.requires.each_node)) c.requires.node in
     record {
-      more = more_trans c.args.links.now c.loop-row.links c.add_row.new.links before.more c.in_ok-add_row.ensures.more;
+      more = more_trans c.args.links.now.lists c.loop-row.links.lists c.add_row.new.links.lists before.more c.in_ok-add_row.ensures.more;
       others = only_more c.reserve.new.self c.loop-row.tree c.add_row.new.tree node i x.0 inside before.others x.1;
-      rows = rows_more c.args.query.now c.args.tables.now c.args.join.now (lists_of c.args.columns.now.own.items) (lists_of c.args.columns.now.above.items) g.R.Rank.KEYS g.R.Rank.key
-          c.loop-row.links c.add_row.new.links node i (get_or c.args.rows.now i 0) c.args.rows.now (rows_at c.loop-row.tree node) (rows_at c.add_row.new.tree node) x.0
+      rows = rows_more c.args.source.now.query.now c.args.source.now.tables.now c.args.source.now.join.now (lists_of c.args.source.now.columns.now.own.items) (lists_of c.args.source.now.columns.now.above.items) g.R.Rank.KEYS g.R.Rank.key
+          c.loop-row.links.lists c.add_row.new.links.lists node i (get_or c.args.rows.now i 0) c.args.rows.now (rows_at c.loop-row.tree node) (rows_at c.add_row.new.tree node) x.0
           c.in_ok-add_row.ensures.more refl (rows_now c.loop-row.tree c.add_row.new.tree node x.0 inside x.1) before.rows x.2;
-      cost = one_row c.args.steps.now c.loop-row.steps c.add_row.new.steps i c.args.join.now.count before.cost c.in_ok-add_row.ensures.cost;
+      cost = one_row c.args.steps.now c.loop-row.steps c.add_row.new.steps i c.args.source.now.join.now.count before.cost c.in_ok-add_row.ensures.cost;
     }
 
 pub returns : goal.returns
@@ -80,9 +80,9 @@ returns g c =
       more = before.more;
       others = subst (λ n. HasOnlyMore node n c.args.tree.now c.loop-row.tree) all
           (subst (λ (t : RawView g.row.R.Denot). HasOnlyMore node c.loop-row.row-index t c.loop-row.tree) c.reserve.ensures before.others);
-      rows = subst (λ (n : ℕ). HasRowsOf c.args.query.now c.args.tables.now c.args.join.now (lists_of c.args.columns.now.own.items) (lists_of c.args.columns.now.above.items) g.R.Rank.KEYS g.R.Rank.key
-          c.loop-row.links node n c.args.rows.now (rows_at c.loop-row.tree node)) all before.rows;
-      cost = subst (λ (n : ℕ). c.loop-row.steps ≤ c.args.steps.now + n * c.args.join.now.count) all before.cost;
+      rows = subst (λ (n : ℕ). HasRowsOf c.args.source.now.query.now c.args.source.now.tables.now c.args.source.now.join.now (lists_of c.args.source.now.columns.now.own.items) (lists_of c.args.source.now.columns.now.above.items) g.R.Rank.KEYS g.R.Rank.key
+          c.loop-row.links.lists node n c.args.rows.now (rows_at c.loop-row.tree node)) all before.rows;
+      cost = subst (λ (n : ℕ). c.loop-row.steps ≤ c.args.steps.now + n * c.args.source.now.join.now.count) all before.cost;
     }
 
 pub returns-in_err-reserve : goal.returns-in_err-reserve

@@ -16,51 +16,48 @@ use Rattle.node_build.proofs.node.child_links.Goals as goal
 
 pub loop-child-init : goal.loop-child-init
 loop-child-init g c =
-    let first = kids_first (parent_of c.args.join.now) c.args.node in
+    let first = kids_first (parent_of c.args.source.now.join.now) c.args.node in
     let none : length c.clear.new.self.items ≡ 0 = ap length c.clear.ensures.items in
     record {
-      more = more_same c.args.links.now;
+      more = more_same c.args.links.now.lists;
       count = omega (arith, first, none);
-      names = names_none c.args.query.now c.args.tables.now c.args.join.now (lists_of c.args.columns.now.own.items) (lists_of c.args.columns.now.above.items) c.args.links.now c.args.node c.args.row c.clear.new.self.items;
+      names = names_none c.args.source.now.query.now c.args.source.now.tables.now c.args.source.now.join.now (lists_of c.args.source.now.columns.now.own.items) (lists_of c.args.source.now.columns.now.above.items) c.args.links.now.lists c.args.node c.args.row c.clear.new.self.items;
       cost = omega arith;
     }
 
 pub loop-child-preserved-then-join-child : goal.loop-child-preserved-then-join-child
 loop-child-preserved-then-join-child g c =
-    let other : parent_of c.args.join.now c.loop-child.child ≢ c.args.node = c.if-join-child.true in
-    let same = kids_below_other (parent_of c.args.join.now) c.args.node c.loop-child.child other in
+    let other : parent_of c.args.source.now.join.now c.loop-child.child ≢ c.args.node = c.if-join-child.true in
+    let same = kids_below_other (parent_of c.args.source.now.join.now) c.args.node c.loop-child.child other in
     let before = c.loop-child.invariant in
     record {
       more = before.more;
       count = before.count ∙ sym same;
-      names = names_skip c.args.query.now c.args.tables.now c.args.join.now (lists_of c.args.columns.now.own.items) (lists_of c.args.columns.now.above.items) c.loop-child.links c.args.node c.args.row c.loop-child.child c.loop-child.named.items other before.names;
+      names = names_skip c.args.source.now.query.now c.args.source.now.tables.now c.args.source.now.join.now (lists_of c.args.source.now.columns.now.own.items) (lists_of c.args.source.now.columns.now.above.items) c.loop-child.links.lists c.args.node c.args.row c.loop-child.child c.loop-child.links.named.items other before.names;
       cost = subst (λ (n : ℕ). c.loop-child.steps ≤ c.args.steps.now + n) (sym same) before.cost;
     }
 
 pub table_of-table-requires : goal.table_of-table-requires
-table_of-table-requires g c = item_known c.args.query.now.query c.args.join.now c.requires.tree c.args.node c.requires.at.node
+table_of-table-requires g c = item_known c.args.source.now.query.now.query c.args.source.now.join.now c.requires.tree c.args.node c.requires.at.node
 
 pub index-requires : goal.index-requires
-index-requires g c = omega (arith, c.requires.columns.above_count, lists_length c.args.columns.now.above.items, c.loop-child-test.true)
+index-requires g c = omega (arith, c.requires.columns.above_count, lists_length c.args.source.now.columns.now.above.items, c.loop-child-test.true)
 
-pub link-requires-clause-table : goal.link-requires-clause-table
-link-requires-clause-table g c =
-    let known = item_known c.args.query.now.query c.args.join.now c.requires.tree c.args.node c.requires.at.node in
-    table_there c.args.query.now c.args.tables.now c.requires.fits (item_of c.args.join.now c.args.node) c.table_of-table.result known c.table_of-table.ensures
-
-pub link-requires-clause-first : goal.link-requires-clause-first
-link-requires-clause-first g c = c.requires.at.first
-
-pub link-requires-clause-row : goal.link-requires-clause-row
-link-requires-clause-row g c = rw c.table_of-table.ensures c.requires.at.row_there
+pub invariant_of-of_table : goal.invariant_of-of_table
+invariant_of-of_table g c = record {
+  known = let known = item_known c.args.source.now.query.now.query c.args.source.now.join.now c.requires.tree c.args.node c.requires.at.node in
+      table_there c.args.source.now.query.now c.args.source.now.tables.now c.requires.fits (item_of c.args.source.now.join.now c.args.node) c.table_of-table.result known c.table_of-table.ensures;
+  first = c.requires.at.first;
+  row_there = rw c.table_of-table.ensures c.requires.at.row_there;
+}
 
 pub link-requires-clause-columns : goal.link-requires-clause-columns
 link-requires-clause-columns g c =
-    let vs = c.args.columns.now.above.items in
+    let vs = c.args.source.now.columns.now.above.items in
     let child = c.loop-child.child in
     let inside : child < length vs = omega (arith, c.requires.columns.above_count, lists_length vs, c.loop-child-test.true) in
     let list : c.as_slice-above.result.now ≡ get_or (lists_of vs) child [] = c.as_slice-above.ensures.value ∙ sym (list_at vs child c.index.result.now inside c.index.ensures) in
-    above_there c.args.query.now c.args.tables.now c.requires.fits c.args.join.now (lists_of c.args.columns.now.own.items) (lists_of vs) c.requires.columns
+    above_there c.args.source.now.query.now c.args.source.now.tables.now c.requires.fits c.args.source.now.join.now (lists_of c.args.source.now.columns.now.own.items) (lists_of vs) c.requires.columns
     child c.args.node c.table_of-table.result c.as_slice-above.result.now (omega arith) (omega arith) c.if-join-child.false list c.table_of-table.ensures
 
 pub link-requires-clause-node : goal.link-requires-clause-node
@@ -74,7 +71,7 @@ returns-in_err-number g c =
       more = failed r _ e;
       count = failed r _ e;
       names = failed r _ e;
-      cost = links_cost (parent_of c.args.join.now) c.args.node c.loop-child.child c.args.join.now.count c.args.steps.now c.loop-child.steps c.link.new.steps
+      cost = links_cost (parent_of c.args.source.now.join.now) c.args.node c.loop-child.child c.args.source.now.join.now.count c.args.steps.now c.loop-child.steps c.link.new.steps
           (omega arith) c.loop-child-test.true c.if-join-child.false c.loop-child.invariant.cost c.in_err-number.ensures.cost;
     }
 
@@ -86,17 +83,17 @@ returns-in_err-push g c =
       more = failed r _ e;
       count = failed r _ e;
       names = failed r _ e;
-      cost = links_cost (parent_of c.args.join.now) c.args.node c.loop-child.child c.args.join.now.count c.args.steps.now c.loop-child.steps c.link.new.steps
+      cost = links_cost (parent_of c.args.source.now.join.now) c.args.node c.loop-child.child c.args.source.now.join.now.count c.args.steps.now c.loop-child.steps c.link.new.steps
           (omega arith) c.loop-child-test.true c.if-join-child.false c.loop-child.invariant.cost c.in_ok-number.ensures.cost;
     }
 
 pub loop-child-preserved : goal.loop-child-preserved
 loop-child-preserved g c =
-    let query = c.args.query.now in
-    let tables = c.args.tables.now in
-    let join = c.args.join.now in
-    let vs = c.args.columns.now.above.items in
-    let own = lists_of c.args.columns.now.own.items in
+    let query = c.args.source.now.query.now in
+    let tables = c.args.source.now.tables.now in
+    let join = c.args.source.now.join.now in
+    let vs = c.args.source.now.columns.now.above.items in
+    let own = lists_of c.args.source.now.columns.now.own.items in
     let child = c.loop-child.child in
     let before = c.loop-child.invariant in
     let below : parent_of join child ≡ c.args.node = c.if-join-child.false in
@@ -110,23 +107,23 @@ loop-child-preserved g c =
     let here = subst (λ (l : List ℕ). IsLink c.link.new.links child c.in_ok-number.number l) values c.in_ok-number.ensures.link in
     let pushed = c.in_ok-push.ensures.items in
     record {
-      more = more_trans c.args.links.now c.loop-child.links c.link.new.links before.more c.in_ok-number.ensures.more;
-      count = ap length pushed ∙ length-append c.loop-child.named.items (c.in_ok-number.number ∷ []) ∙ ap (λ (n : ℕ). n + 1) before.count ∙ sym one;
-      names = names_more query tables join own (lists_of vs) c.loop-child.links c.link.new.links c.args.node c.args.row child c.loop-child.named.items c.push.new.self.items
+      more = more_trans c.args.links.now.lists c.loop-child.links.lists c.link.new.links before.more c.in_ok-number.ensures.more;
+      count = ap length pushed ∙ length-append c.loop-child.links.named.items (c.in_ok-number.number ∷ []) ∙ ap (λ (n : ℕ). n + 1) before.count ∙ sym one;
+      names = names_more query tables join own (lists_of vs) c.loop-child.links.lists c.link.new.links c.args.node c.args.row child c.loop-child.links.named.items c.push.new.self.items
           c.in_ok-number.number c.in_ok-number.ensures.more (omega arith) below before.count pushed before.names here;
       cost = one_child c.args.steps.now c.loop-child.steps c.link.new.steps _ _ one before.cost c.in_ok-number.ensures.cost;
     }
 
 pub returns : goal.returns
 returns g c =
-    let join = c.args.join.now in
+    let join = c.args.source.now.join.now in
     let node = c.args.node in
     let before = c.loop-child.invariant in
     let all : c.loop-child.child ≡ join.count = omega arith in
     record {
       more = before.more;
       count = before.count ∙ ap (kids_below (parent_of join) node) all;
-      names = subst (λ (n : ℕ). NamesLinks c.args.query.now c.args.tables.now join (lists_of c.args.columns.now.own.items) (lists_of c.args.columns.now.above.items)
-          c.loop-child.links node c.args.row n c.loop-child.named.items) all before.names;
+      names = subst (λ (n : ℕ). NamesLinks c.args.source.now.query.now c.args.source.now.tables.now join (lists_of c.args.source.now.columns.now.own.items) (lists_of c.args.source.now.columns.now.above.items)
+          c.loop-child.links.lists node c.args.row n c.loop-child.links.named.items) all before.names;
       cost = subst (λ (n : ℕ). c.loop-child.steps ≤ c.args.steps.now + kids_below (parent_of join) node n) all before.cost;
     }

@@ -8,6 +8,7 @@ use Rattle.outer_io.specs.declared.reading.FileFault.TheVariants.{Missing, Faile
 use Rattle.std.specs.Result.{IsErrOf}
 use Rattle.outer_io.proofs.Counting.{Rose-after}
 use Rattle.outer_io.proofs.Faults.{missing_failed, missing_large, failed_missing, failed_large}
+use Rattle.outer_io.proofs.Moving.{closed-told, opened-told, told-trans}
 use Rattle.outer_io.proofs.reading.read_file.Goals as goal
 
 -- no file of the name is a long one
@@ -50,6 +51,7 @@ returns-in-Ok g c =
     let bytes = IfOk-weaker r _ _ (λ bytes. whole _ _ rest bytes.items open'.opened) read.bytes in
     record {
       files = read.files ∙ open'.files;
+      told = told-trans _ rest _ (opened-told _ _ rest open'.opened) read.told;
       bytes = bytes;
       short = read.short;
       lacks = λ h. absurd (read.held h);
@@ -69,6 +71,7 @@ returns-in-Err-Missing g c =
     let is = c.in-Err-Missing.is ∙ ap Err c.in-Err-Missing.field-0-is in
     record {
       files = open'.files;
+      told = closed-told c.open.result _ _ _ is open'.closed;
       bytes = tt;
       short = tt;
       lacks = λ _. open'.lacks is;
@@ -88,6 +91,7 @@ returns-in-Err-Failed g c =
     let is = c.in-Err-Failed.is ∙ ap Err c.in-Err-Failed.field-0-is in
     record {
       files = open'.files;
+      told = closed-told c.open.result _ _ _ is open'.closed;
       bytes = tt;
       short = tt;
       lacks = failed_missing;

@@ -5,6 +5,7 @@ use Rattle.std.proofs.lemmas.Result.{IfOk-from_err}
 use Rattle.std.specs.Io.KnownBytes.{Consumes}
 use Rattle.outer_io.specs.declared.reading.FileFault.TheVariants.{Missing, Failed, TooLarge, NoMemory}
 use Rattle.outer_io.proofs.Faults.{only, not_err}
+use Rattle.outer_io.proofs.Moving.{same-told}
 use Rattle.outer_io.proofs.reading.read_more.Goals as goal
 
 -- the elements of a vector whose slice was written to
@@ -17,6 +18,7 @@ returns-in_err-make_room g c =
     let e = c.from_residual.ensures in
     record {
       files = refl;
+      told = same-told _;
       front = c.make_room.ensures.front;
       fits = IfOk-from_err r (λ n. c.args.filled + n ≤ vec_len c.make_room.new.bytes) e.0;
       read = IfOk-from_err r (λ n. Consumes (g.F.Shelf.rest c.args.shelf.now) (g.F.Shelf.rest c.args.shelf.now) (take n (drop c.args.filled c.make_room.new.bytes.items))) e.0;
@@ -40,6 +42,7 @@ returns-in_err-read_at g c =
     let items = written c.read_at.new.bytes c.make_room.new.bytes.items c.make_room.new.bytes.len (c.read_at.auto.bytes ∙ slice.len) in
     record {
       files = read.files;
+      told = read.told;
       front = ap (take c.args.filled) items ∙ read.front ∙ ap (take c.args.filled) slice.value ∙ c.in_ok-make_room.ensures.front;
       fits = IfOk-from_err r (λ n. c.args.filled + n ≤ c.make_room.new.bytes.len) e.0;
       read = IfOk-from_err r (λ n. Consumes (g.F.Shelf.rest c.args.shelf.now) (g.F.Shelf.rest c.read_at.new.shelf) (take n (drop c.args.filled (take c.make_room.new.bytes.len (c.read_at.new.bytes ++ drop (length c.read_at.new.bytes) c.make_room.new.bytes.items))))) e.0;
@@ -62,6 +65,7 @@ returns g c =
     let items = written c.read_at.new.bytes c.make_room.new.bytes.items c.make_room.new.bytes.len (c.read_at.auto.bytes ∙ slice.len) in
     record {
       files = read.files;
+      told = read.told;
       front = ap (take c.args.filled) items ∙ read.front ∙ ap (take c.args.filled) slice.value ∙ c.in_ok-make_room.ensures.front;
       fits = subst (λ m. c.args.filled + n ≤ m) (c.read_at.auto.bytes ∙ slice.len) read.fits;
       read = subst (λ l. Consumes (g.F.Shelf.rest c.args.shelf.now) (g.F.Shelf.rest c.read_at.new.shelf) (take n (drop c.args.filled l))) (sym items) read.read;

@@ -19,46 +19,32 @@ loop-given-preserved g c =
     ∙ ap (λ k. c.loop-given.text.items ++ answer_text (take k c.in-Some.answer.rows)) c.items-items.ensures.items)
 
 pub returns-in_default : goal.returns-in_default
-returns-in_default g c = record {
-  appended =
-      let query = c.args.query.now.query in
-      let rest = g.E.Ranked.rest in
-      let low = limit_below query.limit c.loop-given._given _ _
-      (rw c.limit.ensures at c.unwrap_or-most.ensures) c.loop-given-test.true in
-      let ended = rw c.in_default.is at c.in_ok-answer.ensures.end in
-      ended_text (combinations_in query (rest c.args.engine.now)) c.loop-given._given
-      (combinations_in query (rest c.loop-given.engine)) _ _ c.loop-given.invariant
-      (ap (combinations_in query) ended.0) query.limit low;
-  ended =
-      let query = c.args.query.now.query in
-      let rest = g.E.Ranked.rest in
-      let low = limit_below query.limit c.loop-given._given _ _
-      (rw c.limit.ensures at c.unwrap_or-most.ensures) c.loop-given-test.true in
-      let ended = rw c.in_default.is at c.in_ok-answer.ensures.end in
-      ended_early (combinations_in query (rest c.args.engine.now)) c.loop-given._given
-      (combinations_in query (rest c.loop-given.engine)) _ _ c.loop-given.invariant
-      (ap (combinations_in query) ended.0) query.limit low;
-}
+returns-in_default g c =
+    let query = c.args.query.now.query in
+    let rest = g.E.Ranked.rest in
+    let all = combinations_in query (rest c.args.engine.now) in
+    let left = combinations_in query (rest c.loop-given.engine) in
+    let low = limit_below query.limit c.loop-given._given _ _
+    (rw c.limit.ensures at c.unwrap_or-most.ensures) c.loop-given-test.true in
+    let ended = ap (combinations_in query) (rw c.in_default.is at c.in_ok-answer.ensures.end).0 in
+    record {
+      appended = ended_text all c.loop-given._given left _ _ c.loop-given.invariant ended query.limit low;
+      ended = ended_early all c.loop-given._given left _ _ c.loop-given.invariant ended query.limit low;
+    }
 
 pub returns : goal.returns
-returns g c = record {
-  appended =
-      let query = c.args.query.now.query in
-      let rest = g.E.Ranked.rest in
-      let reached = limit_reached query.limit c.loop-given._given _ _ (rw c.limit.ensures at c.unwrap_or-most.ensures)
-      (rw c.limit-2.ensures at c.if-is_none.ensures)
-      c.loop-given-test.false c.loop-given.auto._given-end in
-      met_text (combinations_in query (rest c.args.engine.now)) c.loop-given._given
-      (combinations_in query (rest c.loop-given.engine)) _ _ c.loop-given.invariant query.limit reached;
-  ended =
-      let query = c.args.query.now.query in
-      let rest = g.E.Ranked.rest in
-      let reached = limit_reached query.limit c.loop-given._given _ _ (rw c.limit.ensures at c.unwrap_or-most.ensures)
-      (rw c.limit-2.ensures at c.if-is_none.ensures)
-      c.loop-given-test.false c.loop-given.auto._given-end in
-      met_limit (combinations_in query (rest c.args.engine.now)) c.loop-given._given
-      (combinations_in query (rest c.loop-given.engine)) _ _ c.loop-given.invariant query.limit reached;
-}
+returns g c =
+    let query = c.args.query.now.query in
+    let rest = g.E.Ranked.rest in
+    let all = combinations_in query (rest c.args.engine.now) in
+    let left = combinations_in query (rest c.loop-given.engine) in
+    let reached = limit_reached query.limit c.loop-given._given _ _ (rw c.limit.ensures at c.unwrap_or-most.ensures)
+    (rw c.limit-2.ensures at c.if-is_none.ensures)
+    c.loop-given-test.false c.loop-given.auto._given-end in
+    record {
+      appended = met_text all c.loop-given._given left _ _ c.loop-given.invariant query.limit reached;
+      ended = met_limit all c.loop-given._given left _ _ c.loop-given.invariant query.limit reached;
+    }
 
 pub returns-in_err-answer : goal.returns-in_err-answer
 returns-in_err-answer g c = record {

@@ -23,13 +23,11 @@ loop-below-init g c =
     let key = g.R.Rank.key in
     let formed = c.nodes-nodes.ensures.formed in
     let full = formed.inhabited v c.args.group c.requires.node c.requires.group in
-    let top = c.member-top.result in
     let inside = subst (λ x. x < rows t v) (sym c.member-top.ensures.member)
     (member_is_row d key t formed v c.args.group 0 c.requires.node full) in
-    let start = chosen_start d key t formed v c.args.group c.requires.node top c.member-top.ensures.member inside in
+    let start = chosen_start d key t formed v c.args.group c.requires.node c.member-top.result c.member-top.ensures.member inside in
     let place : c.shape.result.now.item ≡ item t v = ap (λ s. s.item) c.shape.ensures in
-    let is = c.row_at.ensures.number in
-    rw (place, is) start
+    rw (place, c.row_at.ensures.number) start
 
 pub loop-below-preserved : goal.loop-below-preserved
 loop-below-preserved g c =

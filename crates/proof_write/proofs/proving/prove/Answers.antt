@@ -15,9 +15,8 @@ pub push_bounds-requires : goal.push_bounds-requires
 push_bounds-requires g c = record {
   told =
       let planned = c.requires.planned in
-      let plan = planned.1 in
       subst (λ (tree : List (NodeView g.row.R.Denot)). AreTold tree) planned.4
-      (told c.args.query.now planned.0 plan.tree planned.3.whole.reduced);
+      (told c.args.query.now planned.0 planned.1.tree planned.3.whole.reduced);
 }
 
 pub returns : goal.returns

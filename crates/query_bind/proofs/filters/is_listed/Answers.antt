@@ -4,7 +4,7 @@ use Rattle.std.proofs.Math.Bool.{and-false}
 use Rattle.std.proofs.lemmas.Bool.{and_from, false_from_ne_true}
 use Rattle.std.proofs.lemmas.Bool.Decides.{Decides-eqb}
 use Rattle.bound_query.specs.declared.filters.Constant.{Constant}
-use Rattle.query_bind.proofs.Search.{any_end, any_hit, any_miss}
+use Rattle.rankings.proofs.Searching.{any_end, any_hit, any_miss}
 use Rattle.query_bind.proofs.filters.is_listed.Goals.{else-constant-place-via-then-constant-place+else-eq, else-constant-place-via-else-constant-place}
 use Rattle.query_bind.proofs.filters.is_listed.Goals as goal
 

@@ -1,7 +1,7 @@
 use Rattle.std.proofs.Common.{◌∙◌, sym, ap, ℕ, List}
 use Rattle.std.specs.Str.{bytes_eq}
 use Rattle.bound_query.specs.declared.bound.BoundItem.{BoundItem}
-use Rattle.query_bind.proofs.Search.{any_end, any_hit, any_miss}
+use Rattle.rankings.proofs.Searching.{any_end, any_hit, any_miss}
 use Rattle.query_bind.proofs.names.has_alias.Goals as goal
 
 pub returns-then-eq : goal.returns-then-eq

@@ -3,7 +3,7 @@ use Rattle.bound_query.specs.StoredParts.{column_view, equality_view}
 use Rattle.bound_query.specs.declared.bound.BoundEquality.{BoundEquality}
 use Rattle.query_bind.specs.Labels.{least_in}
 use Rattle.query_bind.specs.Variables.{is_fixing}
-use Rattle.query_bind.proofs.Search.{any_end, any_hit, any_miss}
+use Rattle.rankings.proofs.Searching.{any_end, any_hit, any_miss}
 use Rattle.query_bind.proofs.variables.has_constant.Goals as goal
 
 pub returns-then-fixes : goal.returns-then-fixes

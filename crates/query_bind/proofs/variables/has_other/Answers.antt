@@ -3,7 +3,7 @@ use Rattle.bound_query.specs.StoredParts.{column_view}
 use Rattle.query_bind.specs.Labels.{least_in}
 use Rattle.query_bind.specs.Variables.{is_other}
 use Rattle.query_bind.specs.declared.classes.Member.{Member}
-use Rattle.query_bind.proofs.Search.{any_end, any_hit, any_miss}
+use Rattle.rankings.proofs.Searching.{any_end, any_hit, any_miss}
 use Rattle.query_bind.proofs.variables.has_other.Goals as goal
 
 pub returns-then-is_in_other : goal.returns-then-is_in_other

@@ -7,15 +7,12 @@ use Rattle.query_parse.proofs.parsing.number.Goals as goal
 pub returns-in_err-checked_mul : goal.returns-in_err-checked_mul
 returns-in_err-checked_mul c =
     let m = digit_more c.args.digits.now c.loop-digit.digit-index c.loop-digit.value (decimal c.args.digits.now) c.loop-digit-test.true c.loop-digit.invariant.value in
-    let h = c.in_err-checked_mul.ensures in
-    rw c.from_residual.ensures (λ lt. omega (arith, m, h))
+    rw c.from_residual.ensures (λ lt. omega (arith, m, c.in_err-checked_mul.ensures))
 
 pub returns-in_err-value : goal.returns-in_err-value
 returns-in_err-value c =
     let m = digit_more c.args.digits.now c.loop-digit.digit-index c.loop-digit.value (decimal c.args.digits.now) c.loop-digit-test.true c.loop-digit.invariant.value in
-    let h = c.in_ok-checked_mul.ensures in
-    let k = c.in_err-value.ensures in
-    rw c.from_residual-in_err-value.ensures (λ lt. omega (arith, m, h, k, c.saturating_sub.ensures, c.from-digit.ensures))
+    rw c.from_residual-in_err-value.ensures (λ lt. omega (arith, m, c.in_ok-checked_mul.ensures, c.in_err-value.ensures, c.saturating_sub.ensures, c.from-digit.ensures))
 
 pub returns : goal.returns
 unfolding decimal_from

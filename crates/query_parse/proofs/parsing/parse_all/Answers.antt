@@ -26,16 +26,6 @@ record All (bytes : List ℕ) (r : Result SelectAll ParseFault) : Type 0 where
   some : IfOk r (λ all. 1 ≤ length all.branches)
   filled : IfOk r (λ all. AllByRecursion IsFilled all.branches)
 
-all_of_fault : (bytes : List ℕ) (e : ParseFault) → ParsesAll bytes (Err e) → All bytes (Err e)
-all_of_fault bytes e h = record {
-  sound = h;
-  exact = λ other k. parses_all_agree bytes other (Err e) k h;
-  ordered = tt;
-  items_ordered = tt;
-  some = tt;
-  filled = tt;
-}
-
 all_of_queries : (bytes : List ℕ) (all : SelectAll) → ParsesAll bytes (Ok all) → All bytes (Ok all)
 all_of_queries bytes all h =
     let there = all_some bytes all h in
@@ -59,15 +49,7 @@ returns-in_err-branches c =
     let e = c.in_err-branches.field-0.0 in
     let short = c.if-bytes-gt-MAX_BYTES.false in
     let faults = fails_faults_all bytes e (lexemes c.as_slice.result.now) short is (queries_give (λ v. v.items) _ (λ r. lexemes r.now) some_lexeme (lexemes c.as_slice.result.now) c.several.result (Err e) c.several.ensures c.in_err-branches.ensures) in
-    let b = all_of_fault bytes e faults in
-    rw (p.1, p.2) (record {
-      sound = b.sound;
-      exact = b.exact;
-      ordered = b.ordered;
-      items_ordered = b.items_ordered;
-      some = b.some;
-      filled = b.filled;
-    })
+    rw (p.1, p.2) (record { sound = faults; exact = λ other k. parses_all_agree bytes other (Err e) k faults; ordered = tt; items_ordered = tt; some = tt; filled = tt })
 
 pub returns-in_err-limit : goal.returns-in_err-limit
 returns-in_err-limit c =
@@ -79,15 +61,8 @@ returns-in_err-limit c =
     let says = says_all_read bytes (lexemes c.as_slice.result.now) x short is (queries_give (λ v. v.items) _ (λ r. lexemes r.now) some_lexeme (lexemes c.as_slice.result.now) c.several.result (Ok (c.in_ok-branches.branches, c.in_ok-branches.digits)) c.several.ensures c.in_ok-branches.ensures) in
     let e = c.in_err-limit.field-0.0 in
     let limits = subst (λ (ss : List Select). LimitsAll ss x.1 (Err e)) c.as_slice-2.ensures.value c.in_err-limit.ensures in
-    let b = all_of_fault bytes e (limit_faults_all bytes e x says limits) in
-    rw (p.1, p.2) (record {
-      sound = b.sound;
-      exact = b.exact;
-      ordered = b.ordered;
-      items_ordered = b.items_ordered;
-      some = b.some;
-      filled = b.filled;
-    })
+    let faults = limit_faults_all bytes e x says limits in
+    rw (p.1, p.2) (record { sound = faults; exact = λ other k. parses_all_agree bytes other (Err e) k faults; ordered = tt; items_ordered = tt; some = tt; filled = tt })
 
 pub returns : goal.returns
 returns c =

@@ -20,8 +20,7 @@ loop-column-preserved c =
 pub returns : goal.returns
 unfolding more_text columns_text
 returns c =
-    let x = c.first-item.result in
-    whole columns_text column_text more_text (λ y ys. refl) c.args.columns.now x
+    whole columns_text column_text more_text (λ y ys. refl) c.args.columns.now c.first-item.result
     c.args.text.now.items c.push_column.new.text.items c.loop-column.text.items c.loop-column.column-index c.in-len1-up.len_at_least c.first-item.is
     c.in_ok-push_column.ensures
     c.loop-column-test.false c.loop-column.invariant

@@ -20,8 +20,7 @@ loop-item-preserved c =
 pub returns : goal.returns
 unfolding more_text items_text
 returns c =
-    let x = c.first-item.result in
-    whole items_text item_text more_text (λ y ys. refl) c.args.items.now x
+    whole items_text item_text more_text (λ y ys. refl) c.args.items.now c.first-item.result
     c.args.text.now.items c.push_item.new.text.items c.loop-item.text.items c.loop-item.item-index c.in-len1-up.len_at_least c.first-item.is
     c.in_ok-push_item.ensures
     c.loop-item-test.false c.loop-item.invariant

@@ -20,12 +20,10 @@ few_chain a i m t few l most all = omega (arith, few, l, most, all)
 
 pub returns-in_err-named : goal.returns-in_err-named
 returns-in_err-named g c =
-    let r = c.from_residual.result in
-    let e = c.from_residual.ensures.0 in
     let all = ap length c.requires.children in
     let within : c.loop-i.i < raw_len c.args.raw.now c.args.node = below_count _ _ _ c.loop-i-test.true c.len-i-end.ensures in
     record {
-      kept = failed r _ e;
+      kept = failed c.from_residual.result _ c.from_residual.ensures.0;
       cost = steps_within c.loop-i.i (length (child_nodes c.args.raw.now c.args.node)) (raw_len c.args.raw.now c.args.node) (length c.args.raw.now.shapes) c.args.steps.now _ within
           (kids_below_lem c.args.raw.now c.args.node [] c.requires.node) (missed_steps c.loop-i.i (length (child_nodes c.args.raw.now c.args.node)) (length c.args.children.now) c.args.steps.now c.loop-i.steps c.child_groups.new.steps _ all c.loop-i.invariant.counted c.child_groups.ensures.cost refl);
     }
@@ -55,12 +53,11 @@ keep_row-requires-clause-few_rows g c =
 
 pub returns-in_err-keep_row : goal.returns-in_err-keep_row
 returns-in_err-keep_row g c =
-    let r = c.from_residual-in_err-keep_row.result in
     let e = c.from_residual-in_err-keep_row.ensures.0 in
     let all = ap length c.requires.children in
     let within : c.loop-i.i < raw_len c.args.raw.now c.args.node = below_count _ _ _ c.loop-i-test.true c.len-i-end.ensures in
     record {
-      kept = failed r _ e;
+      kept = failed c.from_residual-in_err-keep_row.result _ e;
       cost = steps_within c.loop-i.i (length (child_nodes c.args.raw.now c.args.node)) (raw_len c.args.raw.now c.args.node) (length c.args.raw.now.shapes) c.args.steps.now _ within
           (kids_below_lem c.args.raw.now c.args.node [] c.requires.node) (kept_steps c.loop-i.i (length (child_nodes c.args.raw.now c.args.node)) (length c.args.children.now) c.args.steps.now c.loop-i.steps c.child_groups.new.steps c.keep_row.new.steps _ all c.loop-i.invariant.counted c.child_groups.ensures.cost c.keep_row.ensures.cost refl);
     }

@@ -6,23 +6,20 @@ use Rattle.semi_join.proofs.node.keep_rows.Goals as goal
 
 pub returns-in_err-children : goal.returns-in_err-children
 returns-in_err-children g c =
-    let r = c.from_residual.result in
     let e = c.from_residual.ensures.0 in
-    record { kept = IfOk-from_err r _ e; cost = omega arith }
+    record { kept = IfOk-from_err c.from_residual.result _ e; cost = omega arith }
 
 pub returns-in_err-kept : goal.returns-in_err-kept
 returns-in_err-kept g c =
-    let r = c.from_residual-in_err-kept.result in
     let e = c.from_residual-in_err-kept.ensures.0 in
-    record { kept = IfOk-from_err r _ e; cost = omega arith }
+    record { kept = IfOk-from_err c.from_residual-in_err-kept.result _ e; cost = omega arith }
 
 pub returns : goal.returns
 returns g c =
     let r = c.add_rows-added.result in
     let kept = c.add_rows-added.new.kept in
     let made = c.add_rows-added.ensures in
-    let e = c.and.ensures in
-    record { kept = handed c.and.result r kept _ e made.kept; cost = made.cost }
+    record { kept = handed c.and.result r kept _ c.and.ensures made.kept; cost = made.cost }
 
 pub add_rows-added-requires-clause-children : goal.add_rows-added-requires-clause-children
 add_rows-added-requires-clause-children g c = c.deref.ensures.value ∙ c.in_ok-children.ensures

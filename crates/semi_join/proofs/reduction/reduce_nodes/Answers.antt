@@ -1,4 +1,5 @@
-use Rattle.std.proofs.Common.{◌≡◌, ◌-◌, ◌<◌, ◌∷◌, [], map, length, sym, ap, subst, ◌∙◌, refl, arith}
+use Rattle.std.proofs.Common.{◌≡◌, ◌+◌, ◌-◌, ◌*◌, ◌<◌, ◌≤◌, ◌∷◌, [], drop, map, length, sym, ap, subst, ◌∙◌, refl, arith}
+use Rattle.std.specs.List.{sum_by}
 use Rattle.std.proofs.lemmas.List.{get_or-set_other}
 use Rattle.tdp_core.specs.RawView.{IsRawFormed, RawView, rows_at}
 use Rattle.tdp_core.specs.TreeView.{node_view}
@@ -10,42 +11,40 @@ use Rattle.semi_join.proofs.FromLast.{count_down, few_more, few_none, from_more,
 use Rattle.semi_join.proofs.SameRows.{links_same, reduced_same, steps_same}
 use Rattle.semi_join.proofs.WholeReduction.{whole_reduction}
 use Rattle.semi_join.proofs.Handed.{failed}
+use Rattle.semi_join.proofs.reduction.reduce_nodes.Given.{Over}
+use Rattle.semi_join.proofs.reduction.reduce_nodes.Goals.{After-reduce_node}
 use Rattle.semi_join.proofs.reduction.reduce_nodes.Goals as goal
 
-pub returns-in_err-grouped : goal.returns-in_err-grouped
-returns-in_err-grouped g c = record {
-  reduced = failed c.from_residual.result _ c.from_residual.ensures.0;
-  cost = let raw = c.args.tree.now in
+module _ (g : Over) where
+  -- the steps after one node more
+  counted_more : (c : After-reduce_node g) → c.reduce_node.new.steps ≤ c.args.steps.now + sum_by length (drop (c.loop-node.node - 1) c.args.tree.now.rows) * length c.args.tree.now.shapes
+  counted_more c =
+      let raw = c.args.tree.now in
       let v = c.loop-node.node - 1 in
       let at = step_down c.loop-node.node (length c.loop-node.later.items) (length raw.shapes) c.loop-node-test.true c.loop-node.invariant.count in
       let less : v < length raw.rows = at_list _ _ _ at.below c.nodes-node.ensures.formed.each_node in
       let one = steps_same v [] c.loop-node.tree raw c.loop-node.invariant.shapes (c.loop-node.invariant.rows v at.first) c.loop-node.steps c.reduce_node.new.steps c.reduce_node.ensures.cost in
-      steps_few raw.rows v (length raw.shapes) c.args.steps.now c.reduce_node.new.steps
-      (steps_more raw.rows v c.loop-node.node (length raw.shapes) c.args.steps.now c.loop-node.steps c.reduce_node.new.steps less at.is c.loop-node.invariant.counted one);
+      steps_more raw.rows v c.loop-node.node (length raw.shapes) c.args.steps.now c.loop-node.steps c.reduce_node.new.steps less at.is c.loop-node.invariant.counted one
+
+  counted_few : (c : After-reduce_node g) → c.reduce_node.new.steps ≤ c.args.steps.now + 2 * length c.args.tree.now.shapes * (1 + sum_by length c.args.tree.now.rows)
+  counted_few c = steps_few c.args.tree.now.rows (c.loop-node.node - 1) (length c.args.tree.now.shapes) c.args.steps.now c.reduce_node.new.steps (counted_more c)
+
+pub returns-in_err-grouped : goal.returns-in_err-grouped
+returns-in_err-grouped g c = record {
+  reduced = failed c.from_residual.result _ c.from_residual.ensures.0;
+  cost = counted_few g (goal.at.returns-in_err-grouped g c).After-reduce_node;
 }
 
 pub returns-in_err-insert : goal.returns-in_err-insert
 returns-in_err-insert g c = record {
   reduced = failed c.from_residual-in_err-insert.result _ c.from_residual-in_err-insert.ensures.0;
-  cost = let raw = c.args.tree.now in
-      let v = c.loop-node.node - 1 in
-      let at = step_down c.loop-node.node (length c.loop-node.later.items) (length raw.shapes) c.loop-node-test.true c.loop-node.invariant.count in
-      let less : v < length raw.rows = at_list _ _ _ at.below c.nodes-node.ensures.formed.each_node in
-      let one = steps_same v [] c.loop-node.tree raw c.loop-node.invariant.shapes (c.loop-node.invariant.rows v at.first) c.loop-node.steps c.reduce_node.new.steps c.reduce_node.ensures.cost in
-      steps_few raw.rows v (length raw.shapes) c.args.steps.now c.reduce_node.new.steps
-      (steps_more raw.rows v c.loop-node.node (length raw.shapes) c.args.steps.now c.loop-node.steps c.reduce_node.new.steps less at.is c.loop-node.invariant.counted one);
+  cost = counted_few g (goal.at.returns-in_err-insert g c).After-reduce_node;
 }
 
 pub returns-in_err-insert-2 : goal.returns-in_err-insert-2
 returns-in_err-insert-2 g c = record {
   reduced = failed c.from_residual-in_err-insert-2.result _ c.from_residual-in_err-insert-2.ensures.0;
-  cost = let raw = c.args.tree.now in
-      let v = c.loop-node.node - 1 in
-      let at = step_down c.loop-node.node (length c.loop-node.later.items) (length raw.shapes) c.loop-node-test.true c.loop-node.invariant.count in
-      let less : v < length raw.rows = at_list _ _ _ at.below c.nodes-node.ensures.formed.each_node in
-      let one = steps_same v [] c.loop-node.tree raw c.loop-node.invariant.shapes (c.loop-node.invariant.rows v at.first) c.loop-node.steps c.reduce_node.new.steps c.reduce_node.ensures.cost in
-      steps_few raw.rows v (length raw.shapes) c.args.steps.now c.reduce_node.new.steps
-      (steps_more raw.rows v c.loop-node.node (length raw.shapes) c.args.steps.now c.loop-node.steps c.reduce_node.new.steps less at.is c.loop-node.invariant.counted one);
+  cost = counted_few g (goal.at.returns-in_err-insert-2 g c).After-reduce_node;
 }
 
 pub loop-node-preserved : goal.loop-node-preserved
@@ -58,7 +57,6 @@ loop-node-preserved g c =
     let some : 0 < c.loop-node.node = c.loop-node-test.true in
     let at = step_down c.loop-node.node (length c.loop-node.later.items) (length raw.shapes) some before.count in
     let here : v < length tree.shapes = at_list _ _ _ at.below nodes in
-    let less : v < length raw.rows = at_list _ _ _ at.below c.nodes-node.ensures.formed.each_node in
     let same = before.rows v at.first in
     let later = map links_of c.loop-node.later.items in
     let part = node_view c.in_ok-grouped.grouped.parts in
@@ -66,7 +64,6 @@ loop-node-preserved g c =
     let found = subst (λ l. IsReducedNode tree v (map links_of l) part) c.deref.ensures.value c.in_ok-grouped.ensures.reduced in
     let reduced = subst (λ l. IsReducedNode raw v l part) before.links (reduced_same v later tree raw before.shapes same part found) in
     let keys : links ≡ group_links raw v later = c.in_ok-grouped.ensures.links ∙ ap (λ l. group_links tree v (map links_of l)) c.deref.ensures.value ∙ links_same v later tree raw before.shapes same in
-    let one = steps_same v later tree raw before.shapes same c.loop-node.steps c.reduce_node.new.steps c.reduce_node.ensures.cost in
     record {
       formed = subst (IsRawFormed g.R.Rank.KEYS g.R.Rank.key) (sym c.clear.ensures) (formed_less g.R.Rank.KEYS g.R.Rank.key tree v before.formed here);
       shapes = ap (λ (t : RawView g.row.R.Denot). t.shapes) c.clear.ensures ∙ before.shapes;
@@ -82,7 +79,7 @@ loop-node-preserved g c =
           ∙ ap (links_last raw) at.more;
       few = subst (λ ls. AreFew (map links_of ls)) (sym c.in_ok-insert-2.ensures.items) (few_more links later c.in_ok-grouped.ensures.few before.few);
       count = count_down c.loop-node.node (length c.loop-node.later.items) _ (length raw.shapes) some before.count (ap length c.in_ok-insert-2.ensures.items);
-      counted = steps_more raw.rows v c.loop-node.node (length raw.shapes) c.args.steps.now c.loop-node.steps c.reduce_node.new.steps less at.is before.counted one;
+      counted = counted_more g (goal.at.loop-node-preserved g c).After-reduce_node;
     }
 
 pub returns : goal.returns

@@ -1,6 +1,6 @@
 use Rattle.std.proofs.Common.{◌∙◌, sym, ap, ℕ, List}
 use Rattle.std.specs.Str.{bytes_eq}
-use Rattle.session_script.proofs.Searching.{any_end, any_hit, any_miss}
+use Rattle.rankings.proofs.Searching.{any_end, any_hit, any_miss}
 use Rattle.session_script.proofs.open_names.is_open.Goals as goal
 
 pub returns-then-eq : goal.returns-then-eq

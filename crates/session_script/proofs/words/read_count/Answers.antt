@@ -4,7 +4,7 @@ use Rattle.std.proofs.lemmas.Bool.Decides.{nat_tests}
 use Rattle.std.proofs.lemmas.List.Sums.{fold_more}
 use Rattle.std.proofs.lemmas.Nat.{pow-add}
 use Rattle.session_script.specs.Words.{decimal_value}
-use Rattle.session_script.proofs.Searching.{all_hit}
+use Rattle.rankings.proofs.Searching.{all_hit}
 use Rattle.session_script.proofs.words.read_count.Goals as goal
 
 digit_small : (x : ℕ) → is_ascii_digit x ≡ true → x ≤ 57

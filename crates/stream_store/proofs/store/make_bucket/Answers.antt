@@ -1,4 +1,4 @@
-use Rattle.std.proofs.Common.{◌≡◌, ◌+◌, ℕ, [], ◌∷◌, ◌++◌, ap, arith, refl, subst, sym, ◌∙◌}
+use Rattle.std.proofs.Common.{◌≡◌, ◌+◌, [], ◌∷◌, ◌++◌, ap, arith, refl, subst, sym, ◌∙◌}
 use Rattle.std.specs.Vec.{vec_len, vec_capacity}
 use Rattle.stream_store.specs.Buckets.{AreFilled, joined, whole_room}
 use Rattle.stream_store.proofs.Rooms.{made_more, none_on_ok, on_err, within_32}

@@ -31,10 +31,13 @@ module _ (g : Over) where
   entry c = record { value = record { node = c.args.node; group = c.args.group; solution = c.kept_solution.result }; next = None }
 
   abbrev stream : After-add_stream g → StreamView g.row.R.Denot
-  stream c = record { head = c.next_id-head.result; queue = c.first_solution-first.result ∷ []; room = 0 }
+  stream c = record { head = c.push_reserved-head.result; queue = c.first_solution-first.result ∷ []; room = 0 }
 
-  added : (c : After-add_stream g) → c.push_reserved.new.self.entries ≡ c.args.entries.now.entries ++ (entry c ∷ [])
-  added c = c.push_reserved.ensures.entries ∙ ap (λ es. es ++ (entry c ∷ [])) c.reserve.ensures.entries
+  added : (c : After-add_stream g) → c.push_reserved-head.new.self.entries ≡ c.args.entries.now.entries ++ (entry c ∷ [])
+  added c = c.push_reserved-head.ensures.entries ∙ ap (λ es. es ++ (entry c ∷ [])) c.reserve.ensures.entries
+
+  head_is : (c : After-add_stream g) → c.push_reserved-head.result ≡ length c.args.entries.now.entries
+  head_is c = c.push_reserved-head.ensures.id ∙ ap length c.reserve.ensures.entries
 
   nodes_are : (c : After-add_stream g) → c.add_stream.new.self ≡ with_stream c.index_mut.result.now (stream c)
       → (length (slice_set c.args.nodes.now.items c.args.node c.add_stream.new.self) ≡ length c.args.nodes.now.items)
@@ -43,7 +46,7 @@ module _ (g : Over) where
   nodes_are c e = nodes_set g.R.Rank.KEYS g.R.Rank.key c.args.tree.now c.args.nodes.now.items c.args.node c.index_mut.result.now c.add_stream.new.self (stream c) (in_same _ _ _ c.requires.node c.requires.begun.streams.all_nodes) c.index_mut.ensures.value e
 
   begun : (c : After-add_stream g) → c.add_stream.new.self ≡ with_stream c.index_mut.result.now (stream c)
-      → IsBegunIn g.R.Rank.KEYS g.R.Rank.key c.args.tree.now c.push_reserved.new.self.entries (slice_set c.args.nodes.now.items c.args.node c.add_stream.new.self) c.args.node (c.args.group + 1)
+      → IsBegunIn g.R.Rank.KEYS g.R.Rank.key c.args.tree.now c.push_reserved-head.new.self.entries (slice_set c.args.nodes.now.items c.args.node c.add_stream.new.self) c.args.node (c.args.group + 1)
   begun c e =
       let d = g.R.Rank.KEYS in
       let key = g.R.Rank.key in
@@ -52,15 +55,15 @@ module _ (g : Over) where
       let first = c.first_solution-first.ensures.first in
       subst (λ es. IsBegunIn d key t es (slice_set c.args.nodes.now.items c.args.node c.add_stream.new.self) c.args.node (c.args.group + 1)) (sym (added c))
       (in_more d key t c.args.entries.now.entries c.args.nodes.now.items (slice_set c.args.nodes.now.items c.args.node c.add_stream.new.self) c.args.node c.args.group (c.args.group + 1) (entry c) (stream c)
-      set.0 set.1 set.2 c.requires.node c.requires.group refl refl refl refl c.next_id-head.ensures.id
+      set.0 set.1 set.2 c.requires.node c.requires.group refl refl refl refl (head_is c)
       (ap (λ (z : Entry g.row.R.Denot Solved). key z.rank) c.kept_solution.ensures ∙ first.1 ∙ first_best d key t c.requires.formed c.args.node c.args.group c.requires.node c.requires.group ∙ first_member d key t c.requires.formed c.args.node c.args.group c.requires.node c.requires.group)
       (λ x. c.kept_solution.ensures) (c.first_solution-first.result, refl, first) c.requires.begun)
 
   heads : (c : After-add_stream g) → c.add_stream.new.self ≡ with_stream c.index_mut.result.now (stream c)
-      → IsNextHead (lists_of (slice_set c.args.nodes.now.items c.args.node c.add_stream.new.self) c.args.node).streams (length c.push_reserved.new.self.entries)
+      → IsNextHead (lists_of (slice_set c.args.nodes.now.items c.args.node c.add_stream.new.self) c.args.node).streams (length c.push_reserved-head.new.self.entries)
   heads c e =
-      subst (λ n. IsNextHead n.streams (length c.push_reserved.new.self.entries)) (sym (nodes_are c e).2)
-      (next_head_more (lists_of c.args.nodes.now.items c.args.node).streams (stream c) (length c.args.entries.now.entries) (length c.push_reserved.new.self.entries) c.requires.heads c.next_id-head.ensures.id
+      subst (λ n. IsNextHead n.streams (length c.push_reserved-head.new.self.entries)) (sym (nodes_are c e).2)
+      (next_head_more (lists_of c.args.nodes.now.items c.args.node).streams (stream c) (length c.args.entries.now.entries) (length c.push_reserved-head.new.self.entries) c.requires.heads (head_is c)
       (ap length (added c) ∙ length_behind c.args.entries.now.entries (entry c)))
 
 pub first_solution-first-requires-clause-formed : goal.first_solution-first-requires-clause-formed
@@ -84,14 +87,11 @@ first_solution-first-requires-clause-headed g c =
     subst (λ (z : List (NodeStreamsView g.row.R.Denot)). IsHeaded d key t c.args.entries.now.entries z c.args.node (get_or (members t c.args.node c.args.group) 0 0)) (sym c.as_slice.ensures.value)
     (headed_begun d key t c.requires.formed c.args.entries.now.entries c.args.nodes.now.items c.requires.begun.streams c.args.node (get_or (members t c.args.node c.args.group) 0 0) c.requires.node row c.requires.begun.behind)
 
-pub add_stream-requires-clause-next : goal.add_stream-requires-clause-next
-add_stream-requires-clause-next g c =
-    subst (λ (n : NodeStreamsView g.row.R.Denot). IsNextHead n.streams c.next_id-head.result)
+pub add_stream-requires : goal.add_stream-requires
+add_stream-requires g c =
+    subst (λ (n : NodeStreamsView g.row.R.Denot). IsNextHead n.streams c.push_reserved-head.result)
     (any_default c.args.nodes.now.items c.args.node (record { children = []; streams = []; products = [] }) c.index_mut.result.now (in_same _ _ _ c.requires.node c.requires.begun.streams.all_nodes) ∙ sym c.index_mut.ensures.value)
-    (subst (IsNextHead (lists_of c.args.nodes.now.items c.args.node).streams) (sym c.next_id-head.ensures.id) c.requires.heads)
-
-pub add_stream-requires-clause-fits : goal.add_stream-requires-clause-fits
-add_stream-requires-clause-fits g c = c.next_id-head.ensures.fits
+    (subst (IsNextHead (lists_of c.args.nodes.now.items c.args.node).streams) (sym (c.push_reserved-head.ensures.id ∙ ap length c.reserve.ensures.entries)) c.requires.heads)
 
 pub returns : goal.returns
 returns g c =
@@ -99,7 +99,7 @@ returns g c =
     record {
       begun = ok_then c.add_stream.result (begun g at.After-add_stream) c.add_stream.ensures;
       heads = ok_then c.add_stream.result (heads g at.After-add_stream) c.add_stream.ensures;
-      cost = omega (arith, c.first_solution-first.ensures.cost, c.push_reserved.ensures.cost);
+      cost = omega (arith, c.first_solution-first.ensures.cost, c.push_reserved-head.ensures.cost);
     }
 
 pub index_mut-requires : goal.index_mut-requires

@@ -12,7 +12,7 @@ returns g c =
     let kids : c.len.result ≡ child_count t c.args.node = omega (arith, c.len.ensures, c.in_ok-children.ensures.count) in
     record {
       children = c.in_ok-children.ensures;
-      no_streams = ap (λ z. headed c.first.result z) c.in_ok-streams.ensures.items ∙ headed_none c.first.result;
+      no_streams = ap (λ z. headed c.new.result.first z) c.in_ok-streams.ensures.items ∙ headed_none c.new.result.first;
       all_rows = c.in_ok-products.ensures.count ∙ c.rows_to_open-rows.ensures ∙ ap (λ n. open_rows n c.len-2.result) kids ∙ ap (λ n. open_rows (child_count t c.args.node) n) c.len-2.ensures;
       no_products = c.in_ok-products.ensures.none;
     }

@@ -3,7 +3,7 @@ use Rattle.take2_heap.specs.declared.entry.Entry.{Entry}
 use Rattle.tdp_core.specs.TreeView.{members, rows}
 use Rattle.anyk_part.specs.declared.candidate.Candidate.{Candidate}
 use Rattle.anyk_part.specs.Regions.{IsEntry}
-use Rattle.anyk_part.proofs.Sites.{member_row, can_swap, node_small, place_small, new_entry, held_put, entries_put, length_put}
+use Rattle.anyk_part.proofs.Sites.{member_row, can_swap, node_small, place_small, site_begins, new_entry, held_put, entries_put, length_put}
 use Rattle.anyk_part.proofs.frontier.Frontier.offer.Goals as goal
 
 pub best-best-requires-clause-row : goal.best-best-requires-clause-row
@@ -27,6 +27,9 @@ new-candidate-requires-clause-position g c = node_small g.R.Rank.KEYS g.R.Rank.k
 
 pub new-candidate-requires-clause-place : goal.new-candidate-requires-clause-place
 new-candidate-requires-clause-place g c = place_small g.R.Rank.KEYS g.R.Rank.key c.args.tree.now c.args.self.now.links.entries c.args.site.now c.requires.site c.args.place c.requires.place
+
+pub new-candidate-requires-clause-before : goal.new-candidate-requires-clause-before
+new-candidate-requires-clause-before g c = site_begins g.R.Rank.KEYS g.R.Rank.key c.args.tree.now c.args.self.now.links.entries c.args.site.now c.requires.site
 
 pub returns : goal.returns
 returns g c = record {

@@ -10,7 +10,7 @@ use Rattle.bound_query.proofs.query.Query.part.Goals as goal
 
 pub index-requires-2 : goal.index-requires-2
 index-requires-2 c =
-    let tables = c.args._tables.now in
+    let tables = c.args.tables.now in
     let order = c.args.self.now.query.order in
     let items = c.args.self.now.query.items in
     let key = key_at order c.args.key in
@@ -22,7 +22,7 @@ index-requires-2 c =
 
 pub returns : goal.returns
 returns c =
-    let tables = c.args._tables.now in
+    let tables = c.args.tables.now in
     let order = c.args.self.now.query.order in
     let items = c.args.self.now.query.items in
     let key = key_at order c.args.key in
@@ -34,9 +34,8 @@ returns c =
     let own : item_weights_view w ≡ item_parts tables items key c.args.item =
     ap item_weights_view c.index-2.ensures ∙ parts_of tables items key v shown c.args.item w c.requires.item in
     let first = c.requires.first in
-    let last = c.requires.row in
     let x = c.part_at.result in
     let g : SFits w128 x = search rules in
     let re : to_z w128 (of_z w128 x) ≡ x = simp to_z-of_z in
     re ∙ c.part_at.ensures ∙ ap (λ (l : List ℤ). get_or l (c.args.row - 1) (pos 0)) (c.as_slice.ensures.value ∙ ap (λ (p : ItemParts). p.parts) own)
-    ∙ part_kept tables items key c.args.item c.args.row (c.args.row - 1) (omega (arith, first, last)) (omega (arith, first))
+    ∙ part_kept tables items key c.args.item c.args.row (c.args.row - 1) (omega (arith, first, c.requires.row)) (omega (arith, first))

@@ -1,4 +1,4 @@
-use Rattle.std.proofs.Common.{◌≡◌, ◌+◌, ◌≤◌, None, ◌∷◌, ◌++◌, [], ◌∙◌, ap, length, refl, subst, sym}
+use Rattle.std.proofs.Common.{◌≡◌, ◌≤◌, None, ◌∷◌, ◌++◌, [], ◌∙◌, ap, length, refl, subst, sym}
 use Rattle.stream_store.specs.Entries.{Entries}
 use Rattle.stream_store.proofs.Rooms.{le_same}
 use Rattle.stream_store.proofs.store.Store.push.Goals.{then-spare-eq0+in_default, else-spare-eq0}

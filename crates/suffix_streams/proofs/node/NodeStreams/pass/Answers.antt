@@ -20,7 +20,7 @@ room_left a b some few = omega arith
 
 pub returns : goal.returns
 returns g c =
-    let o = queue_changed _ c.self.inside.first_head c.self.inside.streams.items _ c.args.self.now c.self.view_is c.args.group c.requires.group c.offer.new.self c.index_mut-queue.result.now c.index_mut-queue.ensures.value in
+    let o = queue_changed _ c.self.inside.heads.first c.self.inside.streams.items _ c.args.self.now c.self.view_is c.args.group c.requires.group c.offer.new.self c.index_mut-queue.result.now c.index_mut-queue.ensures.value in
     record {
       least = λ d. subst (λ z. IsLeast g.R.Rank.KEYS g.R.Rank.key (slice_index_or z.queue 0 d) z.queue) (sym o.0) (c.pass.ensures.least d);
       moved =
@@ -36,15 +36,15 @@ returns g c =
     }
 
 pub index_mut-queue-requires : goal.index_mut-queue-requires
-index_mut-queue-requires g c = in_same _ _ _ (in_queues _ c.self.inside.first_head c.self.inside.streams.items _ c.args.self.now c.self.view_is c.args.group c.requires.group) c.self.inside.streams.ok.0
+index_mut-queue-requires g c = in_same _ _ _ (in_queues _ c.self.inside.heads.first c.self.inside.streams.items _ c.args.self.now c.self.view_is c.args.group c.requires.group) c.self.inside.streams.ok.0
 
 pub pass-requires-clause-top : goal.pass-requires-clause-top
-pass-requires-clause-top g c = subst (λ (s : StreamView g.row.R.Denot). 0 < length s.queue) (queue_read _ c.self.inside.first_head c.self.inside.streams.items _ c.args.self.now c.self.view_is c.args.group c.requires.group c.index_mut-queue.result.now c.index_mut-queue.ensures.value) c.requires.top
+pass-requires-clause-top g c = subst (λ (s : StreamView g.row.R.Denot). 0 < length s.queue) (queue_read _ c.self.inside.heads.first c.self.inside.streams.items _ c.args.self.now c.self.view_is c.args.group c.requires.group c.index_mut-queue.result.now c.index_mut-queue.ensures.value) c.requires.top
 
 pub pass-requires-clause-room : goal.pass-requires-clause-room
-pass-requires-clause-room g c _ left = subst (λ (s : StreamView g.row.R.Denot). 0 < s.room) (queue_read _ c.self.inside.first_head c.self.inside.streams.items _ c.args.self.now c.self.view_is c.args.group c.requires.group c.index_mut-queue.result.now c.index_mut-queue.ensures.value) (c.requires.left_room left)
+pass-requires-clause-room g c _ left = subst (λ (s : StreamView g.row.R.Denot). 0 < s.room) (queue_read _ c.self.inside.heads.first c.self.inside.streams.items _ c.args.self.now c.self.view_is c.args.group c.requires.group c.index_mut-queue.result.now c.index_mut-queue.ensures.value) (c.requires.left_room left)
 
 pub offer-requires : goal.offer-requires
 offer-requires g c = record {
-  room = λ right. room_left _ _ (subst (λ (s : StreamView g.row.R.Denot). 1 < s.room) (queue_read _ c.self.inside.first_head c.self.inside.streams.items _ c.args.self.now c.self.view_is c.args.group c.requires.group c.index_mut-queue.result.now c.index_mut-queue.ensures.value) (c.requires.right_room right)) c.pass.ensures.spare;
+  room = λ right. room_left _ _ (subst (λ (s : StreamView g.row.R.Denot). 1 < s.room) (queue_read _ c.self.inside.heads.first c.self.inside.streams.items _ c.args.self.now c.self.view_is c.args.group c.requires.group c.index_mut-queue.result.now c.index_mut-queue.ensures.value) (c.requires.right_room right)) c.pass.ensures.spare;
 }

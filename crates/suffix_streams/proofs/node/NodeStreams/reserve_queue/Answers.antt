@@ -16,15 +16,15 @@ at_most : (n k m : ℕ) → n ≤ k → k ≤ m → n ≤ m
 at_most n k m a b = omega arith
 
 pub index_mut-queue-requires : goal.index_mut-queue-requires
-index_mut-queue-requires g c = in_same _ _ _ (in_queues _ c.self.inside.first_head c.self.inside.streams.items _ c.args.self.now c.self.view_is c.args.group c.requires.group) c.self.inside.streams.ok.0
+index_mut-queue-requires g c = in_same _ _ _ (in_queues _ c.self.inside.heads.first c.self.inside.streams.items _ c.args.self.now c.self.view_is c.args.group c.requires.group) c.self.inside.streams.ok.0
 
 pub queue_room-count-requires : goal.queue_room-count-requires
 queue_room-count-requires g c =
-    few_read _ _ _ c.len.ensures (subst (λ (s : StreamView g.row.R.Denot). length s.queue ≤ c.args.members) (queue_read _ c.self.inside.first_head c.self.inside.streams.items _ c.args.self.now c.self.view_is c.args.group c.requires.group c.index_mut-queue.result.now c.index_mut-queue.ensures.value) c.requires.few)
+    few_read _ _ _ c.len.ensures (subst (λ (s : StreamView g.row.R.Denot). length s.queue ≤ c.args.members) (queue_read _ c.self.inside.heads.first c.self.inside.streams.items _ c.args.self.now c.self.view_is c.args.group c.requires.group c.index_mut-queue.result.now c.index_mut-queue.ensures.value) c.requires.few)
 
 pub returns : goal.returns
 returns g c =
-    let o = queue_changed _ c.self.inside.first_head c.self.inside.streams.items _ c.args.self.now c.self.view_is c.args.group c.requires.group c.reserve.new.self c.index_mut-queue.result.now c.index_mut-queue.ensures.value in
+    let o = queue_changed _ c.self.inside.heads.first c.self.inside.streams.items _ c.args.self.now c.self.view_is c.args.group c.requires.group c.reserve.new.self c.index_mut-queue.result.now c.index_mut-queue.ensures.value in
     record {
       room = subst (λ (s : StreamView g.row.R.Denot). OnOk c.reserve.result (can_enter c.args.members ≤ s.room)) (sym o.1) (ok_then c.reserve.result (λ more. at_most _ _ _ c.queue_room-count.ensures more) c.reserve.ensures.ok);
       changed =

@@ -5,9 +5,6 @@ use Rattle.suffix_streams.proofs.Errors.{none_done, err_then}
 use Rattle.suffix_streams.proofs.Single.{alone, spare_none}
 use Rattle.suffix_streams.proofs.queue.Queue.reserve.Goals as goal
 
-same_few : (n m : ℕ) → n ≡ m → m ≤ n
-same_few n m e = omega arith
-
 none_few : (n m : ℕ) → n ≡ 0 → n ≤ m
 none_few n m e = omega arith
 

@@ -7,7 +7,7 @@ use Rattle.table_store.proofs.tables.Tables.weight.Goals as goal
 
 pub returns-in-Some : goal.returns-in-Some
 returns-in-Some c =
-    let field = field_at (table_at c.args.self.now c.args.table) (c.args.row - 1) c.args.column in
+    let field = field_at (table_at c.args.self.now c.args.table) (c.args.row - 1) c.args.col in
     let number = c.in-Some.number in
     let own = own_weight field number (sym c.own_number.ensures ∙ c.in-Some.is) in
     ap (λ (z : ℤ). Some z) (to_z_pos w128 number (omega (arith, own.0))) ∙ sym own.1
