@@ -6,7 +6,7 @@ use Rattle.std.proofs.lemmas.List.{get_or-map, length-map, map-append, take_all,
 use Rattle.anyk_model.specs.Table.{Table}
 use Rattle.anyk_model.specs.Weight.{weight_of}
 use Rattle.anyk_model.specs.Query.{OrderKey, Query, Term, term_value, total, value_of}
-use Rattle.bound_query.specs.Inside.{KeyInside, TermInside}
+use Rattle.bound_query.specs.NamedPlaces.{KeyInside, TermInside}
 use Rattle.bound_query.specs.StoredParts.{term_view}
 use Rattle.bound_query.specs.WeighedQuery.{BoundQuery, Fits}
 use Rattle.bound_query.specs.declared.bound.BoundTerm.{BoundTerm}

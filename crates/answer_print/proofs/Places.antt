@@ -4,7 +4,7 @@ use Rattle.std.proofs.lemmas.List.{get_or-map, get_or-take, length-map, take_all
 use Rattle.anyk_model.specs.Table.{Table, table_at}
 use Rattle.anyk_model.specs.Query.{Query, Item, Column, IsCombination, row_counts}
 use Rattle.anyk_model.proofs.Combinations.{combination_at, combination_length}
-use Rattle.bound_query.specs.Inside.{HasTable, IsInside, IsWithin}
+use Rattle.bound_query.specs.NamedPlaces.{HasTable, IsInside, NamesExist}
 use Rattle.bound_query.specs.Items.{item_at}
 use Rattle.bound_query.specs.StoredParts.{column_view}
 use Rattle.bound_query.specs.Weights.{table_in}
@@ -42,7 +42,7 @@ pub record HasColumn (query : Query) (tables : List Table) (shown : List (ℕ ×
   pub table : (item_at query.items (get_or shown i d).0).table < length tables
   pub column : (get_or shown i d).1 < length (table_in tables query.items (get_or shown i d).0).names
 
-pub column_there : (query : Query) (tables : List Table) (shown : List (ℕ × ℕ)) (i : ℕ) (d : ℕ × ℕ) → IsWithin query tables → map column_view shown ≡ query.list
+pub column_there : (query : Query) (tables : List Table) (shown : List (ℕ × ℕ)) (i : ℕ) (d : ℕ × ℕ) → NamesExist query tables → map column_view shown ≡ query.list
     → i < length shown → HasColumn query tables shown i d
 column_there query tables shown i d within stored inside =
     let place : i < length query.list = omega (arith, inside, ap length stored, length-map shown column_view) in

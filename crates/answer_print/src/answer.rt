@@ -5,7 +5,7 @@ ghost use Rattle.anyk_model.specs.Output.{line_text};
 ghost use Rattle.anyk_model.specs.Query.{IsCombination, row_counts, sum_of, term_value, value_of};
 ghost use Rattle.anyk_model.specs.Table.{field_at, table_at};
 ghost use Rattle.bound_query.specs.WeighedQuery.{Fits};
-ghost use Rattle.bound_query.specs.Inside.{TermInside};
+ghost use Rattle.bound_query.specs.NamedPlaces.{TermInside};
 ghost use Rattle.bound_query.specs.StoredParts.{term_view};
 ghost use Rattle.bound_query.specs.Weights.{column_size, key_at, most_sum};
 ghost use Rattle.answer_print.specs.WrittenRecords.{HasFields};

@@ -15,8 +15,8 @@ use Rattle.tdp_model.specs.Regions.{in_region, in_regions, completion, deviation
 use Rattle.tdp_core.specs.TreeView.{NodeView}
 use Rattle.anyk_part.specs.declared.candidate.Link.{Link}
 use Rattle.anyk_part.specs.declared.candidate.Candidate.{Candidate}
-use Rattle.anyk_part.specs.declared.candidate.Choice.{Choice}
-use Rattle.anyk_part.specs.declared.candidate.Walk.{Walk}
+use Rattle.anyk_part.specs.declared.candidate.ChosenRow.{ChosenRow}
+use Rattle.anyk_part.specs.declared.candidate.Descent.{Descent}
 use Rattle.anyk_part.specs.Chains.{chain}
 use Rattle.anyk_part.specs.Regions.{followers, Reached, region_of, region_at, held_by, IsEntry}
 use Rattle.anyk_part.specs.Walks.{IsDivided, best_from, divided_from, IsAt, IsChoice, IsDivision, row_at, start_region}
@@ -64,7 +64,7 @@ stands_no true n e = absurd (false≢true (sym e))
 stands_no false n e = refl
 
 module _ {R : Type 0} (d : ℕ) (key : R → KeyOf d 16) (t : List (NodeView R)) where
-  pub division_init : (start : Walk) (links : List (Linked Link)) (before : List (Entry R Candidate)) → start.node < length t → start.top_stands ≡ true → All (IsEntry d key t links) before
+  pub division_init : (start : Descent) (links : List (Linked Link)) (before : List (Entry R Candidate)) → start.node < length t → start.top_stands ≡ true → All (IsEntry d key t links) before
       → IsDivision d key t start links before start links before
   unfolding best_of best_from divided divided_from opening
   division_init start links before l e all =
@@ -82,7 +82,7 @@ module _ {R : Type 0} (d : ℕ) (key : R → KeyOf d 16) (t : List (NodeView R))
         few = omega arith;
       }
 
-  pub division_next : (whole : R) (start : Walk) (old_links : List (Linked Link)) (before : List (Entry R Candidate)) (w w' : Walk) (links links' : List (Linked Link)) (chosen : List ℕ)
+  pub division_next : (whole : R) (start : Descent) (old_links : List (Linked Link)) (before : List (Entry R Candidate)) (w w' : Descent) (links links' : List (Linked Link)) (chosen : List ℕ)
       (entries entries' : List (Entry R Candidate)) → IsAt d key t whole w chosen links → w.node < length t → IsDivision d key t start old_links before w links entries → w'.node ≡ w.node + 1 → w'.place ≡ 0
       → chain links' w'.node w'.before ≡ chain links w.node w.before ++ (row_at d key t w links ∷ [])
       → All (IsEntry d key t links') entries'
@@ -133,7 +133,7 @@ module _ {R : Type 0} (d : ℕ) (key : R → KeyOf d 16) (t : List (NodeView R))
 
   -- # The end
 
-  module _ (whole : R) (start : Walk) (old_links : List (Linked Link)) (before : List (Entry R Candidate)) (w : Walk) (links : List (Linked Link)) (chosen : List ℕ)
+  module _ (whole : R) (start : Descent) (old_links : List (Linked Link)) (before : List (Entry R Candidate)) (w : Descent) (links : List (Linked Link)) (chosen : List ℕ)
       (entries : List (Entry R Candidate)) (at : IsAt d key t whole w chosen links) (h : IsDivision d key t start old_links before w links entries) (done : length t ≤ w.node) where
     none_left : length t - w.node ≡ 0
     none_left = omega (arith, done)
@@ -179,13 +179,13 @@ module _ {R : Type 0} (d : ℕ) (key : R → KeyOf d 16) (t : List (NodeView R))
 
   -- # The choice at the last node, as one more step over the links that its own link would join
 
-  module _ (whole : R) (start : Walk) (old_links : List (Linked Link)) (before : List (Entry R Candidate)) (w : Walk) (links : List (Linked Link)) (chosen : List ℕ)
+  module _ (whole : R) (start : Descent) (old_links : List (Linked Link)) (before : List (Entry R Candidate)) (w : Descent) (links : List (Linked Link)) (chosen : List ℕ)
       (entries : List (Entry R Candidate)) (at : IsAt d key t whole w chosen links) (h : IsDivision d key t start old_links before w links entries) (below : w.node < length t) (done : length t ≤ w.node + 1)
-      (c : Choice) (rows : List ℕ) (new : List (Entry R Candidate)) (k : IsChoice d key t w links chosen entries c rows new) where
+      (c : ChosenRow) (rows : List ℕ) (new : List (Entry R Candidate)) (k : IsChoice d key t w links chosen entries c rows new) where
     abbrev made : List (Linked Link)
     made = link_of d key t whole w chosen links at below c.row ∷ []
 
-    abbrev end : Walk
+    abbrev end : Descent
     end = record { node = w.node + 1; place = 0; before = Some (length links); top_stands = c.top_stands }
 
     at_end : IsAt d key t whole end rows (links ++ made)

@@ -16,7 +16,7 @@ use Rattle.tdp_core.specs.TreeView.{NodeView, parent, rows, members, group, rank
 use Rattle.tdp_core.proofs.TreeFacts as facts
 use Rattle.anyk_part.specs.declared.candidate.Link.{Link}
 use Rattle.anyk_part.specs.declared.candidate.Candidate.{Candidate}
-use Rattle.anyk_part.specs.declared.candidate.Site.{Site}
+use Rattle.anyk_part.specs.declared.candidate.Deviation.{Deviation}
 use Rattle.anyk_part.specs.Chains.{chain, IsChain}
 use Rattle.anyk_part.specs.Regions.{followers, Reached, least, region_of, region_at, held_by, IsEntry}
 use Rattle.anyk_part.specs.Walks.{IsSite}
@@ -27,7 +27,7 @@ pub sum_by_first : {X : Type 0} (f : X → ℕ) (xs : List X) (d : X) → 0 < le
 sum_by_first f [] d h = absurd (omega arith)
 sum_by_first f (x ∷ xs) d h = omega (arith, sum_by-cons f x [])
 
-module _ {R : Type 0} (d : ℕ) (key : R → KeyOf d 16) (t : List (NodeView R)) (links : List (Linked Link)) (s : Site R) (h : IsSite d key t links s) where
+module _ {R : Type 0} (d : ℕ) (key : R → KeyOf d 16) (t : List (NodeView R)) (links : List (Linked Link)) (s : Deviation R) (h : IsSite d key t links s) where
   abbrev pub prefix : List ℕ
   prefix = chain links s.node s.before
 
@@ -137,7 +137,7 @@ pub length_put : {X : Type 0} (stands : Bool) (e : X) (old new : List X) → (st
 length_put true e old new a b = omega (arith, length_permutation (e ∷ old) (get_or old 0 e ∷ new) (a refl))
 length_put false e old new a b = omega (arith, length_permutation (e ∷ old) new (b refl))
 
-module _ {R : Type 0} (d : ℕ) (key : R → KeyOf d 16) (t : List (NodeView R)) (links : List (Linked Link)) (s : Site R) (h : IsSite d key t links s) where
+module _ {R : Type 0} (d : ℕ) (key : R → KeyOf d 16) (t : List (NodeView R)) (links : List (Linked Link)) (s : Deviation R) (h : IsSite d key t links s) where
   pub held_put : (stands : Bool) (e : Entry R Candidate) (place : ℕ) → e.tag ≡ candidate_at d key t links s h place → (old new : List (Entry R Candidate)) → (stands ≡ true → 0 < length old)
       → (stands ≡ true → IsPermutation (e ∷ old) (get_or old 0 e ∷ new)) → (stands ≡ false → IsPermutation (e ∷ old) new)
       → (u : List ℕ) → in_region (followers t) (region_at t (prefix d key t links s h) place) u + held_by t links old u ≡ cond stands (held_by t links (take 1 old) u) 0 + held_by t links new u

@@ -8,17 +8,17 @@ use Rattle.tdp_core.specs.TreeView.{NodeView, group_count}
 use Rattle.tdp_core.specs.WellFormed.{IsFormed}
 use Rattle.anyk_part.specs.declared.candidate.Link.{Link}
 use Rattle.anyk_part.specs.declared.candidate.Candidate.{Candidate}
-use Rattle.anyk_part.specs.declared.candidate.Walk.{Walk}
+use Rattle.anyk_part.specs.declared.candidate.Descent.{Descent}
 use Rattle.anyk_part.specs.Chains.{chain}
 use Rattle.anyk_part.specs.Regions.{IsEntry}
 use Rattle.anyk_part.specs.Walks.{IsAt}
 
 -- the entry whose region's division starts at the walk
-abbrev pub entry_of : {R : Type 0} → R → Walk → Entry R Candidate
+abbrev pub entry_of : {R : Type 0} → R → Descent → Entry R Candidate
 entry_of r w = record { rank = r; tag = record { position = w.node; place = w.place; before = w.before } }
 
 module _ {R : Type 0} (d : ℕ) (key : R → KeyOf d 16) (t : List (NodeView R)) (links : List (Linked Link)) where
-  pub starts_at : (r : R) (w : Walk) (chosen : List ℕ) → IsFormed d key t → 0 < group_count t 0 → IsEntry d key t links (entry_of r w) → length chosen ≡ 16 → take w.node chosen ≡ chain links w.node w.before
+  pub starts_at : (r : R) (w : Descent) (chosen : List ℕ) → IsFormed d key t → 0 < group_count t 0 → IsEntry d key t links (entry_of r w) → length chosen ≡ 16 → take w.node chosen ≡ chain links w.node w.before
       → IsAt d key t r w chosen links
   unfolding opening
   starts_at r w chosen formed live h long rows = record {

@@ -16,8 +16,8 @@ use Rattle.tdp_core.specs.TreeView.{NodeView, node_at, parent, rows, members, gr
 use Rattle.tdp_core.proofs.TreeFacts.{member_is_row, rows_within, group_rows_within}
 use Rattle.anyk_part.specs.declared.candidate.Link.{Link}
 use Rattle.anyk_part.specs.declared.candidate.Candidate.{Candidate}
-use Rattle.anyk_part.specs.declared.candidate.Choice.{Choice}
-use Rattle.anyk_part.specs.declared.candidate.Walk.{Walk}
+use Rattle.anyk_part.specs.declared.candidate.ChosenRow.{ChosenRow}
+use Rattle.anyk_part.specs.declared.candidate.Descent.{Descent}
 use Rattle.anyk_part.specs.Chains.{chain, IsChain}
 use Rattle.anyk_part.specs.Regions.{followers, Reached, least, region_of, region_at, held_by, IsEntry}
 use Rattle.anyk_part.specs.Walks.{IsSite, IsAt, IsChoice, row_at}
@@ -74,7 +74,7 @@ pub put_twice : (stood : Bool) (i j old top mid new : ℕ) → i + old ≡ cond 
 put_twice true i j old top mid new a b = omega (arith, a, b)
 put_twice false i j old top mid new a b = omega (arith, a, b)
 
-module _ {R : Type 0} (d : ℕ) (key : R → KeyOf d 16) (t : List (NodeView R)) (whole : R) (w : Walk) (chosen : List ℕ) (links : List (Linked Link)) (h : IsAt d key t whole w chosen links) (l : w.node < length t) where
+module _ {R : Type 0} (d : ℕ) (key : R → KeyOf d 16) (t : List (NodeView R)) (whole : R) (w : Descent) (chosen : List ℕ) (links : List (Linked Link)) (h : IsAt d key t whole w chosen links) (l : w.node < length t) where
   abbrev pub so_far : List ℕ
   so_far = chain links w.node w.before
 
@@ -213,7 +213,7 @@ module _ {R : Type 0} (d : ℕ) (key : R → KeyOf d 16) (t : List (NodeView R))
 
 -- # A choice, and the link that follows it
 
-module _ {R : Type 0} (d : ℕ) (key : R → KeyOf d 16) (t : List (NodeView R)) (w : Walk) (links more grown : List (Linked Link)) (chosen : List ℕ) (before : List (Entry R Candidate)) (c : Choice)
+module _ {R : Type 0} (d : ℕ) (key : R → KeyOf d 16) (t : List (NodeView R)) (w : Descent) (links more grown : List (Linked Link)) (chosen : List ℕ) (before : List (Entry R Candidate)) (c : ChosenRow)
     (rows : List ℕ) (entries : List (Entry R Candidate)) (h : IsChoice d key t w links chosen before c rows entries) (is : grown ≡ links ++ more) where
   pub entries_after : All (IsEntry d key t grown) entries
   entries_after = λ k e l. subst (λ ls. IsEntry d key t ls (get_or entries k e)) (sym is) (entry_kept d key t links more (get_or entries k e) (h.each k e l))

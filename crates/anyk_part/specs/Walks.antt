@@ -9,9 +9,9 @@ use Rattle.tdp_core.specs.TreeView.{NodeView, parent, rows, group_count, group_n
 use Rattle.tdp_core.specs.WellFormed.{IsFormed}
 use Rattle.anyk_part.specs.declared.candidate.Link.{Link}
 use Rattle.anyk_part.specs.declared.candidate.Candidate.{Candidate}
-use Rattle.anyk_part.specs.declared.candidate.Choice.{Choice}
-use Rattle.anyk_part.specs.declared.candidate.Site.{Site}
-use Rattle.anyk_part.specs.declared.candidate.Walk.{Walk}
+use Rattle.anyk_part.specs.declared.candidate.ChosenRow.{ChosenRow}
+use Rattle.anyk_part.specs.declared.candidate.Deviation.{Deviation}
+use Rattle.anyk_part.specs.declared.candidate.Descent.{Descent}
 use Rattle.anyk_part.specs.Chains.{chain, IsChain}
 use Rattle.anyk_part.specs.Regions.{followers, Reached, least, region_at, held_by, IsEntry}
 
@@ -35,7 +35,7 @@ gone stood stands n = cond stood (cond stands 0 n) 0
 
 module _ {R : Type 0} (d : ℕ) (key : R → KeyOf d 16) (t : List (NodeView R)) where
   -- what the candidates that deviate at one node share is as it says
-  pub record IsSite (links : List (Linked Link)) (s : Site R) : Type 0 where
+  pub record IsSite (links : List (Linked Link)) (s : Deviation R) : Type 0 where
     pub formed : IsFormed d key t
     pub live : 0 < group_count t 0
     pub node : s.node < length t
@@ -50,7 +50,7 @@ module _ {R : Type 0} (d : ℕ) (key : R → KeyOf d 16) (t : List (NodeView R))
   -- The division of a region has come to the walk's node: `chosen` are the rows before it, and
   -- `whole` is the rank of the region's best solution, which goes on with the member at the walk's
   -- place.
-  pub record IsAt (whole : R) (w : Walk) (chosen : List ℕ)
+  pub record IsAt (whole : R) (w : Descent) (chosen : List ℕ)
       (links : List (Linked Link)) : Type 0 where
     pub formed : IsFormed d key t
     pub live : 0 < group_count t 0
@@ -66,13 +66,13 @@ module _ {R : Type 0} (d : ℕ) (key : R → KeyOf d 16) (t : List (NodeView R))
         ++ (slice_index (followers t (chain links w.node w.before)) w.place ∷ []))
 
   -- the row that the walk chooses
-  abbrev pub row_at : Walk → List (Linked Link) → ℕ
+  abbrev pub row_at : Descent → List (Linked Link) → ℕ
   row_at w links = slice_index (followers t (chain links w.node w.before)) w.place
 
   -- The row of the walk's node is chosen, and the candidates that deviate from it are beside the
   -- entries that were there before.
-  pub record IsChoice (w : Walk) (links : List (Linked Link)) (chosen : List ℕ)
-      (before : List (Entry R Candidate)) (c : Choice)
+  pub record IsChoice (w : Descent) (links : List (Linked Link)) (chosen : List ℕ)
+      (before : List (Entry R Candidate)) (c : ChosenRow)
       (rows : List ℕ) (entries : List (Entry R Candidate)) : Type 0 where
     pub row : c.row ≡ row_at w links
     pub put : rows ≡ slice_set chosen w.node c.row
@@ -87,15 +87,15 @@ module _ {R : Type 0} (d : ℕ) (key : R → KeyOf d 16) (t : List (NodeView R))
     pub few : length entries ≤ length before + 2
 
   -- the region of which the division starts
-  abbrev pub start_region : List (Linked Link) → Walk → Region
+  abbrev pub start_region : List (Linked Link) → Descent → Region
   start_region links w = record
       { chosen = chain links w.node w.before; place = w.place; left = length t - suc w.node }
 
   -- The division of the region `start` at the top of the queue `before`, so far: what the region
   -- holds is its best solution, the regions that are still to be put in, and what the queue now
   -- holds beside the others.
-  pub record IsDivision (start : Walk) (old_links : List (Linked Link))
-      (before : List (Entry R Candidate)) (w : Walk)
+  pub record IsDivision (start : Descent) (old_links : List (Linked Link))
+      (before : List (Entry R Candidate)) (w : Descent)
       (links : List (Linked Link)) (entries : List (Entry R Candidate)) : Type 0 where
     pub from : start.node ≤ w.node
     pub goal : best_of (followers t) (start_region old_links start)
@@ -114,7 +114,7 @@ module _ {R : Type 0} (d : ℕ) (key : R → KeyOf d 16) (t : List (NodeView R))
     pub few : length entries ≤ length before + 2 * (w.node - start.node)
 
   -- what the choice at a walk's node finds
-  pub record CanChoose (whole : R) (w : Walk) (chosen : List ℕ) (links : List (Linked Link))
+  pub record CanChoose (whole : R) (w : Descent) (chosen : List ℕ) (links : List (Linked Link))
       (entries : List (Entry R Candidate)) : Type 0 where
     pub at : IsAt whole w chosen links
     pub node : w.node < length t
@@ -124,8 +124,8 @@ module _ {R : Type 0} (d : ℕ) (key : R → KeyOf d 16) (t : List (NodeView R))
   -- The walk `next` is one node further than w: the row of w's node is chosen and linked to those
   -- before it, and the candidates that deviate from it are beside the entries that were there
   -- before.
-  pub record IsAdvanced (whole : R) (w : Walk) (links : List (Linked Link))
-      (before : List (Entry R Candidate)) (next : Walk) (chosen : List ℕ)
+  pub record IsAdvanced (whole : R) (w : Descent) (links : List (Linked Link))
+      (before : List (Entry R Candidate)) (next : Descent) (chosen : List ℕ)
       (more : List (Linked Link)) (entries : List (Entry R Candidate)) : Type 0 where
     pub node : next.node ≡ w.node + 1
     pub place : next.place ≡ 0
@@ -146,7 +146,7 @@ module _ {R : Type 0} (d : ℕ) (key : R → KeyOf d 16) (t : List (NodeView R))
 
   -- What a division leaves: the rows are those of the region's best solution, and the entries hold
   -- what else was held.
-  pub record IsDivided (start : Walk) (old_links : List (Linked Link))
+  pub record IsDivided (start : Descent) (old_links : List (Linked Link))
       (before : List (Entry R Candidate)) (rows : List ℕ) (links : List (Linked Link))
       (entries : List (Entry R Candidate)) : Type 0 where
     pub best : take (length t) rows ≡ best_of (followers t) (start_region old_links start)

@@ -11,7 +11,7 @@ ghost use Rattle.anyk_part.specs.Places.{ArePlaces};
 ghost use Rattle.anyk_part.specs.Regions.{followers, region_at, held_by, IsEntry};
 ghost use Rattle.anyk_part.specs.Walks.{CanChoose, IsAdvanced, IsDivided, IsSite, IsAt, IsChoice, gone};
 
-use crate::candidate::{Candidate, Choice, Link, Site, Walk};
+use crate::candidate::{Candidate, ChosenRow, Descent, Deviation, Link};
 use crate::paths::group_at;
 use rank_key::Rank;
 use std::alloc::Allocator;
@@ -30,7 +30,7 @@ pub(crate) struct Frontier<R: Rank, A: Allocator + Clone> {
 
 impl<R: Rank, A: Allocator + Clone> Frontier<R, A> {
     /// The rank of the queue's top, and where the division of its region starts.
-    pub fn start(&self) -> Option<(R, Walk)>
+    pub fn start(&self) -> Option<(R, Descent)>
         ensures variant { IsSome result ↔ (0 < length self.now.queue.entries) }
         ensures top { IfSome result
             (λ s. (d : Entry R Candidate) → slice_index_or self.now.queue.entries 0 d
@@ -123,7 +123,7 @@ impl<R: Rank, A: Allocator + Clone> Frontier<R, A> {
     fn offer<L: Ledger>(
         &mut self,
         tree: &Tree<R>,
-        site: &Site<R>,
+        site: &Deviation<R>,
         place: u32,
         top_stands: bool,
         steps: &mut Steps<L>,
@@ -166,10 +166,10 @@ impl<R: Rank, A: Allocator + Clone> Frontier<R, A> {
         tree: &Tree<R>,
         places: &[u32; 16],
         total: &R,
-        walk: &Walk,
+        walk: &Descent,
         chosen: &mut [u32; 16],
         steps: &mut Steps<L>,
-    ) -> Choice
+    ) -> ChosenRow
         requires places { ArePlaces tree.now places.now }
         requires ready { CanChoose R.KEYS R.key tree.now total.now walk.now chosen.old
             self.old.links.entries self.old.queue.entries }
@@ -188,10 +188,10 @@ impl<R: Rank, A: Allocator + Clone> Frontier<R, A> {
         let place = 2 * walk.place + 1;
         if place >= size {
             let top_stands = walk.top_stands;
-            return Choice { row, top_stands };
+            return ChosenRow { row, top_stands };
         }
         let best = tree.best(walk.node, row, steps);
-        let site = Site {
+        let site = Deviation {
             total: *total,
             best,
             node: walk.node,
@@ -204,7 +204,7 @@ impl<R: Rank, A: Allocator + Clone> Frontier<R, A> {
             self.offer(tree, &site, place + 1, false, steps);
         }
         let top_stands = false;
-        Choice { row, top_stands }
+        ChosenRow { row, top_stands }
     }
 
     /// Chooses the row at a node that is not the last, and links it to the rows before it.
@@ -214,10 +214,10 @@ impl<R: Rank, A: Allocator + Clone> Frontier<R, A> {
         tree: &Tree<R>,
         places: &[u32; 16],
         total: &R,
-        walk: Walk,
+        walk: Descent,
         chosen: &mut [u32; 16],
         steps: &mut Steps<L>,
-    ) -> Walk
+    ) -> Descent
         requires places { ArePlaces tree.now places.now }
         requires ready { CanChoose R.KEYS R.key tree.now total.now walk chosen.old
             self.old.links.entries self.old.queue.entries }
@@ -237,7 +237,7 @@ impl<R: Rank, A: Allocator + Clone> Frontier<R, A> {
             before: walk.before,
         };
         let last = self.links.push_reserved(link, steps);
-        Walk {
+        Descent {
             node: walk.node + 1,
             place: 0,
             before: Some(last),
@@ -252,7 +252,7 @@ impl<R: Rank, A: Allocator + Clone> Frontier<R, A> {
         tree: &Tree<R>,
         places: &[u32; 16],
         total: &R,
-        start: Walk,
+        start: Descent,
         chosen: &mut [u32; 16],
         steps: &mut Steps<L>,
     )

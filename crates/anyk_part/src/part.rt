@@ -13,7 +13,7 @@ ghost use Rattle.tdp_core.specs.RisingShares.{shares_rise, at_most_itself};
 ghost use Rattle.anyk_part.specs.Regions.{rest_of, rest_keys, regions_of, IsPart};
 ghost use Rattle.anyk_part.specs.Candidates.{HoldTheRest, HasLeastRank};
 
-use crate::candidate::{Candidate, Link, Walk};
+use crate::candidate::{Candidate, Descent, Link};
 use crate::frontier::Frontier;
 use crate::paths::{child_places, row_numbers};
 use rank_key::Rank;

@@ -19,8 +19,8 @@ use Rattle.anyk_model.specs.UnionOutput.{union_output_of}
 use Rattle.bound_query.specs.WeighedQuery.{BoundQuery}
 use Rattle.command_input.specs.Input.{InputView, loaded_of}
 use Rattle.plan_build.specs.Plans.{ArePrepared, preparation_of}
-use Rattle.verdict.specs.Bound.{IsBounded, IsPaced, IsPrompt, IsWithin, cost_of}
-use Rattle.verdict.specs.AcceptedInput.{Found, found_of, is_union, queries_in, query_of, structure_of}
+use Rattle.verdict.specs.Bound.{IsBounded, IsPaced, IsPrompt, KeepsCommandBound, cost_of}
+use Rattle.verdict.specs.AcceptedInput.{AcceptedInput, found_of, is_union, queries_in, query_of, structure_of}
 use Rattle.verdict.specs.Loading.{are_several}
 use Rattle.verdict.specs.Output.{answers_text, asked_list, members_of, style_of, tagged_of}
 use Rattle.verdict.specs.Stages.{followed}
@@ -41,7 +41,7 @@ at_most_one (query ∷ []) tables few = let sum = sum_by-cons (preparation_of ta
 at_most_one (query ∷ other ∷ queries) tables few = absurd (omega (arith, few))
 
 -- the steps of a run, whether it has several queries or not
-run_prepared : (found : Found) (list : List Tagged) (before now calls : ℕ)
+run_prepared : (found : AcceptedInput) (list : List Tagged) (before now calls : ℕ)
     → HaveShapes found.tables found.queries found.shapes
     → ArePrepared found.queries found.tables before now
     → now ≤ before + (if is_union found then union_cost found.tables list 0 found.queries found.shapes else cost_of
@@ -57,9 +57,9 @@ run_prepared found list before now calls have h = by (is_union found) refl
         let own = at_most_one found.queries found.tables (omega (arith, few)) in
         prepared_over (query_of found) found.tables (structure_of found) before now calls (omega (arith, h, own))
 
-within_prepared : (command : Command) (found : Found) (before now : ℕ)
+within_prepared : (command : Command) (found : AcceptedInput) (before now : ℕ)
     → HaveShapes found.tables found.queries found.shapes → IsEarlyFor command found before now
-    → IsWithin command found before now
+    → KeepsCommandBound command found before now
 within_prepared (run words) found before now have h = run_prepared found (tagged_of found) before now _ have h
 within_prepared (plan words) found before now have h =
     prepared_over (query_of found) found.tables (structure_of found) before now 0 h
@@ -72,7 +72,7 @@ within_prepared (load number rows) found before now have h =
 within_prepared (prove words) found before now have h = tt
 within_prepared (verify proof words) found before now have h = tt
 
-paced_prepared : (command : Command) (found : Found) (old new : Option (List ℕ)) (before now : ℕ)
+paced_prepared : (command : Command) (found : AcceptedInput) (old new : Option (List ℕ)) (before now : ℕ)
     → HaveShapes found.tables found.queries found.shapes
     → IsEarlyFor command found before now → IsPaced command found old new before now
 paced_prepared (run words) found old new before now have h =
@@ -86,14 +86,14 @@ paced_prepared (load number rows) found old new before now have h = tt
 paced_prepared (prove words) found old new before now have h = tt
 paced_prepared (verify proof words) found old new before now have h = tt
 
-same_found : {a b : Found} → ◌≡◌ {A = Result Found Reason} (Ok a) (Ok b) → a ≡ b
+same_found : {a b : AcceptedInput} → ◌≡◌ {A = Result AcceptedInput Reason} (Ok a) (Ok b) → a ≡ b
 same_found e = cc
 
 -- what is accepted has a structure for each query
-found_shaped : (asked : Asked) (files : Files) (found : Found) → IsStructured asked files (Ok found)
+found_shaped : (asked : Asked) (files : Files) (found : AcceptedInput) → IsStructured asked files (Ok found)
     → HaveShapes found.tables found.queries found.shapes
 found_shaped asked files found (followed {a = loaded} loads (followed {a = shapes} are same)) =
-    subst (λ (f : Found). HaveShapes f.tables f.queries f.shapes) (sym (same_found same))
+    subst (λ (f : AcceptedInput). HaveShapes f.tables f.queries f.shapes) (sym (same_found same))
     (shapes_had (are_several loaded.queries) 1 loaded.tables loaded.queries shapes are)
 
 pub bounded_early : (command : Command) (told : Option Files) (before now : ℕ) → IsEarlyWithin command told before now
@@ -132,7 +132,7 @@ pub several_within : (words : Words) (input : InputView) (shapes : List Shape) (
     → 1 < length input.queries
     → now ≤ before + union_cost input.tables (tagged_of (found_of (loaded_of input) shapes)) 0
     (queries_in input.queries) shapes
-    → IsWithin (run words) (found_of (loaded_of input) shapes) before now
+    → KeepsCommandBound (run words) (found_of (loaded_of input) shapes) before now
 several_within words input shapes before now more h =
     subst (λ (most : ℕ). now ≤ before + most)
     (sym (chosen (is_union (found_of (loaded_of input) shapes)) _ _ (are_union input shapes more))) h

@@ -13,15 +13,15 @@ use Rattle.command_input.specs.Input.{InputView, loaded_of}
 use Rattle.plan_build.specs.Plans.{ArePrepared, preparation_of}
 use Rattle.refusals.specs.Reason.{Reason}
 use Rattle.bound_query.specs.RunBounds.{IsPrepared}
-use Rattle.verdict.specs.AcceptedInput.{Found, found_of, queries_in}
+use Rattle.verdict.specs.AcceptedInput.{AcceptedInput, found_of, queries_in}
 use Rattle.verdict.specs.Loading.{Loaded}
-use Rattle.verdict.specs.MadeFiles.{known_to}
+use Rattle.verdict.specs.MadeFiles.{files_of_call}
 use Rattle.verdict.specs.StageResults.{Shelved}
 use Rattle.verdict.specs.Stages.{followed}
 use Rattle.verdict.specs.Verdict.{IsLoaded, IsStructured}
 use Rattle.verdict.specs.Words.{Command, a_command, run, plan, session, load, prove, verify}
 use Rattle.verdict.proofs.One.{one_loading}
-use Rattle.command_input.specs.Judgement.{HasOne, IsLooked}
+use Rattle.command_input.specs.Planned.{HasOne, IsLooked}
 use Rattle.anyk_top.specs.Plans.{IsEarlyFor, IsEarlyWithin}
 use Rattle.command_input.proofs.Judging.{same_found, verdict_structured}
 
@@ -29,7 +29,7 @@ pub early_still : (command : Command) (told : Option Files) (n : ℕ) → IsEarl
 early_still command None n = tt
 early_still command (Some files) n = λ found verdict. still command found
   where
-    still : (command : Command) (found : Found) → IsEarlyFor command found n n
+    still : (command : Command) (found : AcceptedInput) → IsEarlyFor command found n n
     still (run words) found = omega arith
     still (plan words) found = omega arith
     still (session script words) found = omega arith
@@ -63,7 +63,7 @@ input_prepared (load number rows) input shapes before now one h =
     one_prepared (queries_in input.queries) input.tables before now (count_queries input one) h
 
 looked_loads : (command : Command) (old new : Shelved) (loaded : Loaded) → IsLooked command old new (Ok loaded)
-    → IfSome (known_to (a_command command) old.files) (λ files. IsLoaded (a_command command) files (Ok loaded))
+    → IfSome (files_of_call (a_command command) old.files) (λ files. IsLoaded (a_command command) files (Ok loaded))
 looked_loads (run words) old new loaded h = h.staged.fits
 looked_loads (plan words) old new loaded h = h.staged.fits
 looked_loads (session script words) old new loaded h = h.staged.fits
@@ -77,21 +77,21 @@ same_loaded e = cc
 accepted_prepared : (command : Command) (files : Files) (input : InputView) (before now : ℕ)
     → IsLoaded (a_command command) files (Ok (loaded_of input))
     → HasOne command input → ArePrepared (queries_in input.queries) input.tables before now
-    → (found : Found) → IsStructured (a_command command) files (Ok found) → IsEarlyFor command found before now
+    → (found : AcceptedInput) → IsStructured (a_command command) files (Ok found) → IsEarlyFor command found before now
 accepted_prepared command files input before now h one prepared found
     (followed {a = loaded} loads (followed {a = shapes} are same)) =
     let is_input = same_loaded (one_loading (a_command command) files (Ok (loaded_of input)) (Ok loaded) h loads) in
     let whole : found_of (loaded_of input) shapes ≡ found =
     ap (λ (l : Loaded). found_of l shapes) is_input ∙ sym (same_found same) in
-    subst (λ (f : Found). IsEarlyFor command f before now) whole
+    subst (λ (f : AcceptedInput). IsEarlyFor command f before now) whole
     (input_prepared command input shapes before now one prepared)
 
 pub early_prepared : (command : Command) (old new : Shelved) (input : InputView) (before now : ℕ)
     → IsLooked command old new (Ok (loaded_of input))
     → HasOne command input → ArePrepared (queries_in input.queries) input.tables before now
-    → IsEarlyWithin command (known_to (a_command command) old.files) before now
+    → IsEarlyWithin command (files_of_call (a_command command) old.files) before now
 early_prepared command old new input before now h one prepared =
-    by (known_to (a_command command) old.files) (looked_loads command old new (loaded_of input) h)
+    by (files_of_call (a_command command) old.files) (looked_loads command old new (loaded_of input) h)
   where
     by : (told : Option Files) → IfSome told (λ files. IsLoaded (a_command command) files (Ok (loaded_of input)))
         → IsEarlyWithin command told before now

@@ -33,7 +33,7 @@ use Rattle.anyk_model.specs.Union.{left_of, members_in, union_of}
 use Rattle.anyk_model.proofs.Unions.{rankings_union, union_is}
 use Rattle.verdict.specs.AcceptedInput.{queries_in}
 use Rattle.verdict.specs.UnionBound.{HaveShapes, union_cost}
-use Rattle.anyk_top.specs.Begun.{AreStarted, IsStarted, start_of, starts_of}
+use Rattle.anyk_top.specs.StartedEngines.{AreStarted, IsStarted, start_of, starts_of}
 use Rattle.anyk_top.proofs.Prepared.{union_prepared}
 use Rattle.engine_choice.proofs.RunBounds.{called, started}
 

@@ -4,7 +4,7 @@ use Rattle.refusals.specs.Reason as reason
 use Rattle.refusals.specs.Reason.{Reason}
 use Rattle.cmd_words.specs.declared.fault.WordsFault.{WordsFault}
 use Rattle.cmd_words.specs.declared.fault.WordsFault.TheVariants as fault
-use Rattle.cmd_words.specs.Commands.{CommandSaid, said_of, run_said, session_said, plan_said, prove_said, verify_said, load_said}
+use Rattle.cmd_words.specs.Commands.{CommandSaid, parsed_command, run_said, session_said, plan_said, prove_said, verify_said, load_said}
 use Rattle.command_input.specs.Tasks.{words_of}
 use Rattle.verdict.specs.Words.{Words, Asked, no_command, a_command, run, plan, session, load, prove, verify}
 
@@ -18,18 +18,18 @@ abbrev pub asked_verify : Option (List ℕ) → Words → Asked
 asked_verify None words = no_command
 asked_verify (Some proof) words = a_command (verify proof words)
 
-abbrev pub asked_of : Option CommandSaid → Asked
-asked_of None = no_command
-asked_of (Some (run_said said)) = a_command (run (words_of said))
-asked_of (Some (session_said said)) = asked_session said.script (words_of said)
-asked_of (Some (plan_said said)) = a_command (plan (words_of said))
-asked_of (Some (prove_said said)) = a_command (prove (words_of said))
-asked_of (Some (verify_said said)) = asked_verify said.proof (words_of said)
-asked_of (Some (load_said engine number rows)) = a_command (load number rows)
+abbrev pub command_asked : Option CommandSaid → Asked
+command_asked None = no_command
+command_asked (Some (run_said said)) = a_command (run (words_of said))
+command_asked (Some (session_said said)) = asked_session said.script (words_of said)
+command_asked (Some (plan_said said)) = a_command (plan (words_of said))
+command_asked (Some (prove_said said)) = a_command (prove (words_of said))
+command_asked (Some (verify_said said)) = asked_verify said.proof (words_of said)
+command_asked (Some (load_said engine number rows)) = a_command (load number rows)
 
 -- what these arguments ask for
 abbrev pub asked_in : List (List ℕ) → Asked
-asked_in words = asked_of (said_of words)
+asked_in words = command_asked (parsed_command words)
 
 -- why a call ends if its arguments are rejected
 abbrev pub rejected_as : WordsFault → Reason

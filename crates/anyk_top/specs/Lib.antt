@@ -1,4 +1,4 @@
-pub mod Begun
+pub mod StartedEngines
 pub mod CommandLine
 pub mod Endings
 pub mod Plans

@@ -23,7 +23,7 @@ use Rattle.refusals.specs.Reason.{Reason}
 use Rattle.refusals.specs.RefusalReasons.{reason_of}
 use Rattle.bound_query.specs.RunBounds.{IsPrepared}
 use Rattle.command_input.specs.Input.{InputView, loaded_of}
-use Rattle.verdict.specs.AcceptedInput.{Found, found_of, query_of}
+use Rattle.verdict.specs.AcceptedInput.{AcceptedInput, found_of, query_of}
 use Rattle.verdict.specs.Loading.{Loaded}
 use Rattle.verdict.specs.Verdict.{IsVerdict}
 use Rattle.verdict.specs.Words.{Command, a_command, run, plan, session, load, prove, verify}
@@ -53,7 +53,7 @@ shapes_in (Lexes plans) = shapes_of plans.items
 
 -- what is known of a query, its tables, the item whose rows are asked for, a script and a
 -- certificate, with the structure of the query
-abbrev pub found_by : BoundQuery → List Table → Option ℕ → List Step → Certificate → Shape → Found
+abbrev pub found_by : BoundQuery → List Table → Option ℕ → List Step → Certificate → Shape → AcceptedInput
 found_by query tables best steps proof shape = record {
   queries = query.query ∷ [];
   tables = tables;
@@ -63,10 +63,10 @@ found_by query tables best steps proof shape = record {
   proof = proof;
 }
 
-abbrev pub found_in : Planned → Found
+abbrev pub found_in : Planned → AcceptedInput
 found_in planned = found_of (loaded_of planned.input) (shapes_in planned.plans)
 
-abbrev pub planned_result_view : Result Planned Refusal → Result Found Reason
+abbrev pub planned_result_view : Result Planned Refusal → Result AcceptedInput Reason
 planned_result_view (Ok planned) = Ok (found_in planned)
 planned_result_view (Err refusal) = Err (reason_of refusal)
 
@@ -81,7 +81,7 @@ abbrev pub shapes_result_view : {R : Type 0} → Result (Vec (PlanView R) Global
 shapes_result_view (Ok plans) = Ok (shapes_of plans.items)
 shapes_result_view (Err unplanned) = Err (plan_reason unplanned.branch unplanned.fault)
 
-abbrev pub plans_result_view : Loaded → Result Plans Unplanned → Result Found Reason
+abbrev pub plans_result_view : Loaded → Result Plans Unplanned → Result AcceptedInput Reason
 plans_result_view loaded (Ok plans) = Ok (found_of loaded (shapes_in plans))
 plans_result_view loaded (Err unplanned) = Err (plan_reason unplanned.branch unplanned.fault)
 
@@ -118,7 +118,7 @@ ArePlans input (Lexes plans) =
 
 -- No more steps than the preparation of the plans of what is found may take: `run` may have several
 -- queries, and each other command has one. Nothing is said of the steps of `prove` and `verify`.
-abbrev pub IsEarlyFor : Command → Found → ℕ → ℕ → Type 0
+abbrev pub IsEarlyFor : Command → AcceptedInput → ℕ → ℕ → Type 0
 IsEarlyFor (run words) found before now = ArePrepared found.queries found.tables before now
 IsEarlyFor (plan words) found before now = IsPrepared (query_of found) found.tables before now
 IsEarlyFor (session script words) found before now = IsPrepared
@@ -130,5 +130,5 @@ IsEarlyFor (load number rows) found before now = IsPrepared (query_of found) fou
 -- if the files are known and the input is accepted, preparation took no more steps than it may take
 abbrev pub IsEarlyWithin : Command → Option Files → ℕ → ℕ → Type 0
 IsEarlyWithin command told before now =
-    IfSome told (λ files. (found : Found) → IsVerdict (a_command command) files (Ok found)
+    IfSome told (λ files. (found : AcceptedInput) → IsVerdict (a_command command) files (Ok found)
     → IsEarlyFor command found before now)

@@ -8,18 +8,18 @@ ghost use Rattle.bound_query.specs.WeighedQuery.{Fits};
 ghost use Rattle.refusals.specs.RefusalReasons.{reason_of};
 ghost use Rattle.bound_query.specs.RunBounds.{IsPrepared};
 ghost use Rattle.verdict.specs.AcceptedInput.{queries_in};
-ghost use Rattle.verdict.specs.MadeFiles.{known_to};
+ghost use Rattle.verdict.specs.MadeFiles.{files_of_call};
 ghost use Rattle.verdict.specs.Outcome.{IsUntouched};
 ghost use Rattle.verdict.specs.StageResults.{Pure, shelved};
 ghost use Rattle.verdict.specs.Verdict.{AreStructures, IsShaped, IsStructure};
 ghost use Rattle.verdict.specs.Words.{a_command};
-ghost use Rattle.command_input.specs.Judgement.{HasOne, IsJudged, IsPlanned};
+ghost use Rattle.command_input.specs.Planned.{HasOne, IsJudged, IsPlanned};
 ghost use Rattle.anyk_top.specs.Plans.{ArePlans, IsEarlyWithin, plan_reason};
 ghost use Rattle.anyk_top.specs.Plans.{plans_result_view, planned_result_view, shapes_result_view};
 ghost use Rattle.command_input.specs.Tasks.{command_of};
 
 use bound_query::Query;
-use command_input::{Input, Task, look_at};
+use command_input::{Input, Task, read_input};
 use hash_keys::Keys;
 use outer_io::Shelf;
 use plan_build::{Plan, PlanFault, RankedPlan, prepare, prepare_ranked};
@@ -68,9 +68,9 @@ pub fn plan_task<'a, F: Shelf, L: Ledger>(
     ensures cost { IfOk result (λ p.
         ArePrepared (queries_in p.input.queries) p.input.tables steps.old steps.new) }
     ensures early { IfErr result (λ refusal. IsEarlyWithin (command_of task.now)
-        (known_to (a_command (command_of task.now)) (F.files shelf.old)) steps.old steps.new) }
+        (files_of_call (a_command (command_of task.now)) (F.files shelf.old)) steps.old steps.new) }
 {
-    let input = look_at(alloc, task, shelf, keys)?;
+    let input = read_input(alloc, task, shelf, keys)?;
     match plans_of(alloc, &input, steps) {
         Ok(plans) => Ok(Planned { input, plans }),
         Err(unplanned) => Err(plan_refusal(unplanned.branch, unplanned.fault)),
@@ -166,7 +166,7 @@ fn plans_for<R: Rank, L: Ledger>(
 {
     let mut plans = Vec::with_capacity(alloc, queries.len())?;
     for query in queries {
-        // there are at most 16 items
+        // for the proof: there are at most 16 items
         let _items = query.items();
         match prepare(alloc, query, tables, steps) {
             Ok(plan) => plans.push(plan)?,

@@ -2,14 +2,14 @@
 ghost use Rattle.std.specs.Prelude.{◌≡◌, ◌<◌, map};
 ghost use Rattle.std.specs.String.{string_bytes};
 ghost use Rattle.verdict.specs.Bound.{IsBounded, IsPrompt};
-ghost use Rattle.verdict.specs.MadeFiles.{known_to};
+ghost use Rattle.verdict.specs.MadeFiles.{files_of_call};
 ghost use Rattle.verdict.specs.Outcome.{IsUntouched, Outcome};
 ghost use Rattle.anyk_top.specs.CommandLine.{asked_in};
-ghost use Rattle.verdict.specs.Sides.{outside};
+ghost use Rattle.verdict.specs.OutsideOf.{outside};
 
-use crate::answering::execute;
-use crate::asking::read_task;
-use crate::ending::{finish, refusal_of};
+use crate::execute::execute;
+use crate::finish::{finish, refusal_of};
+use crate::task::read_task;
 use hash_keys::Keys;
 use outer_io::{Shelf, Sink};
 use std::alloc::Global;
@@ -28,13 +28,13 @@ pub fn run_words<F: Shelf, S: Sink, E: Sink, L: Ledger>(
     steps: &mut Steps<L>,
 ) -> u8
     ensures outcome { let asked = asked_in (map string_bytes words.now) in
-        Outcome asked (known_to asked (F.files shelf.old))
+        Outcome asked (files_of_call asked (F.files shelf.old))
         (outside F.Shelf S.Sink E.Sink shelf.old out.old err.old)
         (outside F.Shelf S.Sink E.Sink shelf.new out.new err.new) result }
     ensures bounded { let asked = asked_in (map string_bytes words.now) in
-        IsBounded asked (known_to asked (F.files shelf.old)) steps.old steps.new }
+        IsBounded asked (files_of_call asked (F.files shelf.old)) steps.old steps.new }
     ensures prompt { let asked = asked_in (map string_bytes words.now) in
-        IsPrompt asked (known_to asked (F.files shelf.old)) (S.written out.old) (S.written out.new)
+        IsPrompt asked (files_of_call asked (F.files shelf.old)) (S.written out.old) (S.written out.new)
         steps.old steps.new }
     ensures untouched { IsUntouched (asked_in (map string_bytes words.now)) shelf.old shelf.new }
 {
@@ -54,13 +54,13 @@ pub fn run_keyed<F: Shelf, S: Sink, E: Sink, L: Ledger>(
     steps: &mut Steps<L>,
 ) -> u8
     ensures outcome { let asked = asked_in (map string_bytes words.now) in
-        Outcome asked (known_to asked (F.files shelf.old))
+        Outcome asked (files_of_call asked (F.files shelf.old))
         (outside F.Shelf S.Sink E.Sink shelf.old out.old err.old)
         (outside F.Shelf S.Sink E.Sink shelf.new out.new err.new) result }
     ensures bounded { let asked = asked_in (map string_bytes words.now) in
-        IsBounded asked (known_to asked (F.files shelf.old)) steps.old steps.new }
+        IsBounded asked (files_of_call asked (F.files shelf.old)) steps.old steps.new }
     ensures prompt { let asked = asked_in (map string_bytes words.now) in
-        IsPrompt asked (known_to asked (F.files shelf.old)) (S.written out.old) (S.written out.new)
+        IsPrompt asked (files_of_call asked (F.files shelf.old)) (S.written out.old) (S.written out.new)
         steps.old steps.new }
     ensures untouched { IsUntouched (asked_in (map string_bytes words.now)) shelf.old shelf.new }
 {
@@ -88,7 +88,7 @@ pub fn run_uncounted<F: Shelf, S: Sink, E: Sink, L: Ledger>(
     requires parts { blank.parts ≡ L.parts }
     requires some_part { 0 < blank.parts }
     ensures outcome { let asked = asked_in (map string_bytes words.now) in
-        Outcome asked (known_to asked (F.files shelf.old))
+        Outcome asked (files_of_call asked (F.files shelf.old))
         (outside F.Shelf S.Sink E.Sink shelf.old out.old err.old)
         (outside F.Shelf S.Sink E.Sink shelf.new out.new err.new) result }
     ensures untouched { IsUntouched (asked_in (map string_bytes words.now)) shelf.old shelf.new }

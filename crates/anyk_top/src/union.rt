@@ -13,7 +13,7 @@ ghost use Rattle.anyk_model.specs.Union.{union_of};
 ghost use Rattle.anyk_model.specs.UnionOutput.{union_output_of};
 ghost use Rattle.verdict.specs.AcceptedInput.{queries_in};
 ghost use Rattle.verdict.specs.UnionBound.{KeepsUnionBound, KeepsUnionPace};
-ghost use Rattle.anyk_top.specs.Begun.{AreStarted, starts_of};
+ghost use Rattle.anyk_top.specs.StartedEngines.{AreStarted, starts_of};
 
 use crate::planned_query::PlannedQueries;
 use answer_print::Style;

@@ -11,7 +11,7 @@ use Rattle.anyk_model.specs.Table.{Table}
 use Rattle.anyk_model.specs.Query.{Column}
 use Rattle.bound_query.specs.Classes.{HasVariable, IsShared, variable_at}
 use Rattle.bound_query.specs.Graph.{AreItemSets, IsGraphOf, IsItemSet, has_number}
-use Rattle.bound_query.specs.Inside.{IsInside}
+use Rattle.bound_query.specs.NamedPlaces.{IsInside}
 use Rattle.bound_query.specs.WeighedQuery.{BoundQuery, Fits, variables_at}
 use Rattle.bound_query.proofs.Lists.{at_last, at_left, length_last, at_any}
 use Rattle.bound_query.proofs.Inside.{shared_inside}

@@ -5,7 +5,7 @@ use Rattle.anyk_model.specs.Table.{Table}
 use Rattle.anyk_model.specs.Query.{Item, Column, Equality, Side}
 use Rattle.rankings.proofs.Members.{all_member}
 use Rattle.bound_query.specs.Classes.{IsShared, Linked, same, forth, back}
-use Rattle.bound_query.specs.Inside.{EqualityInside, IsInside, SideInside}
+use Rattle.bound_query.specs.NamedPlaces.{EqualityInside, IsInside, SideInside}
 
 module _ (tables : List Table) (items : List Item) (es : List Equality) (all : AllByRecursion (EqualityInside tables items) es) where
   -- a column that is linked to another one exists

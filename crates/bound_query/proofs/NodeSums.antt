@@ -7,7 +7,7 @@ use Rattle.tdp_model.specs.TreeProblem.{sum_from}
 pub use Rattle.tdp_model.proofs.Sums.{sum_fewer}
 use Rattle.tdp_model.proofs.Sums.{same_sums}
 use Rattle.tdp_model.proofs.Ranges as ranges
-use Rattle.bound_query.specs.Parts.{sum_of_all}
+use Rattle.bound_query.specs.KeyParts.{sum_of_all}
 use Rattle.bound_query.proofs.Sums.{sum_ap}
 use Rattle.bound_query.proofs.Parts.{counts}
 

@@ -14,7 +14,7 @@ use Rattle.rankings.specs.Order.{IsMember, IsAscending}
 use Rattle.rankings.proofs.Unique.{ascending_unique_lem}
 use Rattle.bound_query.specs.Classes.{AreVariables, ColumnBefore, HasVariable}
 use Rattle.bound_query.specs.Graph.{IsGraphOf}
-use Rattle.bound_query.specs.Parts.{sum_of_all}
+use Rattle.bound_query.specs.KeyParts.{sum_of_all}
 use Rattle.bound_query.specs.Shape.{Flaw, cyclic, too_many_rows, IsInCore, IsCyclic, Shape, HasNodeRows, HasTree, HasShape, IsShape}
 use Rattle.tdp_model.specs.NodeRows.{most_node_rows}
 use Rattle.bound_query.proofs.Alike.{runs_same, ends_same, core_same}

@@ -6,8 +6,8 @@ use Rattle.std.proofs.lemmas.Bool.Decides.{Decides-eqb}
 use Rattle.anyk_model.specs.Table.{Table, field_at}
 use Rattle.anyk_model.specs.Weight.{weight_of}
 use Rattle.anyk_model.specs.Query.{Query, Item, Column, Term, OrderKey, rank_of, sum_of, total}
-use Rattle.bound_query.specs.Inside.{KeyInside, TermInside}
-use Rattle.bound_query.specs.Parts.{caps_sum, numbers_of, parts_sum, sum_of_all}
+use Rattle.bound_query.specs.NamedPlaces.{KeyInside, TermInside}
+use Rattle.bound_query.specs.KeyParts.{caps_sum, numbers_of, parts_sum, sum_of_all}
 use Rattle.bound_query.proofs.Sums.{sum_ap, sum_zero}
 use Rattle.bound_query.specs.Weights.{cap_of, column_size, greatest, part_of, row_term, size_of, table_in, terms_in, terms_size, worth_at}
 

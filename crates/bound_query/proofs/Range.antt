@@ -1,8 +1,8 @@
 -- Keys whose sums are in range.
 use Rattle.std.proofs.Common.{◌<◌, ◌≤◌, ℕ, List, [], length, false, arith}
 use Rattle.anyk_model.specs.Table.{Table}
-use Rattle.bound_query.specs.Inside.{KeyInside}
-use Rattle.bound_query.specs.Parts.{caps_sum}
+use Rattle.bound_query.specs.NamedPlaces.{KeyInside}
+use Rattle.bound_query.specs.KeyParts.{caps_sum}
 use Rattle.bound_query.specs.WeighedQuery.{BoundQuery, Fits}
 use Rattle.bound_query.specs.Weights.{KeyInRange, key_at, most_sum}
 use Rattle.bound_query.proofs.Lists.{all_at}

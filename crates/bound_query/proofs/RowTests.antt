@@ -11,7 +11,7 @@ use Rattle.rankings.proofs.Members.{all_member, member_map, member_unmap}
 use Rattle.bound_query.specs.Classes.{Linked, Passes, row_field}
 use Rattle.bound_query.specs.FilterViews.{constant_view, filter_view}
 use Rattle.bound_query.specs.Filters.{HasConstants, HasEqual, IsFilterOf, ItemFilter, Reaches, filter_at}
-use Rattle.bound_query.specs.Inside.{EqualityInside, IsInside, IsWithin}
+use Rattle.bound_query.specs.NamedPlaces.{EqualityInside, IsInside, NamesExist}
 use Rattle.bound_query.specs.WeighedQuery.{BoundQuery, Fits}
 use Rattle.bound_query.specs.Weights.{table_in}
 use Rattle.bound_query.specs.declared.filters.Constant.{Constant}
@@ -63,7 +63,7 @@ constants_one field xs h y m = h (constant_view y) (member_map constant_view y x
 
 -- ---- the places that the tests of an item name exist
 
-module _ (query : Query) (tables : List Table) (within : IsWithin query tables) where
+module _ (query : Query) (tables : List Table) (within : NamesExist query tables) where
   inside : (c d : Column) → Linked query.equalities c d → (c ≡ d) ⊎ IsInside tables query.items c
   inside = linked_inside tables query.items query.equalities within.equalities
 

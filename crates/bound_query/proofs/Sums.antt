@@ -1,6 +1,6 @@
 -- Sums of numbers in a list.
 use Rattle.std.proofs.Common.{◌≡◌, ◌+◌, ℕ, List, [], ◌∷◌, map, refl, arith}
-use Rattle.bound_query.specs.Parts.{sum_of_all}
+use Rattle.bound_query.specs.KeyParts.{sum_of_all}
 
 pub sum_zero : (ns : List ℕ) → sum_of_all (map (λ (i : ℕ). 0) ns) ≡ 0
 sum_zero [] = refl

@@ -9,7 +9,7 @@ use Rattle.anyk_model.specs.Query.{Query, Column, Equality, Side, of_column, of_
 use Rattle.rankings.specs.Order.{IsMember}
 use Rattle.rankings.proofs.Members.{all_member}
 use Rattle.bound_query.specs.Classes.{IsFixedTo, Linked, PassAndAgree, same, forth, back}
-use Rattle.bound_query.specs.Inside.{EqualityInside, IsInside, SideInside, IsWithin}
+use Rattle.bound_query.specs.NamedPlaces.{EqualityInside, IsInside, SideInside, NamesExist}
 
 -- the equality of two texts follows by contradiction
 pub texts_stable : (xs ys : List ℕ) → ((xs ≡ ys → ⊥) → ⊥) → xs ≡ ys
@@ -106,13 +106,13 @@ module _ (query : Query) (tables : List Table) (rows : List ℕ) where
     side_holds e (of_column b) m is left right = column_holds e b m is left.item right.item
     side_holds e (of_constant bytes) m is left right = constant_holds e bytes m is left.item
 
-    pub pass_witness : IsWithin query tables → AllHold
+    pub pass_witness : NamesExist query tables → AllHold
     pass_witness within = all_of_members (Holds query tables rows) query.equalities (λ e m.
         let inside = all_member (EqualityInside tables query.items) e query.equalities within.equalities m in
         side_holds e e.right m refl inside.left inside.right)
 
 -- The law, for the crates above.
-pub witness_iff : (query : Query) (tables : List Table) (rows : List ℕ) → IsWithin query tables
+pub witness_iff : (query : Query) (tables : List Table) (rows : List ℕ) → NamesExist query tables
     → IsWitness query tables rows ↔ (IsCombination (row_counts query.items tables) rows × PassAndAgree query tables rows)
 witness_iff query tables rows within = (
   λ w. (w.0, witness_passes query tables rows w.1),

@@ -2,10 +2,10 @@ pub mod Classes
 pub mod FilterViews
 pub mod Filters
 pub mod Graph
-pub mod Inside
+pub mod NamedPlaces
 pub mod Items
 pub mod JoinTreeView
-pub mod Parts
+pub mod KeyParts
 pub mod QueryView
 pub mod Report
 pub mod RunBounds

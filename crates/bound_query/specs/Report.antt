@@ -4,7 +4,7 @@ use Rattle.std.specs.List.{flat_map, range_with_len}
 use Rattle.anyk_model.specs.Query.{Query, row_counts}
 use Rattle.anyk_model.specs.Table.{Table}
 use Rattle.bound_query.specs.Items.{item_at}
-use Rattle.bound_query.specs.Parts.{sum_of_all}
+use Rattle.bound_query.specs.KeyParts.{sum_of_all}
 use Rattle.query_select.specs.Text.{name_text_of}
 use Rattle.bound_query.specs.Shape.{Shape}
 

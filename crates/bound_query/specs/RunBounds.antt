@@ -5,7 +5,7 @@ use Rattle.anyk_model.specs.Query.{Query, row_counts}
 use Rattle.anyk_model.specs.Output.{Style, cut, header_text, line_text}
 use Rattle.bound_query.specs.Report.{total_rows}
 use Rattle.bound_query.specs.Shape.{IsShape, Shape}
-use Rattle.bound_query.specs.Parts.{sum_of_all}
+use Rattle.bound_query.specs.KeyParts.{sum_of_all}
 use Rattle.bound_query.specs.Steps.{calls_for, cost, whole_lines}
 
 -- the bound for this many calls for answers

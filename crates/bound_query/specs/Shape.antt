@@ -10,7 +10,7 @@ use Rattle.anyk_model.specs.Query.{Query}
 use Rattle.rankings.specs.Order.{IsMember, IsAscending}
 use Rattle.bound_query.specs.Classes.{IsPassing}
 use Rattle.bound_query.specs.Graph.{IsGraphOf}
-use Rattle.bound_query.specs.Parts.{sum_of_all}
+use Rattle.bound_query.specs.KeyParts.{sum_of_all}
 
 -- why a query has no shape: its core, as items from 1, or too many node rows
 pub data Flaw : Type 0 where

@@ -5,8 +5,8 @@ use Rattle.anyk_model.specs.Table.{Table}
 use Rattle.anyk_model.specs.Query.{Query, Item, Column, OrderKey}
 use Rattle.bound_query.specs.Classes.{AreVariables, AreVariablesOf}
 use Rattle.bound_query.specs.Filters.{IsFilterOf, ItemFilter, filter_at}
-use Rattle.bound_query.specs.Inside.{IsWithin}
-use Rattle.bound_query.specs.Parts.{numbers_of}
+use Rattle.bound_query.specs.NamedPlaces.{NamesExist}
+use Rattle.bound_query.specs.KeyParts.{numbers_of}
 use Rattle.bound_query.specs.Weights.{KeyInRange, KeyWeighs, cap_of, part_of, table_in, terms_in}
 
 -- what an item adds to a key: the greatest absolute part that its columns allow, and the part of
@@ -51,7 +51,7 @@ key_parts tables items key = map (item_parts tables items key) (numbers_of items
 -- the query was bound to these tables, and has at least one item
 pub record Fits (bound : BoundQuery) (tables : List Table) : Type 0 where
   pub some : 1 ≤ length bound.query.items
-  pub within : IsWithin bound.query tables
+  pub within : NamesExist bound.query tables
   pub weights : AllByRecursion (KeyWeighs tables bound.query.items) bound.query.order
   pub range : AllByRecursion (KeyInRange tables bound.query.items) bound.query.order
   pub weighed : bound.weighed ≡ map (key_parts tables bound.query.items) bound.query.order

@@ -1,7 +1,7 @@
 //! The parts of a query once their names are bound.
 ghost use Rattle.std.specs.Prelude.{◌≡◌, get_or, pos};
 
-use query_select::name::{Bytes, Name};
+use query_select::name::{Bytes, Identifier};
 
 /// An item of the from-list.
 #[derive(Drop)]
@@ -9,7 +9,7 @@ pub struct BoundItem {
     /// The number of its table, from 0.
     pub table: u32,
     /// The name that the query gives it.
-    pub alias: Name,
+    pub alias: Identifier,
 }
 
 /// What a column is equated with: a column of an item, or a constant.

@@ -3,15 +3,15 @@ ghost use Rattle.std.specs.Prelude.{◌≡◌, ◌↔◌, ◌<◌, ◌≤◌, Li
 ghost use Rattle.anyk_model.specs.Table.{Table};
 ghost use Rattle.anyk_model.specs.Query.{Column, IsCombination, IsWitness, Item, OrderKey, Query, rank_of, row_counts};
 ghost use Rattle.bound_query.specs.Classes.{AreVariables, PassAndAgree, PassAndAgreeAtLeast};
-ghost use Rattle.bound_query.specs.Inside.{IsWithin, KeyInside};
-ghost use Rattle.bound_query.specs.Parts.{caps_sum, parts_sum};
+ghost use Rattle.bound_query.specs.NamedPlaces.{NamesExist, KeyInside};
+ghost use Rattle.bound_query.specs.KeyParts.{caps_sum, parts_sum};
 ghost use Rattle.bound_query.specs.WeighedQuery.{BoundQuery, Fits};
 ghost use Rattle.bound_query.specs.Weights.{cap_of, key_at, most_sum, part_of, terms_size};
 
 /// A combination of rows is a witness exactly if each row passes its item, and the rows of any two
 /// items agree on each variable that both have.
 pub fn witnesses_pass_and_agree()
-    ensures { (query : Query) (tables : List Table) (rows : List ℕ) → IsWithin query tables
+    ensures { (query : Query) (tables : List Table) (rows : List ℕ) → NamesExist query tables
         → IsWitness query tables rows
         ↔ (IsCombination (row_counts query.items tables) rows × PassAndAgree query tables rows) }
 {}

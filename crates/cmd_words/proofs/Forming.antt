@@ -4,8 +4,8 @@ use Rattle.clap.specs.Simple.{new_rule}
 use Rattle.clap.specs.Walk.{Rule, rule_of}
 use Rattle.clap.specs.declared.builder.arg.Arg.{Arg}
 use Rattle.cmd_words.specs.TakenRules.{formed, rule_taken}
-use Rattle.cmd_words.specs.declared.arguments.Form.{Form}
-use Rattle.cmd_words.specs.declared.arguments.Form.TheVariants as form
+use Rattle.cmd_words.specs.declared.arguments.ArgumentForm.{ArgumentForm}
+use Rattle.cmd_words.specs.declared.arguments.ArgumentForm.TheVariants as form
 use Rattle.cmd_words.specs.declared.arguments.Taken.{Taken}
 use denote.Ref.{Bor}
 
@@ -13,8 +13,8 @@ module _ (taken : Taken) (new arg made : Arg) (is : rule_of new ≡ new_rule tak
   abbrev base : Rule → Rule
   base r = record r { action = Some taken.action }
 
-  taken_as : (f : Form) → taken.form ≡ f → formed f taken.name.now (base (new_rule taken.name.now)) ≡ rule_taken taken
-  taken_as f same = sym (ap (λ (g : Form). formed g taken.name.now (base (new_rule taken.name.now))) same)
+  taken_as : (f : ArgumentForm) → taken.form ≡ f → formed f taken.name.now (base (new_rule taken.name.now)) ≡ rule_taken taken
+  taken_as f same = sym (ap (λ (g : ArgumentForm). formed g taken.name.now (base (new_rule taken.name.now))) same)
 
   pub as_option : taken.form ≡ form.Option → made ≡ record arg { long = Some taken.name } → rule_of made ≡ rule_taken taken
   as_option same made_is =

@@ -7,9 +7,9 @@ use Rattle.clap.specs.Kinds.{Kinds}
 use Rattle.clap.specs.Simple.{is_simple, matches_of}
 use Rattle.clap.specs.Walk.{Row}
 use Rattle.cmd_words.specs.Arguments.{run_app, session_app, plan_app, prove_app, verify_app, load_app}
-use Rattle.cmd_words.specs.Commands.{CommandSaid, run_said, session_said, plan_said, prove_said, verify_said, load_said, if_no, run_of, session_of, plan_of, prove_of, verify_of, load_of, said_of, said_to}
+use Rattle.cmd_words.specs.Commands.{CommandSaid, run_said, session_said, plan_said, prove_said, verify_said, load_said, if_no, run_of, session_of, plan_of, prove_of, verify_of, load_of, parsed_command, said_to}
 use Rattle.cmd_words.specs.CommandNames.{app_named, load_by_options, name_of, said_as, said_by_rows}
-use Rattle.cmd_words.specs.ArgumentMeaning.{Texts}
+use Rattle.cmd_words.specs.ArgumentMeaning.{OptionTexts}
 use Rattle.cmd_words.specs.declared.name.FilesName.TheVariants.{Run, Session, Plan, Prove, Verify}
 use Rattle.cmd_words.specs.declared.name.CommandName.{CommandName}
 use Rattle.cmd_words.specs.declared.name.CommandName.TheVariants.{OverFiles, Load}
@@ -83,12 +83,12 @@ module _ (words : List (List ℕ)) where
 
 pub said_to_first : {A : Type 0} (view : A → List ℕ) (words : List A) (first : A) (text : List ℕ) (name : CommandName)
     → 1 ≤ length words → first ≡ get_or words 0 first → text ≡ view first → Some name ≡ name_of text
-    → said_of (map view words) ≡ said_as name (map view words)
+    → parsed_command (map view words) ≡ said_as name (map view words)
 said_to_first view [] first text name some at is same = absurd (omega (arith, some))
 said_to_first view (word ∷ words) first text name some at is same =
     named (map view (word ∷ words)) (view word) (Some name) (same ∙ ap name_of (is ∙ ap view at))
 
-abbrev pub made : Option (List ℕ) → Option (List ℕ) → Option (List ℕ) → Option (List ℕ) → Option (List ℕ) → Option (List ℕ) → Option (List ℕ) → Option (List (List ℕ)) → Texts
+abbrev pub made : Option (List ℕ) → Option (List ℕ) → Option (List ℕ) → Option (List ℕ) → Option (List ℕ) → Option (List ℕ) → Option (List ℕ) → Option (List (List ℕ)) → OptionTexts
 made a b c d e f g h = record { engine = a; ranks = b; rows = c; script = d; proof = e; best_of = f; query = g; tables = h }
 
 pub same_texts : (a a' b b' c c' d d' e e' f f' g g' : Option (List ℕ)) (h h' : Option (List (List ℕ)))

@@ -6,7 +6,7 @@ use Rattle.clap.specs.Walk.{Row, all_of, first_of}
 use Rattle.cmd_words.specs.Numbers.{number_in}
 use Rattle.cmd_words.specs.Pairs.{pairs_of, are_pairs}
 use Rattle.cmd_words.specs.NamedPairs.{named_pair, are_distinct}
-use Rattle.cmd_words.specs.declared.texts.Texts.{Texts as TextsRead}
+use Rattle.cmd_words.specs.declared.texts.OptionTexts.{OptionTexts as TextsRead}
 use Rattle.cmd_words.specs.declared.command.Engine.{Engine}
 use Rattle.cmd_words.specs.declared.command.Engine.TheVariants.{Part, Rec}
 use Rattle.cmd_words.specs.declared.command.Words.{Words}
@@ -25,7 +25,7 @@ pub record WordsSaid : Type 0 where
   pub tables : List (List ℕ × List ℕ)
 
 -- the texts of these commands' arguments
-pub record Texts : Type 0 where
+pub record OptionTexts : Type 0 where
   pub engine : Option (List ℕ)
   pub ranks : Option (List ℕ)
   pub rows : Option (List ℕ)
@@ -35,7 +35,7 @@ pub record Texts : Type 0 where
   pub query : Option (List ℕ)
   pub tables : Option (List (List ℕ))
 
-abbrev pub texts_of : List Row → Texts
+abbrev pub texts_of : List Row → OptionTexts
 texts_of rows = record {
   engine = first_of (codes "engine") rows;
   ranks = first_of (codes "ranks") rows;
@@ -48,15 +48,15 @@ texts_of rows = record {
 }
 
 -- `run` has no script and no certificate
-abbrev pub run_texts : Texts → Texts
+abbrev pub run_texts : OptionTexts → OptionTexts
 run_texts texts = record texts { script = None; proof = None }
 
 -- `session` has no certificate
-abbrev pub session_texts : Texts → Texts
+abbrev pub session_texts : OptionTexts → OptionTexts
 session_texts texts = record texts { proof = None }
 
 -- a command without options: the engine is `part`, and the flags are not set
-abbrev pub no_options : Texts → Texts
+abbrev pub no_options : OptionTexts → OptionTexts
 no_options texts =
     record texts {
       engine = Some (codes "part");
@@ -68,15 +68,15 @@ no_options texts =
     }
 
 -- `plan` has no options
-abbrev pub plan_texts : Texts → Texts
+abbrev pub plan_texts : OptionTexts → OptionTexts
 plan_texts texts = no_options texts
 
 -- `prove` has the engine alone
-abbrev pub prove_texts : Texts → Texts
+abbrev pub prove_texts : OptionTexts → OptionTexts
 prove_texts texts = record (no_options texts) { engine = texts.engine }
 
 -- `verify` has the flags and a certificate
-abbrev pub verify_texts : Texts → Texts
+abbrev pub verify_texts : OptionTexts → OptionTexts
 verify_texts texts = record
     (no_options texts) { ranks = texts.ranks; rows = texts.rows; proof = texts.proof }
 
@@ -114,18 +114,18 @@ said ranks rows script proof best_of (Some engine) None tables = None
 said ranks rows script proof best_of None query tables = None
 
 -- what the texts say, and none if they say nothing
-abbrev pub said_by : Texts → Option WordsSaid
+abbrev pub said_by : OptionTexts → Option WordsSaid
 said_by texts =
     said (is_set texts.ranks) (is_set texts.rows) texts.script texts.proof texts.best_of
     (engine_of texts.engine) texts.query
     (tables_of texts.tables)
 
 -- `session` has a script
-abbrev pub session_by : Texts → Option WordsSaid
+abbrev pub session_by : OptionTexts → Option WordsSaid
 session_by texts = if is_some texts.script then said_by texts else None
 
 -- `verify` has a certificate
-abbrev pub verify_by : Texts → Option WordsSaid
+abbrev pub verify_by : OptionTexts → Option WordsSaid
 verify_by texts = if is_some texts.proof then said_by texts else None
 
 -- what `load` says: the engine, the number and the rows
@@ -145,7 +145,7 @@ abbrev pub load_by : List Row → Option (Engine × ℕ × ℕ)
 load_by rows = load_by_texts (first_of (codes "engine") rows) (first_of (codes "number") rows)
     (first_of (codes "rows") rows)
 
-abbrev pub arguments_view : TextsRead → Texts
+abbrev pub arguments_view : TextsRead → OptionTexts
 arguments_view texts = record {
   engine = option_map (λ s. s.now) texts.engine;
   ranks = option_map (λ s. s.now) texts.ranks;

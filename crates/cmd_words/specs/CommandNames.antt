@@ -4,7 +4,7 @@ use Rattle.std.specs.Str.{bytes_eq}
 use Rattle.clap.specs.Simple.{App}
 use Rattle.clap.specs.Walk.{Row, first_of}
 use Rattle.cmd_words.specs.Arguments.{run_app, session_app, plan_app, prove_app, verify_app, load_app}
-use Rattle.cmd_words.specs.ArgumentMeaning.{Texts, WordsSaid, texts_of, run_texts, session_texts, plan_texts, prove_texts, verify_texts, said_by, session_by, verify_by, load_by_texts}
+use Rattle.cmd_words.specs.ArgumentMeaning.{OptionTexts, WordsSaid, texts_of, run_texts, session_texts, plan_texts, prove_texts, verify_texts, said_by, session_by, verify_by, load_by_texts}
 use Rattle.cmd_words.specs.Commands.{CommandSaid, run_said, session_said, plan_said, prove_said, verify_said, load_said, if_taken}
 use Rattle.cmd_words.specs.declared.name.FilesName.{FilesName}
 use Rattle.cmd_words.specs.declared.name.FilesName.TheVariants.{Run, Session, Plan, Prove, Verify}
@@ -31,7 +31,7 @@ app_named (OverFiles Verify) = verify_app
 app_named Load = load_app
 
 -- the texts that it has, of those that `clap` gives
-abbrev pub texts_for : FilesName → Texts → Texts
+abbrev pub texts_for : FilesName → OptionTexts → OptionTexts
 texts_for Run texts = run_texts texts
 texts_for Session texts = session_texts texts
 texts_for Plan texts = plan_texts texts
@@ -39,7 +39,7 @@ texts_for Prove texts = prove_texts texts
 texts_for Verify texts = verify_texts texts
 
 -- what these texts say to it: `session` has a script, and `verify` a certificate
-abbrev pub words_by : FilesName → Texts → Option WordsSaid
+abbrev pub words_by : FilesName → OptionTexts → Option WordsSaid
 words_by Run texts = said_by texts
 words_by Session texts = session_by texts
 words_by Plan texts = said_by texts

@@ -61,9 +61,9 @@ said_to first words =
     else None
 
 -- the command that the arguments give, and none if they give none
-abbrev pub said_of : List (List ℕ) → Option CommandSaid
-said_of [] = None
-said_of (first ∷ others) = said_to first (first ∷ others)
+abbrev pub parsed_command : List (List ℕ) → Option CommandSaid
+parsed_command [] = None
+parsed_command (first ∷ others) = said_to first (first ∷ others)
 
 abbrev pub command_view : Command → CommandSaid
 command_view (Run words) = run_said (words_view words)

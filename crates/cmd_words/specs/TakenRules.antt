@@ -2,13 +2,13 @@
 use Rattle.std.specs.Prelude.{ℕ, List, [], ◌∷◌, Some, true, map}
 use Rattle.clap.specs.Walk.{Rule}
 use Rattle.clap.specs.Simple.{App, new_app, new_rule, with_rule}
-use Rattle.cmd_words.specs.declared.arguments.Form.{Form}
-use Rattle.cmd_words.specs.declared.arguments.Form.TheVariants as form
+use Rattle.cmd_words.specs.declared.arguments.ArgumentForm.{ArgumentForm}
+use Rattle.cmd_words.specs.declared.arguments.ArgumentForm.TheVariants as form
 use Rattle.cmd_words.specs.declared.arguments.Taken.{Taken as TakenRead}
 use Rattle.cmd_words.specs.declared.arguments.Taking.{Taking}
 
 -- the same, of this name and form
-abbrev pub formed : Form → List ℕ → Rule → Rule
+abbrev pub formed : ArgumentForm → List ℕ → Rule → Rule
 formed form.Option name rule = record rule { long = Some name }
 formed (form.Defaulted value) name rule =
     record rule { long = Some name; defaults = value.now ∷ [] }

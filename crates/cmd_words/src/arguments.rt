@@ -28,12 +28,12 @@ pub struct Taken {
     /// for one value or more.
     pub action: ArgAction,
     /// Whether it is an option, and what holds if it is not given.
-    pub form: Form,
+    pub form: ArgumentForm,
 }
 
 /// Whether it is an option, and what holds if it is not given.
 #[derive(Clone, Copy, Drop)]
-pub enum Form {
+pub enum ArgumentForm {
     /// An option.
     Option,
     /// An option that has this value if it is not given.
@@ -48,70 +48,70 @@ pub enum Form {
 const ENGINE: Taken = Taken {
     name: "engine",
     action: ArgAction::Set,
-    form: Form::Defaulted("part"),
+    form: ArgumentForm::Defaulted("part"),
 };
 
 /// `--ranks`.
 const RANKS: Taken = Taken {
     name: "ranks",
     action: ArgAction::SetTrue,
-    form: Form::Option,
+    form: ArgumentForm::Option,
 };
 
 /// `--rows`.
 const ROWS: Taken = Taken {
     name: "rows",
     action: ArgAction::SetTrue,
-    form: Form::Option,
+    form: ArgumentForm::Option,
 };
 
 /// `--best-of ALIAS`.
 const BEST_OF: Taken = Taken {
     name: "best-of",
     action: ArgAction::Set,
-    form: Form::Option,
+    form: ArgumentForm::Option,
 };
 
 /// `--script FILE`.
 const SCRIPT: Taken = Taken {
     name: "script",
     action: ArgAction::Set,
-    form: Form::Required,
+    form: ArgumentForm::Required,
 };
 
 /// `--proof FILE`.
 const PROOF: Taken = Taken {
     name: "proof",
     action: ArgAction::Set,
-    form: Form::Required,
+    form: ArgumentForm::Required,
 };
 
 /// `--number N` of `load`.
 const NUMBER: Taken = Taken {
     name: "number",
     action: ArgAction::Set,
-    form: Form::Required,
+    form: ArgumentForm::Required,
 };
 
 /// `--rows N` of `load`.
 const ROWS_OF_TABLES: Taken = Taken {
     name: "rows",
     action: ArgAction::Set,
-    form: Form::Required,
+    form: ArgumentForm::Required,
 };
 
 /// QUERYFILE.
 const QUERY: Taken = Taken {
     name: "query",
     action: ArgAction::Set,
-    form: Form::Place,
+    form: ArgumentForm::Place,
 };
 
 /// TABLE=FILE, once or more.
 const TABLES: Taken = Taken {
     name: "tables",
     action: ArgAction::Append,
-    form: Form::Place,
+    form: ArgumentForm::Place,
 };
 
 /// What `run` takes.
@@ -165,7 +165,7 @@ fn taken_by<'a>(name: CommandName) -> Taking<'a>
 }
 
 /// The command of this name, as `clap` has it. `AllocError` if memory is refused.
-pub fn parser<'a>(alloc: Global, name: CommandName) -> Result<Parser<'a>, AllocError>
+pub fn parser_for<'a>(alloc: Global, name: CommandName) -> Result<Parser<'a>, AllocError>
     ensures { IfOk result (λ parser. app_of parser ≡ app_named name) }
 {
     let taking = taken_by(name);
@@ -191,9 +191,9 @@ fn arg<'a>(alloc: Global, taken: Taken) -> Arg<'a>
 {
     let arg = Arg::new(alloc, taken.name).action(taken.action);
     match taken.form {
-        Form::Option => arg.long(taken.name),
-        Form::Defaulted(value) => arg.long(taken.name).default_value(value),
-        Form::Required => arg.long(taken.name).required(true),
-        Form::Place => arg.required(true),
+        ArgumentForm::Option => arg.long(taken.name),
+        ArgumentForm::Defaulted(value) => arg.long(taken.name).default_value(value),
+        ArgumentForm::Required => arg.long(taken.name).required(true),
+        ArgumentForm::Place => arg.required(true),
     }
 }

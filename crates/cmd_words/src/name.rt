@@ -28,7 +28,7 @@ pub enum CommandName {
 }
 
 /// The command of this name.
-pub fn named(name: &str) -> Option<CommandName>
+pub fn command_named(name: &str) -> Option<CommandName>
     ensures { result ≡ name_of name.now }
 {
     match name {

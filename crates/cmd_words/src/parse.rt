@@ -10,7 +10,7 @@ ghost use Rattle.clap.specs.Values.{kind_of};
 ghost use Rattle.cmd_words.specs.CommandNames.{app_named};
 
 use crate::WordsFault;
-use crate::arguments::parser;
+use crate::arguments::parser_for;
 use crate::name::CommandName;
 use clap::error::ErrorKind;
 use clap::{ArgMatches, Error};
@@ -18,7 +18,7 @@ use std::alloc::Global;
 
 /// The matches of the arguments, the first of which is the command's name. `Usage` if `clap`
 /// rejects them, and `NoMemory` if memory is refused.
-pub fn parsed<'a>(
+pub fn parse_arguments<'a>(
     alloc: Global,
     name: CommandName,
     words: &'a [String],
@@ -29,7 +29,7 @@ pub fn parsed<'a>(
     ensures usage { IsErrOf result WordsFault.Usage
         → fault_of (app_named name) (map string_bytes words.now) ≡ [] → ⊥ }
 {
-    match parser(alloc, name)?.try_get_matches_from(words) {
+    match parser_for(alloc, name)?.try_get_matches_from(words) {
         Ok(matches) => Ok(matches),
         Err(error) => Err(fault_of_error(&error)),
     }

@@ -4,14 +4,14 @@ ghost use Rattle.std.specs.Prelude.{◌≡◌, Some, None, map, option_map, IfOk
 ghost use Rattle.std.specs.String.{string_bytes};
 ghost use Rattle.clap.specs.Matches.{found_of};
 ghost use Rattle.clap.specs.Walk.{rows_of};
-ghost use Rattle.cmd_words.specs.Commands.{said_of, command_view, KeepsRange};
+ghost use Rattle.cmd_words.specs.Commands.{parsed_command, command_view, KeepsRange};
 ghost use Rattle.cmd_words.specs.CommandNames.{command_said, said_as, said_by_rows};
 ghost use Rattle.cmd_words.specs.ArgumentMeaning.{words_view};
 
 use crate::WordsFault;
 use crate::command::{Command, Words};
-use crate::name::{CommandName, FilesName, named};
-use crate::parse::parsed;
+use crate::name::{CommandName, FilesName, command_named};
+use crate::parse::parse_arguments;
 use crate::texts::{read_load, read_texts_for, texts_for, texts_of};
 use clap::ArgMatches;
 use std::alloc::Global;
@@ -23,14 +23,14 @@ use std::alloc::Global;
 /// refused.
 pub fn read_words(alloc: Global, words: &[String]) -> Result<Command, WordsFault>
     ensures words { IfOk result
-        (λ command. said_of (map string_bytes words.now) ≡ Some (command_view command)) }
-    ensures usage { IsErrOf result WordsFault.Usage → said_of (map string_bytes words.now) ≡ None }
+        (λ command. parsed_command (map string_bytes words.now) ≡ Some (command_view command)) }
+    ensures usage { IsErrOf result WordsFault.Usage → parsed_command (map string_bytes words.now) ≡ None }
     ensures ranges { IfOk result KeepsRange }
 {
     let [first, ..] = words else {
         return Err(WordsFault::Usage);
     };
-    match named(first.as_str()) {
+    match command_named(first.as_str()) {
         Some(name) => read_named(alloc, name, words),
         None => Err(WordsFault::Usage),
     }
@@ -44,7 +44,7 @@ fn read_named(alloc: Global, name: CommandName, words: &[String]) -> Result<Comm
         → said_as name (map string_bytes words.now) ≡ None }
     ensures ranges { IfOk result KeepsRange }
 {
-    match parsed(alloc, name, words) {
+    match parse_arguments(alloc, name, words) {
         Ok(matches) => read_matches(alloc, name, &matches),
         Err(fault) => Err(fault),
     }

@@ -19,7 +19,7 @@ use std::alloc::{AllocError, Global};
 
 /// The values of the options and arguments of a command over files, as text.
 #[derive(Clone, Copy, Drop)]
-pub struct Texts<'m, 'a> {
+pub struct OptionTexts<'m, 'a> {
     pub engine: Option<&'a str>,
     pub ranks: Option<&'a str>,
     pub rows: Option<&'a str>,
@@ -31,10 +31,10 @@ pub struct Texts<'m, 'a> {
 }
 
 /// The values that the matches hold.
-pub fn texts_of<'m, 'a>(matches: &'m ArgMatches<'a>) -> Texts<'m, 'a>
+pub fn texts_of<'m, 'a>(matches: &'m ArgMatches<'a>) -> OptionTexts<'m, 'a>
     ensures { arguments_view result ≡ texts_of (rows_of (found_of matches.entry.now)) }
 {
-    Texts {
+    OptionTexts {
         engine: matches.get_str("engine"),
         ranks: matches.get_str("ranks"),
         rows: matches.get_str("rows"),
@@ -47,10 +47,10 @@ pub fn texts_of<'m, 'a>(matches: &'m ArgMatches<'a>) -> Texts<'m, 'a>
 }
 
 /// The values that the command of this name has. It has the engine `part` if it has no `--engine`.
-pub fn texts_for<'m, 'a>(name: FilesName, texts: Texts<'m, 'a>) -> Texts<'m, 'a>
+pub fn texts_for<'m, 'a>(name: FilesName, texts: OptionTexts<'m, 'a>) -> OptionTexts<'m, 'a>
     ensures { arguments_view result ≡ texts_for name (arguments_view texts.entry) }
 {
-    let plain = Texts {
+    let plain = OptionTexts {
         engine: Some("part"),
         ranks: None,
         rows: None,
@@ -60,21 +60,21 @@ pub fn texts_for<'m, 'a>(name: FilesName, texts: Texts<'m, 'a>) -> Texts<'m, 'a>
         ..texts
     };
     match name {
-        FilesName::Run => Texts {
+        FilesName::Run => OptionTexts {
             script: None,
             proof: None,
             ..texts
         },
-        FilesName::Session => Texts {
+        FilesName::Session => OptionTexts {
             proof: None,
             ..texts
         },
         FilesName::Plan => plain,
-        FilesName::Prove => Texts {
+        FilesName::Prove => OptionTexts {
             engine: texts.engine,
             ..plain
         },
-        FilesName::Verify => Texts {
+        FilesName::Verify => OptionTexts {
             ranks: texts.ranks,
             rows: texts.rows,
             proof: texts.proof,
@@ -84,7 +84,7 @@ pub fn texts_for<'m, 'a>(name: FilesName, texts: Texts<'m, 'a>) -> Texts<'m, 'a>
 }
 
 /// What the values say. `Usage` if they say nothing, and `NoMemory` if memory is refused.
-fn read_texts(alloc: Global, texts: Texts<'_, '_>) -> Result<Words, WordsFault>
+fn read_texts(alloc: Global, texts: OptionTexts<'_, '_>) -> Result<Words, WordsFault>
     ensures words { IfOk result
         (λ said. said_by (arguments_view texts.entry) ≡ Some (words_view said)) }
     ensures usage { IsErrOf result WordsFault.Usage → said_by (arguments_view texts.entry) ≡ None }
@@ -117,7 +117,7 @@ fn read_texts(alloc: Global, texts: Texts<'_, '_>) -> Result<Words, WordsFault>
 pub fn read_texts_for(
     alloc: Global,
     name: FilesName,
-    texts: Texts<'_, '_>,
+    texts: OptionTexts<'_, '_>,
 ) -> Result<Words, WordsFault>
     ensures words { IfOk result
         (λ said. words_by name (arguments_view texts.entry) ≡ Some (words_view said)) }

@@ -4,19 +4,19 @@ use Rattle.outer_io.specs.Files.{Files}
 use Rattle.refusals.specs.Reason as reason
 use Rattle.refusals.specs.Reason.{Reason}
 use Rattle.session_script.specs.Script.{KeepsRules}
-use Rattle.verdict.specs.Loading.{Beside, beside_in, file_in, proof_said, steps_said, with_proof, with_steps}
+use Rattle.verdict.specs.Loading.{SideInput, beside_in, file_in, proof_said, steps_said, with_proof, with_steps}
 use Rattle.verdict.specs.StageResults.{NoTurn, Pure, Shelved, Staged}
 use Rattle.verdict.specs.Stages.{Is, then_by}
-use Rattle.verdict.specs.Words.{Aside, aside_name, certificate, nothing, script}
+use Rattle.verdict.specs.Words.{SideFile, aside_name, certificate, nothing, script}
 use Rattle.verdict.proofs.Staging.{found_within, pure_staged, refusal_within, wider_staged}
-use Rattle.command_input.specs.Sought.{beside_said}
+use Rattle.command_input.specs.InputFiles.{beside_said}
 
 -- a script without a step
 pub no_steps : KeepsRules [] []
 no_steps = omega arith
 
 -- what a part says, and what is known then
-module _ {A : Type 0} (with : A → Beside) where
+module _ {A : Type 0} (with : A → SideInput) where
   pub said_refused : (x : Result A Reason) (e : Reason) → Pure (Is x) (Err e) → Pure (Is (then_by x (λ a. Ok (with a)))) (Err e)
   said_refused x reason.NoMemory h = tt
   said_refused x (reason.NoFile file) h = h
@@ -29,7 +29,7 @@ module _ {A : Type 0} (with : A → Beside) where
 -- ---- the file, and then what its bytes say
 
 -- none is named
-pub beside_none : (aside : Aside) (bytes : List ℕ) (s : Shelved) (r : Result Beside Reason) → None ≡ aside_name aside → Pure (Is (beside_said aside bytes)) r
+pub beside_none : (aside : SideFile) (bytes : List ℕ) (s : Shelved) (r : Result SideInput Reason) → None ≡ aside_name aside → Pure (Is (beside_said aside bytes)) r
     → Staged (λ files. Is (beside_in files aside)) (λ files file. aside_name aside ≡ Some file) s s r
 beside_none nothing bytes s r none h =
     wider_staged (λ files. Is (Ok (with_steps []))) (λ files. Is (Ok (with_steps []))) NoTurn (λ files file. None ≡ Some file) s s r
@@ -37,7 +37,7 @@ beside_none nothing bytes s r none h =
 beside_none (script name) bytes s r none h = cc
 beside_none (certificate name) bytes s r none h = cc
 
-said_after : (aside : Aside) (name : List ℕ) → Some name ≡ aside_name aside → (files : Files) → beside_in files aside ≡ then_by (file_in files name) (beside_said aside)
+said_after : (aside : SideFile) (name : List ℕ) → Some name ≡ aside_name aside → (files : Files) → beside_in files aside ≡ then_by (file_in files name) (beside_said aside)
 said_after nothing name is files = cc
 said_after (script file) name is files = let same : name ≡ file = cc in by (file_in files file) ∙ sym (ap (λ (n : List ℕ). then_by (file_in files n) (beside_said (script file))) same)
   where
@@ -50,7 +50,7 @@ said_after (certificate file) name is files = let same : name ≡ file = cc in b
     by (Ok bytes) = refl
     by (Err e) = refl
 
-module _ (aside : Aside) (name : List ℕ) (is : Some name ≡ aside_name aside) where
+module _ (aside : SideFile) (name : List ℕ) (is : Some name ≡ aside_name aside) where
   abbrev IsAside : Files → List ℕ → Type 0
   IsAside files file = aside_name aside ≡ Some file
 
@@ -63,7 +63,7 @@ module _ (aside : Aside) (name : List ℕ) (is : Some name ≡ aside_name aside)
       (λ files file same. sym is ∙ ap Some (sym same)) s
 
   -- its file was read
-  pub beside_read : (bytes : List ℕ) (old new : Shelved) (r : Result Beside Reason)
+  pub beside_read : (bytes : List ℕ) (old new : Shelved) (r : Result SideInput Reason)
       → Staged (λ files. Is (file_in files name)) (λ files file. file ≡ name) old new (Ok bytes)
       → Pure (Is (beside_said aside bytes)) r → Staged (λ files. Is (beside_in files aside)) IsAside old new r
   beside_read bytes old new r s said =

@@ -6,7 +6,7 @@ use Rattle.anyk_model.specs.Query.{Item, Query}
 use Rattle.anyk_model.specs.Table.{Table}
 use Rattle.bound_query.specs.WeighedQuery.{BoundQuery}
 use Rattle.refusals.specs.Reason.{BranchShape, Reason, UnionBest}
-use Rattle.verdict.specs.Loading.{Beside, Loaded, best_in, known_item, loaded_in, odd_branch}
+use Rattle.verdict.specs.Loading.{SideInput, Loaded, best_in, known_item, loaded_in, odd_branch}
 use Rattle.verdict.specs.StageResults.{Pure}
 use Rattle.session_script.specs.Script.{unless}
 use Rattle.verdict.specs.Stages.{Is, then_by}
@@ -55,7 +55,7 @@ shaped alias queries r one h = h ∙ ap (λ (o : Option Reason). then_by (unless
 
 -- ---- what was loaded
 
-module _ (queries : List Query) (tables : List Table) (beside : Beside) (alias : Option (List ℕ)) where
+module _ (queries : List Query) (tables : List Table) (beside : SideInput) (alias : Option (List ℕ)) where
   abbrev loaded_with : List Query → Option ℕ → Result Loaded Reason
   loaded_with qs best = Ok (record { queries = qs; tables = tables; best = best; steps = beside.steps; proof = beside.proof })
 

@@ -7,7 +7,7 @@ use Rattle.std.specs.List.{All, AllByRecursion, position_or_len}
 use Rattle.std.specs.Str.{bytes_eq}
 use Rattle.anyk_model.specs.Query.{Query}
 use Rattle.anyk_model.specs.Table.{Table}
-use Rattle.query_bind.specs.Answers.{Tells}
+use Rattle.query_bind.specs.Answers.{IsBindFault}
 use Rattle.query_bind.specs.Bind.{bind_fault}
 use Rattle.query_bind.specs.Binding.{bound_query}
 use Rattle.query_bind.specs.declared.fault.BindFault.{BindFault}
@@ -160,7 +160,7 @@ module _ (selects : List Select) (tables : List Table) (i : ℕ) (select : Selec
       (λ h. ap (λ (r : Result Query Reason). after (queries_in queries) (and_then r later)) (h ∙ bound_here own branch own_is branch_is) ∙ whole_is)
 
   -- it has a fault
-  pub each_refused : (own : List ℕ) (fault : BindFault) → own ≡ take (length select.items) rest → Tells (bind_fault select tables own) fault
+  pub each_refused : (own : List ℕ) (fault : BindFault) → own ≡ take (length select.items) rest → IsBindFault (bind_fault select tables own) fault
       → BindsEach selects tables queries (Err fault)
   each_refused own fault own_is tells =
       let so_many = so_far.count in

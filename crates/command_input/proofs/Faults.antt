@@ -7,7 +7,7 @@ use Rattle.query_parse.specs.declared.fault.ParseFault.TheVariants as parse
 use Rattle.query_parse.specs.Parse.{IsParsed, IsParsedAll, Parses, ParsesAll, items_in}
 use Rattle.query_bind.specs.declared.fault.BindFault.{BindFault}
 use Rattle.query_bind.specs.declared.fault.BindFault.TheVariants as bind
-use Rattle.query_bind.specs.Answers.{Tells}
+use Rattle.query_bind.specs.Answers.{IsBindFault}
 use Rattle.csv_tables.specs.declared.fault.TableFault.{TableFault}
 use Rattle.csv_tables.specs.Faults.{fault_of}
 use Rattle.csv_tables.specs.Faults as tables
@@ -17,8 +17,8 @@ use Rattle.session_script.specs.declared.script_fault.ScriptFault.{ScriptFault}
 use Rattle.session_script.specs.declared.script_fault.ScriptFault.TheVariants as script
 use Rattle.proof_model.specs.declared.fault.ProofFault.{ProofFault}
 use Rattle.proof_model.specs.declared.fault.ProofFault.TheVariants as proof
-use Rattle.proof_model.specs.Reading.{Fails as FailsToRead, proof_of}
-use Rattle.session_script.specs.Script.{Fails, steps_of}
+use Rattle.proof_model.specs.Reading.{IsProofFault as FailsToRead, proof_of}
+use Rattle.session_script.specs.Script.{IsScriptFault, steps_of}
 use Rattle.verdict.specs.Faults.{of_bind, of_flaw, of_parse, of_proof, of_script}
 use Rattle.verdict.specs.Loading.{IsParse, IsParseAll, IsReading, all_items, branches_of, proof_said, sound_table, steps_said, told_proof, told_steps}
 use Rattle.session_script.specs.Script.{unless}
@@ -79,12 +79,12 @@ bind_fault_refused told bound (bind.BadWeight item row column) = refl
 bind_fault_refused told bound (bind.RankRange key) = refl
 bind_fault_refused told bound bind.NoMemory = tt
 
-pub bind_refused : (told : Option ℕ) (first : Option BindFault) (bound : Query) (fault : BindFault) → Tells first fault
+pub bind_refused : (told : Option ℕ) (first : Option BindFault) (bound : Query) (fault : BindFault) → IsBindFault first fault
     → Pure (Is (unless (option_map (of_bind told) first) bound)) (Err (of_bind told fault))
 bind_refused told first bound fault (inl e) = rw e tt
 bind_refused told first bound fault (inr e) = rw e (bind_fault_refused told bound fault)
 
-pub script_refused : (bytes : List ℕ) (fault : ScriptFault) → Fails (steps_of bytes) fault → Pure (Is (steps_said bytes)) (Err (of_script fault))
+pub script_refused : (bytes : List ℕ) (fault : ScriptFault) → IsScriptFault (steps_of bytes) fault → Pure (Is (steps_said bytes)) (Err (of_script fault))
 script_refused bytes fault (inl e) = rw e tt
 script_refused bytes script.NoMemory (inr e) = tt
 script_refused bytes script.TooManyLines (inr e) = sym (ap told_steps e)
@@ -116,7 +116,7 @@ flaw_refused name old t (duplicate_name column) = refl
 flaw_refused name old t too_many_rows = refl
 flaw_refused name old t (ragged row) = refl
 
-pub table_refused : (name : List ℕ) (old : List Table) (t : Table) (first : Option Flaw) (fault : TableFault) → tables.Tells first fault
+pub table_refused : (name : List ℕ) (old : List Table) (t : Table) (first : Option Flaw) (fault : TableFault) → tables.IsTableFault first fault
     → Pure (Is (table_after old (unless (option_map (of_flaw name) first) t))) (Err (table_reason name fault))
 table_refused name old t first fault (inl e) = rw e tt
 table_refused name old t None fault (inr e) = cc

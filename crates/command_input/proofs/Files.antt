@@ -8,7 +8,7 @@ use Rattle.outer_io.specs.declared.reading.FileFault.TheVariants as file
 use Rattle.std.specs.Prelude.{length}
 use Rattle.refusals.specs.Reason as reason
 use Rattle.verdict.specs.Loading.{file_in, file_with, most_bytes, short_enough}
-use Rattle.verdict.specs.StageResults.{Fits, Causes, Shelved, Staged}
+use Rattle.verdict.specs.StageResults.{IsStageOf, Causes, Shelved, Staged}
 use Rattle.verdict.specs.Stages.{Is}
 use Rattle.command_input.specs.StageViews.{file_reason}
 
@@ -20,13 +20,13 @@ long_bytes name bytes h = grind (arith, nat_tests)
 
 -- a file that was read whole
 pub loaded_fits : (told : Option Files) (name bytes : List ℕ) → HasFile told name (Some bytes) → length bytes ≤ most_bytes
-    → Fits (λ files. Is (file_in files name)) (λ files other. other ≡ name) told (Ok bytes)
+    → IsStageOf (λ files. Is (file_in files name)) (λ files other. other ≡ name) told (Ok bytes)
 loaded_fits None name bytes h short = tt
 loaded_fits (Some files) name bytes h short = sym (ap (file_with name) (sym h.0) ∙ short_bytes name bytes short)
 
 -- a file that was not read whole
 refused_fits : (told : Option Files) (name : List ℕ) (fault : FileFault) → (fault ≡ file.Missing → LacksFile told name) → (fault ≡ file.TooLarge → IsNoShortFile most_bytes told name)
-    → Fits {A = List ℕ} (λ files. Is (file_in files name)) (λ files other. other ≡ name) told (Err (file_reason name fault))
+    → IsStageOf {A = List ℕ} (λ files. Is (file_in files name)) (λ files other. other ≡ name) told (Err (file_reason name fault))
 refused_fits None name file.Missing lacks long = tt
 refused_fits None name file.Failed lacks long = tt
 refused_fits None name file.TooLarge lacks long = tt

@@ -4,8 +4,8 @@ use Rattle.std.specs.Prelude.{IsErrAnd}
 use Rattle.refusals.specs.Reason.{Reason}
 use Rattle.verdict.specs.StageResults.{Pure}
 use Rattle.command_input.specs.StageViews.{used_as}
-use Rattle.command_input.specs.declared.uses.UsesFault.{UsesFault}
-use Rattle.command_input.specs.declared.uses.UsesFault.TheVariants.{NoMemory}
+use Rattle.command_input.specs.declared.table_uses.UsesFault.{UsesFault}
+use Rattle.command_input.specs.declared.table_uses.UsesFault.TheVariants.{NoMemory}
 
 pub handed_on : {T E : Type 0} (r : Result T E) (x : E) → IsErrAnd r (λ y. y ≡ x) → r ≡ Err x
 handed_on (Ok a) x h = absurd h

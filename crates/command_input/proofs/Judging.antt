@@ -4,30 +4,30 @@ use Rattle.cmd_words.specs.declared.command.Words.{Words as WordsRead}
 use Rattle.std.proofs.Common.{sym}
 use Rattle.outer_io.specs.Files.{Files}
 use Rattle.command_input.specs.Input.{InputView}
-use Rattle.command_input.specs.Turns.{IsTurn}
+use Rattle.command_input.specs.FilesRead.{IsTurn}
 use Rattle.refusals.specs.Reason.{Reason}
-use Rattle.verdict.specs.AcceptedInput.{Found}
+use Rattle.verdict.specs.AcceptedInput.{AcceptedInput}
 use Rattle.verdict.specs.Loading.{Loaded}
 use Rattle.verdict.specs.MadeFiles.{made_files}
 use Rattle.verdict.specs.StageResults.{NoTurn, Pure, Shelved}
 use Rattle.verdict.specs.Stages.{refused, followed}
 use Rattle.verdict.specs.Verdict.{IsLoadedOn, IsShaped, IsStructured, IsVerdict}
-use Rattle.verdict.specs.Words.{Command, IsNamed, a_command, run, plan, session, load, prove, verify, sought_by}
+use Rattle.verdict.specs.Words.{Command, IsNamed, a_command, run, plan, session, load, prove, verify, input_files_of}
 use Rattle.verdict.proofs.Staging.{found_within, pure_found, pure_refused, pure_staged, refusal_within}
 use Rattle.command_input.specs.Tasks.{command_of}
 use Rattle.command_input.proofs.Telling.{pure_result}
 use Rattle.command_input.specs.declared.task.Task.{Task}
 use Rattle.command_input.specs.declared.task.Task.TheVariants as task
-use Rattle.command_input.specs.Judgement.{HasOne, IsJudged, IsJudgedOn, IsLooked, IsLookedUp, IsPlanned, IsUnnamed}
+use Rattle.command_input.specs.Planned.{HasOne, IsJudged, IsJudgedOn, IsLooked, IsLookedUp, IsPlanned, IsUnnamed}
 
 -- a refusal while the input is read is that of the verdict
 up_refused : (command : Command) (old new : Shelved) (a : Reason)
-    → ((files : Files) → IsLoadedOn (sought_by command) files (Err a) → IsVerdict (a_command command) files (Err a))
-    → IsLookedUp (sought_by command) old new (Err a) → IsJudgedOn command old new (Err a)
+    → ((files : Files) → IsLoadedOn (input_files_of command) files (Err a) → IsVerdict (a_command command) files (Err a))
+    → IsLookedUp (input_files_of command) old new (Err a) → IsJudgedOn command old new (Err a)
 up_refused command old new a gives h =
     record {
-      staged = refusal_within (IsLoadedOn (sought_by command)) (IsTurn (sought_by command)) (IsVerdict (a_command command))
-          (IsTurn (sought_by command)) old new a
+      staged = refusal_within (IsLoadedOn (input_files_of command)) (IsTurn (input_files_of command)) (IsVerdict (a_command command))
+          (IsTurn (input_files_of command)) old new a
           gives (λ files name turn. turn) h.staged;
       tells = h.tells;
     }
@@ -40,22 +40,22 @@ looked_refused (session script words) old new a h = up_refused (session script w
 looked_refused (prove words) old new a h = up_refused (prove words) old new a (λ files g. refused g) h
 looked_refused (verify proof words) old new a h = up_refused (verify proof words) old new a (λ files g. refused (refused g)) h
 looked_refused (load number rows) old new a h =
-    (pure_refused (IsLoadedOn (sought_by (load number rows)) (made_files number rows)) IsShaped a h.0, h.1)
+    (pure_refused (IsLoadedOn (input_files_of (load number rows)) (made_files number rows)) IsShaped a h.0, h.1)
 
 -- what is loaded and then has a structure has that verdict
-up_then : (command : Command) (old new : Shelved) (loaded : Loaded) (r : Result Found Reason)
-    → ((files : Files) → IsLoadedOn (sought_by command) files (Ok loaded) → IsShaped loaded r
+up_then : (command : Command) (old new : Shelved) (loaded : Loaded) (r : Result AcceptedInput Reason)
+    → ((files : Files) → IsLoadedOn (input_files_of command) files (Ok loaded) → IsShaped loaded r
     → IsVerdict (a_command command) files r)
-    → IsLookedUp (sought_by command) old new (Ok loaded) → Pure (IsShaped loaded) r → IsJudgedOn command old new r
+    → IsLookedUp (input_files_of command) old new (Ok loaded) → Pure (IsShaped loaded) r → IsJudgedOn command old new r
 up_then command old new loaded r gives h shaped =
     record {
-      staged = found_within (IsLoadedOn (sought_by command)) (IsTurn (sought_by command)) (λ files. IsShaped loaded) NoTurn
-          (IsVerdict (a_command command)) (IsTurn (sought_by command)) old new new loaded r
+      staged = found_within (IsLoadedOn (input_files_of command)) (IsTurn (input_files_of command)) (λ files. IsShaped loaded) NoTurn
+          (IsVerdict (a_command command)) (IsTurn (input_files_of command)) old new new loaded r
           gives (λ files name g no_turn. absurd no_turn) h.staged (pure_staged (IsShaped loaded) new r shaped);
-      tells = pure_result (IsNamed (sought_by command)) (IsShaped loaded) r shaped;
+      tells = pure_result (IsNamed (input_files_of command)) (IsShaped loaded) r shaped;
     }
 
-pub looked_then : (made : Task) (old new : Shelved) (loaded : Loaded) (r : Result Found Reason)
+pub looked_then : (made : Task) (old new : Shelved) (loaded : Loaded) (r : Result AcceptedInput Reason)
     → IsPlanned (command_of made) → IsLooked (command_of made) old new (Ok loaded) → Pure (IsShaped loaded) r → IsJudged (command_of made) old new r
 looked_then (task.Run words) old new loaded r planned h shaped =
     up_then (command_of (task.Run words)) old new loaded r (λ files g s. followed g s) h shaped
@@ -64,17 +64,17 @@ looked_then (task.Plan words) old new loaded r planned h shaped =
 looked_then (task.Session script words) old new loaded r planned h shaped =
     up_then (command_of (task.Session script words)) old new loaded r (λ files g s. followed g s) h shaped
 looked_then (task.Load engine made) old new loaded r planned h shaped =
-    (pure_found (IsLoadedOn (sought_by (load made.number made.rows)) (made_files made.number made.rows)) IsShaped loaded r h.0 shaped, h.1)
+    (pure_found (IsLoadedOn (input_files_of (load made.number made.rows)) (made_files made.number made.rows)) IsShaped loaded r h.0 shaped, h.1)
 looked_then (task.Prove words) old new loaded r planned h shaped =
     up_then (command_of (task.Prove words)) old new loaded r (λ files g s. followed g s) h shaped
 looked_then (task.Verify proof words) old new loaded r planned h shaped = absurd planned
 
 -- what is found is told once
-pub same_found : {a b : Found} → ◌≡◌ {A = Result Found Reason} (Ok a) (Ok b) → a ≡ b
+pub same_found : {a b : AcceptedInput} → ◌≡◌ {A = Result AcceptedInput Reason} (Ok a) (Ok b) → a ≡ b
 same_found e = cc
 
 -- what is accepted was structured
-pub verdict_structured : (command : Command) (files : Files) (found : Found) → IsVerdict (a_command command) files (Ok found)
+pub verdict_structured : (command : Command) (files : Files) (found : AcceptedInput) → IsVerdict (a_command command) files (Ok found)
     → IsStructured (a_command command) files (Ok found)
 verdict_structured (run words) files found h = h
 verdict_structured (plan words) files found h = h
@@ -82,7 +82,7 @@ verdict_structured (session script words) files found h = h
 verdict_structured (load number rows) files found h = h
 verdict_structured (prove words) files found h = h
 verdict_structured (verify proof words) files found (followed {a = other} h (followed valid same)) =
-    subst (λ (f : Found). IsStructured (a_command (verify proof words)) files (Ok f)) (sym (same_found same)) h
+    subst (λ (f : AcceptedInput). IsStructured (a_command (verify proof words)) files (Ok f)) (sym (same_found same)) h
 
 -- what is known of the item whose rows are asked for
 pub unnamed_of : (command : Command) (input : InputView) → HasOne command input → IsUnnamed command input.best

@@ -6,7 +6,7 @@ use Rattle.std.specs.Str.{bytes_eq}
 use Rattle.cmd_words.specs.declared.pairs.Named.{Named}
 use Rattle.cmd_words.specs.NamedPairs.{named_pair, are_distinct as have_distinct_names}
 use Rattle.make_input.specs.Input.{files, load_query, query_file, table_files}
-use Rattle.outer_io.specs.declared.held.MemFile.{MemFile}
+use Rattle.outer_io.specs.declared.mem_files.MemFile.{MemFile}
 use Rattle.outer_io.specs.Entries.{are_distinct, entry_of}
 use Rattle.verdict.specs.MadeFiles.{made_files}
 use Rattle.command_input.proofs.FirstUses.{list_any_map}

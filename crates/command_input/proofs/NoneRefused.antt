@@ -18,13 +18,13 @@ use Rattle.query_select.specs.declared.select.Select.{Select}
 use Rattle.refusals.specs.Reason as reason
 use Rattle.refusals.specs.Reason.{Reason}
 use Rattle.verdict.specs.Faults.{of_bind, of_flaw, of_parse}
-use Rattle.verdict.specs.Loading.{Beside, IsParse, IsReading, Loaded, all_items, are_several, bound_as, bound_from, bound_in, file_in, file_with, first_uses, first_uses_after, known_file, loaded_in, most_bytes, odd_branch, sound_table, beside_in, with_steps, table_in, table_names, table_numbers, tables_in, told_branch, unknown_table, unknown_with}
+use Rattle.verdict.specs.Loading.{SideInput, IsParse, IsReading, Loaded, all_items, are_several, bound_as, bound_from, bound_in, file_in, file_with, first_uses, first_uses_after, known_file, loaded_in, most_bytes, odd_branch, sound_table, beside_in, with_steps, table_in, table_names, table_numbers, tables_in, told_branch, unknown_table, unknown_with}
 use Rattle.verdict.specs.MadeFiles.{made_files}
-use Rattle.verdict.specs.StageResults.{Causes, Fits, Pure, Shelved}
+use Rattle.verdict.specs.StageResults.{Causes, IsStageOf, Pure, Shelved}
 use Rattle.session_script.specs.Script.{unless}
 use Rattle.verdict.specs.Stages.{Is, Then, followed, refused, then_by}
-use Rattle.verdict.specs.Verdict.{IsAccompanied, IsBound, IsLoadedOn, IsRead, IsSelected, IsTabled}
-use Rattle.verdict.specs.Words.{Named, Sought, load, nothing, sought_by}
+use Rattle.verdict.specs.Verdict.{IsAccompanied, IsBoundInput, IsLoadedOn, IsRead, IsSelected, IsTabled}
+use Rattle.verdict.specs.Words.{Named, InputFiles, load, nothing, input_files_of}
 use Rattle.make_input.proofs.Short.{files_short}
 use Rattle.command_input.proofs.Files.{short_bytes}
 use Rattle.command_input.proofs.Shapes.{odd_told}
@@ -180,28 +180,28 @@ known_is (Some e) selects known is = cc
 
 -- a query file with one query and tables' files, without a script and without an item
 module _ (query : List ℕ) (named : Named) (files : Files) (held : AllByRecursion (IsHeld files) named) where
-  abbrev asked : Sought
+  abbrev asked : InputFiles
   asked = record { query = query; several = false; aside = nothing; named = named; best_of = None }
 
-  loaded_in_none : (queries : List Query) (tables : List Table) (beside : Beside) → NoneRefused (loaded_in None queries tables beside)
+  loaded_in_none : (queries : List Query) (tables : List Table) (beside : SideInput) → NoneRefused (loaded_in None queries tables beside)
   loaded_in_none queries tables beside =
       then_by_none (unless (odd_branch queries) queries) (λ queries. Ok (record { queries = queries; tables = tables; best = None; steps = beside.steps; proof = beside.proof }))
       (shapes_none queries) (λ queries. tt)
 
-  bound_none : (selects : List Select) (tables : List Table) (beside : Beside) (r : Result Loaded Reason) → IsBound asked selects tables beside r → NoneRefused r
+  bound_none : (selects : List Select) (tables : List Table) (beside : SideInput) (r : Result Loaded Reason) → IsBoundInput asked selects tables beside r → NoneRefused r
   bound_none selects tables beside r =
       then_none (Is (bound_in selects tables)) (λ bound. Is (loaded_in None bound tables beside)) r
       (λ x is. is_none (bound_in selects tables) x (queries_none (first_uses (all_items selects)) tables (are_several selects) 1 selects) is)
       (λ bound given y h. is_none (loaded_in None bound tables beside) y (loaded_in_none bound tables beside) h)
 
-  tabled_none : (selects : List Select) (beside : Beside) → unknown_table named (all_items selects) ≡ None → (r : Result Loaded Reason) → IsTabled asked files selects beside r → NoneRefused r
+  tabled_none : (selects : List Select) (beside : SideInput) → unknown_table named (all_items selects) ≡ None → (r : Result Loaded Reason) → IsTabled asked files selects beside r → NoneRefused r
   tabled_none selects beside known r =
       let all = uses_all (IsNamed named) [] (table_names (all_items selects)) (named_all named (all_items selects) known) in
-      then_none (Is (tables_in files named (first_uses (all_items selects)))) (λ tables. IsBound asked selects tables beside) r
+      then_none (Is (tables_in files named (first_uses (all_items selects)))) (λ tables. IsBoundInput asked selects tables beside) r
       (λ x is. is_none (tables_in files named (first_uses (all_items selects))) x (tables_none files named (first_uses (all_items selects)) held all) is)
       (λ tables given y h. bound_none selects tables beside y h)
 
-  selected_none : (selects : List Select) (beside : Beside) (r : Result Loaded Reason) → IsSelected asked files selects beside r → NoneRefused r
+  selected_none : (selects : List Select) (beside : SideInput) (r : Result Loaded Reason) → IsSelected asked files selects beside r → NoneRefused r
   selected_none selects beside r =
       then_none (Is (unless (unknown_table named (all_items selects)) selects)) (λ known. IsTabled asked files known beside) r
       (λ x is. is_none (unless (unknown_table named (all_items selects)) selects) x (unknown_none named (all_items selects) selects) is)
@@ -227,7 +227,7 @@ module _ (query : List ℕ) (named : Named) (files : Files) (held : AllByRecursi
       (λ bytes given y h. read_none bytes y h)
 
 -- the files that are made
-pub made_none : (number rows : ℕ) → rows ≤ 100000 → (r : Result Loaded Reason) → IsLoadedOn (sought_by (load number rows)) (made_files number rows) r → NoneRefused r
+pub made_none : (number rows : ℕ) → rows ≤ 100000 → (r : Result Loaded Reason) → IsLoadedOn (input_files_of (load number rows)) (made_files number rows) r → NoneRefused r
 made_none number rows few =
     let short = files_short number rows few in
     loaded_none query_file table_files (made_files number rows) (short.1.0, (short.1.1.0, (short.1.1.1.0, (short.1.1.1.1.0, tt)))) short.0
@@ -239,7 +239,7 @@ no_rise before now first last (inl risen) = absurd (omega (arith, first, last, r
 no_rise before now first last (inr full) = absurd (omega (arith, last, full))
 
 pub pure_told : {A : Type 0} (G : Files → Result A Reason → Type 0) (T : Files → List ℕ → Type 0) (files : Files) (old new : Shelved) (r : Result A Reason)
-    → (G files r → NoneRefused r) → Fits G T (Some files) r → old.faults ≡ 0 → new.faults ≡ 0 → Causes old new r → Pure (G files) r
+    → (G files r → NoneRefused r) → IsStageOf G T (Some files) r → old.faults ≡ 0 → new.faults ≡ 0 → Causes old new r → Pure (G files) r
 pure_told G T files old new (Ok a) none fits first last caused = fits
 pure_told G T files old new (Err reason.NoMemory) none fits first last caused = tt
 pure_told G T files old new (Err (reason.NoFile name)) none fits first last caused = none fits

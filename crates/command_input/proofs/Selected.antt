@@ -7,16 +7,16 @@ use Rattle.query_select.specs.declared.select.Select.{Select}
 use Rattle.rankings.specs.Order.{IsMember}
 use Rattle.refusals.specs.Reason.{Reason}
 use Rattle.session_script.specs.Script.{unless}
-use Rattle.verdict.specs.Loading.{Beside, Loaded, all_items, beside_in, files_read, first_uses, tables_in, unknown_table}
+use Rattle.verdict.specs.Loading.{SideInput, Loaded, all_items, beside_in, files_read, first_uses, tables_in, unknown_table}
 use Rattle.verdict.specs.StageResults.{NoTurn, Pure, Shelved, Staged}
 use Rattle.verdict.specs.Stages.{Is}
-use Rattle.verdict.specs.Verdict.{IsAccompanied, IsBound, IsSelected, IsTabled}
-use Rattle.verdict.specs.Words.{Sought, aside_name}
+use Rattle.verdict.specs.Verdict.{IsAccompanied, IsBoundInput, IsSelected, IsTabled}
+use Rattle.verdict.specs.Words.{InputFiles, aside_name}
 use Rattle.verdict.proofs.Staging.{found_then, pure_staged, refusal_then}
-use Rattle.command_input.specs.Turns.{IsAccompaniedTurn, IsSelectedTurn, IsTabledTurn}
+use Rattle.command_input.specs.FilesRead.{IsAccompaniedTurn, IsSelectedTurn, IsTabledTurn}
 
-module _ (sought : Sought) (selects : List Select) where
-  abbrev beside_of : Files → Result Beside Reason → Type 0
+module _ (sought : InputFiles) (selects : List Select) where
+  abbrev beside_of : Files → Result SideInput Reason → Type 0
   beside_of files = Is (beside_in files sought.aside)
 
   abbrev IsAside : Files → List ℕ → Type 0
@@ -28,7 +28,7 @@ module _ (sought : Sought) (selects : List Select) where
   beside_refused = refusal_then beside_of IsAside (λ beside files. IsSelected sought files selects beside) (λ beside files. IsSelectedTurn sought files selects)
 
   -- it was read
-  pub beside_read : (old mid new : Shelved) (beside : Beside) (r : Result Loaded Reason) → Staged beside_of IsAside old mid (Ok beside)
+  pub beside_read : (old mid new : Shelved) (beside : SideInput) (r : Result Loaded Reason) → Staged beside_of IsAside old mid (Ok beside)
       → Staged (λ files. IsSelected sought files selects beside) (λ files. IsSelectedTurn sought files selects) mid new r
       → Staged (λ files. IsAccompanied sought files selects) (λ files. IsAccompaniedTurn sought files selects) old new r
   beside_read = found_then beside_of IsAside (λ beside files. IsSelected sought files selects beside) (λ beside files. IsSelectedTurn sought files selects)
@@ -42,7 +42,7 @@ module _ (sought : Sought) (selects : List Select) where
   abbrev IsFileOf : Files → List ℕ → Type 0
   IsFileOf files file = IsMember file (files_read files sought.named (first_uses (all_items selects)))
 
-  module _ (beside : Beside) where
+  module _ (beside : SideInput) where
     -- an item's table is not named
     pub unknown_refused : (s : Shelved) (e : Reason) → Pure (Is known) (Err e)
         → Staged (λ files. IsSelected sought files selects beside) (λ files. IsSelectedTurn sought files selects) s s (Err e)
@@ -62,13 +62,13 @@ module _ (sought : Sought) (selects : List Select) where
         → Staged (λ files. IsSelected sought files selects beside) (λ files. IsSelectedTurn sought files selects) old new (Err e)
     tables_refused old new e h s =
         tables_after old new (Err e) h
-        (refusal_then tables_of IsFileOf (λ tables files. IsBound sought selects tables beside) (λ tables. NoTurn) old new e s)
+        (refusal_then tables_of IsFileOf (λ tables files. IsBoundInput sought selects tables beside) (λ tables. NoTurn) old new e s)
 
     -- the tables were read
     pub tables_read : (old new : Shelved) (tables : List Table) (r : Result Loaded Reason) → Is known (Ok selects) → Staged tables_of IsFileOf old new (Ok tables)
-        → Pure (IsBound sought selects tables beside) r
+        → Pure (IsBoundInput sought selects tables beside) r
         → Staged (λ files. IsSelected sought files selects beside) (λ files. IsSelectedTurn sought files selects) old new r
     tables_read old new tables r h s bound =
         tables_after old new r h
-        (found_then tables_of IsFileOf (λ tables files. IsBound sought selects tables beside) (λ tables. NoTurn) old new new tables r s
-        (pure_staged (IsBound sought selects tables beside) new r bound))
+        (found_then tables_of IsFileOf (λ tables files. IsBoundInput sought selects tables beside) (λ tables. NoTurn) old new new tables r s
+        (pure_staged (IsBoundInput sought selects tables beside) new r bound))

@@ -12,15 +12,15 @@ use Rattle.refusals.specs.declared.refusal.Refusal.{Refusal}
 use Rattle.refusals.specs.Reason as reason
 use Rattle.refusals.specs.Reason.{Reason}
 use Rattle.refusals.specs.RefusalReasons.{reason_of}
-use Rattle.verdict.specs.Loading.{Beside, Loaded}
+use Rattle.verdict.specs.Loading.{SideInput, Loaded}
 use Rattle.verdict.specs.StageResults.{Pure, TellsOne}
 use Rattle.verdict.specs.Words.{Named, table_file_names}
 use Rattle.command_input.specs.Entries.{IsEntryOf}
 use Rattle.command_input.specs.Input.{InputView}
 use Rattle.command_input.specs.StageViews.{beside_result_view, file_reason, input_result_view, table_reason}
-use Rattle.command_input.specs.Wholes.{bound_result_view}
-use Rattle.command_input.specs.declared.aside.Beside.{Beside as BesideRead}
-use Rattle.command_input.specs.declared.binding.Bound.{Bound}
+use Rattle.command_input.specs.BoundInputs.{bound_result_view}
+use Rattle.command_input.specs.declared.side_input.SideInput.{SideInput as BesideRead}
+use Rattle.command_input.specs.declared.binding.BoundInput.{BoundInput}
 
 -- a file that is not read is told
 pub file_told : (name : List ℕ) (fault : FileFault) → TellsOne (λ told. told ≡ name) (file_reason name fault)
@@ -61,12 +61,12 @@ module _ (IsOne : List ℕ → Type 0) where
   pure_result G (Ok a) h = tt
   pure_result G (Err a) h = pure_tells G a h
 
-  pub beside_tells : (G : Result Beside Reason → Type 0) (r : Result BesideRead Refusal) → Pure G (beside_result_view r)
+  pub beside_tells : (G : Result SideInput Reason → Type 0) (r : Result BesideRead Refusal) → Pure G (beside_result_view r)
       → IfErr r (λ refusal. TellsOne IsOne (reason_of refusal))
   beside_tells G (Ok beside) h = tt
   beside_tells G (Err refusal) h = pure_tells G (reason_of refusal) h
 
-  pub bound_tells : (G : Result Loaded Reason → Type 0) (beside : Beside) (r : Result Bound Refusal) → Pure G (bound_result_view beside r)
+  pub bound_tells : (G : Result Loaded Reason → Type 0) (beside : SideInput) (r : Result BoundInput Refusal) → Pure G (bound_result_view beside r)
       → IfErr r (λ refusal. TellsOne IsOne (reason_of refusal))
   bound_tells G beside (Ok bound) h = tt
   bound_tells G beside (Err refusal) h = pure_tells G (reason_of refusal) h

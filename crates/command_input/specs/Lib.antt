@@ -1,9 +1,9 @@
 pub mod Tasks
-pub mod Judgement
+pub mod Planned
 pub mod Entries
 pub mod Input
 pub mod Limits
 pub mod StageViews
-pub mod Sought
-pub mod Turns
-pub mod Wholes
+pub mod InputFiles
+pub mod FilesRead
+pub mod BoundInputs

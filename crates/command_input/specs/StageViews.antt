@@ -19,12 +19,12 @@ use Rattle.refusals.specs.Reason.{Reason}
 use Rattle.refusals.specs.RefusalReasons.{reason_of}
 use Rattle.verdict.specs.AcceptedInput.{queries_in}
 use Rattle.verdict.specs.Faults.{of_bind, of_parse}
-use Rattle.verdict.specs.Loading.{Beside, Loaded, are_several, bound_in, told_branch}
+use Rattle.verdict.specs.Loading.{SideInput, Loaded, are_several, bound_in, told_branch}
 use Rattle.verdict.specs.StageResults.{Pure}
 use Rattle.verdict.specs.Stages.{Is}
-use Rattle.command_input.specs.declared.aside.Beside.{Beside as BesideRead}
-use Rattle.command_input.specs.declared.uses.UsesFault.{UsesFault}
-use Rattle.command_input.specs.declared.uses.UsesFault.TheVariants as uses
+use Rattle.command_input.specs.declared.side_input.SideInput.{SideInput as BesideRead}
+use Rattle.command_input.specs.declared.table_uses.UsesFault.{UsesFault}
+use Rattle.command_input.specs.declared.table_uses.UsesFault.TheVariants as uses
 use Rattle.command_input.specs.Input.{InputView, loaded_of}
 
 abbrev pub tables_result_view : Result (List Table) Refusal → Result (List Table) Reason
@@ -64,10 +64,10 @@ bytes_result_view (Ok bytes) = Ok bytes.items
 bytes_result_view (Err refusal) = Err (reason_of refusal)
 
 -- what was read beside the query and the tables
-abbrev pub beside_view : BesideRead → Beside
+abbrev pub beside_view : BesideRead → SideInput
 beside_view beside = record { steps = beside.script.items; proof = proof_view beside.proof }
 
-abbrev pub beside_result_view : Result BesideRead Refusal → Result Beside Reason
+abbrev pub beside_result_view : Result BesideRead Refusal → Result SideInput Reason
 beside_result_view (Ok beside) = Ok (beside_view beside)
 beside_result_view (Err refusal) = Err (reason_of refusal)
 

@@ -8,18 +8,18 @@ ghost use Rattle.refusals.specs.Reason.{BranchShape};
 ghost use Rattle.refusals.specs.RefusalReasons.{reason_of};
 ghost use Rattle.verdict.specs.AcceptedInput.{queries_in};
 ghost use Rattle.verdict.specs.Faults.{of_bind};
-ghost use Rattle.verdict.specs.Loading.{Beside as BesideView, all_items, best_in, bound_in, first_uses};
+ghost use Rattle.verdict.specs.Loading.{SideInput as SideInputView, all_items, best_in, bound_in, first_uses};
 ghost use Rattle.verdict.specs.Loading.{have_directions, have_one_shape, odd_branch, table_numbers, told_branch};
 ghost use Rattle.session_script.specs.Script.{unless};
 ghost use Rattle.verdict.specs.Stages.{Is, then_by};
 ghost use Rattle.verdict.specs.StageResults.{Pure};
-ghost use Rattle.verdict.specs.Verdict.{IsBound};
+ghost use Rattle.verdict.specs.Verdict.{IsBoundInput};
 ghost use Rattle.command_input.specs.Limits.{AreWithinLimits};
-ghost use Rattle.command_input.specs.Wholes.{IsWhole, bound_result_view};
+ghost use Rattle.command_input.specs.BoundInputs.{IsWhole, bound_result_view};
 ghost use Rattle.command_input.specs.StageViews.{BindsEach, item_result_view, queries_result_view};
-ghost use Rattle.command_input.specs.Sought.{sought_view};
+ghost use Rattle.command_input.specs.InputFiles.{sought_view};
 
-use crate::sought::Sought;
+use crate::input_files::InputFiles;
 use bound_query::Query;
 use proof_model::Proof;
 use query_bind::{BindFault, bind};
@@ -73,7 +73,7 @@ impl Model for Input {
 
 /// The queries of the branches, bound to the tables.
 #[derive(Drop)]
-pub(crate) struct Bound {
+pub(crate) struct BoundInput {
     /// The query of each branch; one query if there are no branches.
     pub(crate) queries: Vec<Query>,
     /// The tables, in the order of their first use.
@@ -88,24 +88,24 @@ pub(crate) struct Bound {
 /// named, `UnionBest` if an item is named and there are several branches, or `NoMemory`.
 pub(crate) fn bound_to<'a>(
     alloc: Global,
-    sought: &Sought<'a>,
+    sought: &InputFiles<'a>,
     selects: &[Select],
     tables: Tables,
     which: &[u32],
-) -> Result<Bound, Refusal<'a>>
+) -> Result<BoundInput, Refusal<'a>>
     requires limits { AreWithinLimits selects.now }
     requires numbers { let items = all_items selects.now in
         which.now ≡ table_numbers (first_uses items) items }
     requires known { AllByRecursion (λ t. t < length tables) which.now }
-    ensures bound { let asked = sought_view sought.now in (beside : BesideView)
-        → Pure (IsBound asked selects.now tables beside) (bound_result_view beside result) }
+    ensures bound { let asked = sought_view sought.now in (beside : SideInputView)
+        → Pure (IsBoundInput asked selects.now tables beside) (bound_result_view beside result) }
     ensures whole { IfOk result IsWhole }
     ensures branches { IfOk result (λ bound. length bound.queries.items ≡ length selects.now) }
     ensures unnamed { sought.now.best_of ≡ None → IfOk result (λ bound. bound.best ≡ None) }
 {
     let queries = bind_queries(alloc, selects, &tables, which)?;
     let best = best_item(&queries, sought.best_of)?;
-    Ok(Bound {
+    Ok(BoundInput {
         queries,
         tables,
         best,

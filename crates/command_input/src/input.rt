@@ -1,23 +1,23 @@
 //! The stages of loading, one after another.
 ghost use Rattle.std.specs.Prelude.{◌≡◌, None, false, IfErr, IfOk, length};
 ghost use Rattle.refusals.specs.RefusalReasons.{reason_of};
-ghost use Rattle.verdict.specs.Loading.{Beside as BesideView};
+ghost use Rattle.verdict.specs.Loading.{SideInput as SideInputView};
 ghost use Rattle.verdict.specs.StageResults.{Staged, TellsOne, shelved};
 ghost use Rattle.verdict.specs.Verdict.{IsAccompanied, IsLoadedOn, IsSelected};
 ghost use Rattle.verdict.specs.Words.{IsNamed};
 ghost use Rattle.command_input.specs.Limits.{AreWithinLimits};
 ghost use Rattle.command_input.specs.StageViews.{input_result_view};
-ghost use Rattle.command_input.specs.Sought.{sought_view};
-ghost use Rattle.command_input.specs.Turns.{IsAccompaniedTurn, IsSelectedTurn, IsTurn};
-ghost use Rattle.command_input.specs.Wholes.{IsWhole, bound_result_view};
+ghost use Rattle.command_input.specs.InputFiles.{sought_view};
+ghost use Rattle.command_input.specs.FilesRead.{IsAccompaniedTurn, IsSelectedTurn, IsTurn};
+ghost use Rattle.command_input.specs.BoundInputs.{IsWhole, bound_result_view};
 
-use crate::aside::load_beside;
-use crate::binding::{Bound, Input, bound_to};
+use crate::binding::{BoundInput, Input, bound_to};
 use crate::file::load;
+use crate::input_files::InputFiles;
 use crate::query::{parse_refusal, read_selects};
-use crate::sought::Sought;
+use crate::side_input::read_side_input;
+use crate::table_uses::uses_of;
 use crate::tables::read_tables;
-use crate::uses::uses_of;
 use hash_keys::Keys;
 use outer_io::Shelf;
 use query_select::select::Select;
@@ -26,9 +26,9 @@ use std::alloc::Global;
 
 /// The input that is in the query file, in the file of the script or of the certificate, if there
 /// is one, and in the tables' files, or its first refusal. The tables are hashed with these keys.
-pub fn load_input<'a, F: Shelf>(
+pub fn read_files<'a, F: Shelf>(
     alloc: Global,
-    sought: &Sought<'a>,
+    sought: &InputFiles<'a>,
     shelf: &mut F,
     keys: Keys,
 ) -> Result<Input, Refusal<'a>>
@@ -52,7 +52,7 @@ pub fn load_input<'a, F: Shelf>(
 /// The stages after the query, or each of its branches, was parsed.
 fn select_input<'a, F: Shelf>(
     alloc: Global,
-    sought: &Sought<'a>,
+    sought: &InputFiles<'a>,
     selects: &[Select],
     shelf: &mut F,
     keys: Keys,
@@ -67,7 +67,7 @@ fn select_input<'a, F: Shelf>(
     ensures branches { IfOk result (λ input. length input.queries ≡ length selects.now) }
     ensures unnamed { sought.now.best_of ≡ None → IfOk result (λ input. input.best ≡ None) }
 {
-    let beside = load_beside(alloc, sought.aside, shelf)?;
+    let beside = read_side_input(alloc, sought.aside, shelf)?;
     let bound = load_bound(alloc, sought, selects, shelf, keys)?;
     Ok(Input {
         queries: bound.queries,
@@ -81,13 +81,13 @@ fn select_input<'a, F: Shelf>(
 /// The stages after the script or the certificate was read, on which they do not depend.
 fn load_bound<'a, F: Shelf>(
     alloc: Global,
-    sought: &Sought<'a>,
+    sought: &InputFiles<'a>,
     selects: &[Select],
     shelf: &mut F,
     keys: Keys,
-) -> Result<Bound, Refusal<'a>>
+) -> Result<BoundInput, Refusal<'a>>
     requires { AreWithinLimits selects.now }
-    ensures staged { let asked = sought_view sought.now in (beside : BesideView)
+    ensures staged { let asked = sought_view sought.now in (beside : SideInputView)
         → Staged (λ files. IsSelected asked files selects.now beside)
         (λ files. IsSelectedTurn asked files selects.now)
         (shelved F.Shelf shelf.old) (shelved F.Shelf shelf.new) (bound_result_view beside result) }

@@ -7,24 +7,24 @@
 //! is named. What a plan refuses comes after that, in the crates above.
 #![tactic(auto)]
 
-mod aside;
 mod binding;
 mod file;
 mod generated;
+mod generated_input;
 mod input;
-mod looking;
-mod made;
+mod input_files;
 mod query;
-mod sought;
+mod reading_input;
+mod side_input;
+mod table_uses;
 mod tables;
 mod task;
-mod uses;
 
-pub use aside::proof_refusal;
 pub use binding::Input;
 pub use generated::MadeTables;
-pub use input::load_input;
-pub use looking::{look_at, look_up};
-pub use made::load_made;
-pub use sought::{Aside, Sought};
+pub use generated_input::generate_input;
+pub use input::read_files;
+pub use input_files::{InputFiles, SideFile};
+pub use reading_input::{read_files_of, read_input};
+pub use side_input::proof_refusal;
 pub use task::Task;

@@ -10,7 +10,7 @@ use Rattle.bound_query.specs.Steps.{calls_for}
 use Rattle.witness_key.specs.WitnessKey.{AreCombinations, combinations_in}
 use Rattle.output_model.specs.Summary.{member_text, rows_in_all, summary_text}
 use Rattle.command_output.specs.Ends.{HasEnds, ends_text}
-use Rattle.command_output.specs.declared.ends.Ends.{Ends}
+use Rattle.command_output.specs.declared.first_and_last.FirstAndLast.{FirstAndLast}
 
 -- ---- lists
 
@@ -69,7 +69,7 @@ module _ (width : ℕ) (counts : List ℕ) where
   last_chosen earlier [] before all = before
   last_chosen earlier (answer ∷ answers) before all = last_chosen (Some answer) answers all.0 all.1
 
-module _ (query : Query) (tables : List Table) (ends : Ends) (answers : List AnswerView) (all : AreCombinations query tables answers)
+module _ (query : Query) (tables : List Table) (ends : FirstAndLast) (answers : List AnswerView) (all : AreCombinations query tables answers)
     (h : HasEnds (cut query.limit answers) ends) where
   abbrev width : ℕ
   width = length query.items

@@ -10,10 +10,10 @@ use Rattle.bound_query.specs.Steps.{steps_for}
 use Rattle.bound_query.proofs.Pacing.{steps_more}
 use Rattle.bound_query.proofs.Calls.{HasCalled, rises_from}
 use Rattle.command_output.specs.Ends.{HasEnds}
-use Rattle.command_output.specs.declared.ends.Ends.{Ends}
+use Rattle.command_output.specs.declared.first_and_last.FirstAndLast.{FirstAndLast}
 
 -- the first i answers were given, and the engine has the others left
-pub record HasTaken (answers : List AnswerView) (i : ℕ) (left : List AnswerView) (ends : Ends) (share : List ℕ → ℕ → ℕ) (size : List ℕ) (calls : ℕ) (size_now : List ℕ) (calls_now started spent : ℕ) : Type 0 where
+pub record HasTaken (answers : List AnswerView) (i : ℕ) (left : List AnswerView) (ends : FirstAndLast) (share : List ℕ → ℕ → ℕ) (size : List ℕ) (calls : ℕ) (size_now : List ℕ) (calls_now started spent : ℕ) : Type 0 where
   pub rest : left ≡ drop i answers
   pub within : i ≤ length answers
   pub kept : HasEnds (take i answers) ends
@@ -32,7 +32,7 @@ first_behind f (y ∷ xs) x = refl
 abbrev rows_of : AnswerView → List ℕ
 rows_of answer = answer.rows
 
-pub ends_more : (given : List AnswerView) (answer : AnswerView) (rows : List ℕ) (old new : Ends) → HasEnds given old → answer.rows ≡ rows
+pub ends_more : (given : List AnswerView) (answer : AnswerView) (rows : List ℕ) (old new : FirstAndLast) → HasEnds given old → answer.rows ≡ rows
     → new.count ≡ old.count + 1 → new.first ≡ option_or old.first (Some rows) → new.last ≡ Some rows → HasEnds (given ++ answer ∷ []) new
 ends_more given answer rows old new h same count first last = record {
   count = let before = h.count in omega (arith, count, before, length-append given (answer ∷ []));
@@ -55,9 +55,9 @@ module _ (answers : List AnswerView) (i : ℕ) where
   none_left : drop i answers ≡ [] → length answers ≤ i
   none_left empty = omega (arith, ap length empty, length-drop i answers)
 
-  module _ (left : List AnswerView) (ends : Ends) (share : List ℕ → ℕ → ℕ) (size : List ℕ) (calls : ℕ) (size_now : List ℕ) (calls_now started spent : ℕ)
+  module _ (left : List AnswerView) (ends : FirstAndLast) (share : List ℕ → ℕ → ℕ) (size : List ℕ) (calls : ℕ) (size_now : List ℕ) (calls_now started spent : ℕ)
       (h : HasTaken answers i left ends share size calls size_now calls_now started spent) where
-    pub taken_more : (answer : AnswerView) (rest : List AnswerView) (new : Ends) (size_later : List ℕ) (calls_later later : ℕ) → left ≡ answer ∷ rest
+    pub taken_more : (answer : AnswerView) (rest : List AnswerView) (new : FirstAndLast) (size_later : List ℕ) (calls_later later : ℕ) → left ≡ answer ∷ rest
         → HasEnds (take i answers ++ answer ∷ []) new → HasCalled share size calls (i + 1) size_later calls_later started later
         → HasTaken answers (i + 1) rest new share size calls size_later calls_later started later
     taken_more answer rest new size_later calls_later later is ends_are called =

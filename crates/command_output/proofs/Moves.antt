@@ -8,7 +8,7 @@ use Rattle.std.proofs.lemmas.List.Quantifiers.{position-Some}
 use Rattle.cursor_set.specs.CursorSet.{CursorSet}
 use Rattle.output_model.specs.Session.{Places, with_cursor}
 use Rattle.command_output.specs.declared.open_cursors.OpenCursor.{OpenCursor}
-use Rattle.command_output.specs.OpenCursors.{AreOthers, Found, IsAt, IsHeld, is_named}
+use Rattle.command_output.specs.OpenCursors.{AreOthers, HasCursor, IsAt, HoldsCursors, is_named}
 use Rattle.command_output.proofs.Names.{name_differs, name_same, same_name}
 
 abbrev pub Cursor : Type 0
@@ -43,7 +43,7 @@ cond-false : {A : Type 0} (b : Bool) (x y : A) → b ≡ false → cond b x y �
 cond-false b x y e = rw e refl
 
 -- one cursor replaces what was there, with the one name that it has before or after
-module _ (old new : CursorSet) (cursors : List Cursor) (places : Places) (number : ℕ) (name : List ℕ) (now : Cursor) (held : IsHeld old cursors places)
+module _ (old new : CursorSet) (cursors : List Cursor) (places : Places) (number : ℕ) (name : List ℕ) (now : Cursor) (held : HoldsCursors old cursors places)
     (within : number < length cursors) (only : (j : ℕ) (c : OpenCursor) → IsAt cursors j c → c.name.now ≡ name → j ≡ number)
     (here : (c : OpenCursor) → IsAt cursors number c → c.name.now ≡ name) (named : (c : OpenCursor) → Is now (Some c) → c.name.now ≡ name)
     (moved : new.places ≡ set old.places number (place_of_cursor now)) where
@@ -109,7 +109,7 @@ module _ (old new : CursorSet) (cursors : List Cursor) (places : Places) (number
     ]
   ]
 
-  pub held_put : IsHeld new (set cursors number now) (with_cursor places name (place_of_cursor now))
+  pub held_put : HoldsCursors new (set cursors number now) (with_cursor places name (place_of_cursor now))
   held_put = record {
     same = moved ∙ ap (λ (l : List (Option ℕ)). set l number (place_of_cursor now)) held.same ∙ sym (map-set place_of_cursor cursors number now);
     placed = placed_after;
@@ -119,7 +119,7 @@ module _ (old new : CursorSet) (cursors : List Cursor) (places : Places) (number
 
 -- ---- a new cursor
 
-module _ (old new : CursorSet) (cursors : List Cursor) (places : Places) (number : ℕ) (held : IsHeld old cursors places)
+module _ (old new : CursorSet) (cursors : List Cursor) (places : Places) (number : ℕ) (held : HoldsCursors old cursors places)
     (free : position is_none old.places ≡ Some number) where
   places_long : length old.places ≡ length cursors
   places_long = ap length held.same ∙ length-map cursors place_of_cursor
@@ -138,7 +138,7 @@ module _ (old new : CursorSet) (cursors : List Cursor) (places : Places) (number
       by (Some p) e is = cc
 
   pub held_new : (c : OpenCursor) → places c.name.now ≡ None → new.places ≡ set old.places number (Some c.place)
-      → IsHeld new (set cursors number (Some c)) (with_cursor places c.name.now (Some c.place))
+      → HoldsCursors new (set cursors number (Some c)) (with_cursor places c.name.now (Some c.place))
   held_new c closed moved =
       held_put old new cursors places number c.name.now (Some c) held free_within
       (λ j d at is. no_place (sym closed ∙ sym (ap places is) ∙ held.placed j d at))
@@ -156,7 +156,7 @@ named_is name c is = name_same c.name.now name is
 
 -- if no cursor has the name, it is not open
 pub unknown_closed : {A : Type 0} (set : CursorSet) (cursors : List Cursor) (places : Places) (name : List ℕ) → length cursors ≡ 64 → AreOthers cursors name 64
-    → IsHeld set cursors places → IsSome (places name) → A
+    → HoldsCursors set cursors places → IsSome (places name) → A
 unknown_closed {A} s cursors places name long others held opened = by (places name) refl opened
   where
     by : (o : Option ℕ) → places name ≡ o → IsSome o → A
@@ -168,13 +168,13 @@ unknown_closed {A} s cursors places name long others held opened = by (places na
 
 -- its place in the set is its own place
 pub same_place : (in_set : List (Option ℕ)) (cursors : List Cursor) (number : ℕ) (name : List ℕ) (place : ℕ) → in_set ≡ map place_of_cursor cursors
-    → Found cursors number name place → get_or in_set number None ≡ Some place
+    → HasCursor cursors number name place → get_or in_set number None ≡ Some place
 same_place in_set cursors number name place same found =
     ap (λ (l : List (Option ℕ)). get_or l number None) same ∙ get_or-map place_of_cursor cursors number None None found.within
     ∙ ap place_of_cursor found.at ∙ ap Some found.there
 
-module _ (old new : CursorSet) (cursors : List Cursor) (places : Places) (number : ℕ) (name : List ℕ) (place : ℕ) (held : IsHeld old cursors places)
-    (found : Found cursors number name place) where
+module _ (old new : CursorSet) (cursors : List Cursor) (places : Places) (number : ℕ) (name : List ℕ) (place : ℕ) (held : HoldsCursors old cursors places)
+    (found : HasCursor cursors number name place) where
   pub place_held : get_or old.places number None ≡ Some place
   place_held = same_place old.places cursors number name place held.same found
 
@@ -182,7 +182,7 @@ module _ (old new : CursorSet) (cursors : List Cursor) (places : Places) (number
   place_named = ap places (sym found.is) ∙ held.placed number found.cursor found.at ∙ ap Some found.there
 
   held_moved : (now : Cursor) → ((d : OpenCursor) → Is now (Some d) → d.name.now ≡ name) → new.places ≡ set old.places number (place_of_cursor now)
-      → IsHeld new (set cursors number now) (with_cursor places name (place_of_cursor now))
+      → HoldsCursors new (set cursors number now) (with_cursor places name (place_of_cursor now))
   held_moved now named moved =
       held_put old new cursors places number name now held found.within
       (λ j d dt same. held.distinct j number d found.cursor dt found.at (same ∙ sym found.is))
@@ -190,17 +190,17 @@ module _ (old new : CursorSet) (cursors : List Cursor) (places : Places) (number
 
   -- it gets another place, or is closed
   pub held_at : (now : OpenCursor) → now.name.now ≡ name → new.places ≡ set old.places number (Some now.place)
-      → IsHeld new (set cursors number (Some now)) (with_cursor places name (Some now.place))
+      → HoldsCursors new (set cursors number (Some now)) (with_cursor places name (Some now.place))
   held_at now is moved = held_moved (Some now) (λ d same. ap (λ (e : OpenCursor). e.name.now) (sym (some_same same)) ∙ is) moved
 
-  pub held_closed : new.places ≡ set old.places number None → IsHeld new (set cursors number None) (with_cursor places name None)
+  pub held_closed : new.places ≡ set old.places number None → HoldsCursors new (set cursors number None) (with_cursor places name None)
   held_closed moved = held_moved None (λ d same. none_some same) moved
 
   -- a new cursor gets its place
   pub held_forked : (copy : ℕ) (now : OpenCursor) → position is_none old.places ≡ Some copy → places now.name.now ≡ None → now.place ≡ place
-      → new.places ≡ set old.places copy (get_or old.places number None) → IsHeld new (set cursors copy (Some now)) (with_cursor places now.name.now (places name))
+      → new.places ≡ set old.places copy (get_or old.places number None) → HoldsCursors new (set cursors copy (Some now)) (with_cursor places now.name.now (places name))
   held_forked copy now free closed there moved =
-      let P : Option ℕ → Type 0 = λ p. IsHeld new (set cursors copy (Some now)) (with_cursor places now.name.now p) in
+      let P : Option ℕ → Type 0 = λ p. HoldsCursors new (set cursors copy (Some now)) (with_cursor places now.name.now p) in
       let here : ◌≡◌ {A = Option ℕ} (Some place) (Some now.place) = ap Some (sym there) in
       subst P (sym (place_named ∙ here))
       (held_new old new cursors places copy held free now closed (moved ∙ ap (λ (p : Option ℕ). set old.places copy p) (place_held ∙ here)))

@@ -10,7 +10,7 @@ use Rattle.session_script.specs.declared.step.Step.{Step}
 use Rattle.session_script.specs.declared.step.Step.TheVariants.{Next}
 use Rattle.output_model.specs.Session.{Places, no_cursors, place_in, places_after}
 use Rattle.output_model.specs.SessionCalls.{calls_among, calls_of_step, calls_of_steps, ends_by_itself, reach_of_step, reach_of_steps}
-use Rattle.command_output.specs.SessionCosts.{IsWithin, Spent, calls_at}
+use Rattle.command_output.specs.SessionCosts.{KeepsSessionCost, Spent, calls_at}
 use Rattle.command_output.proofs.SessionCosts.{spent_places, spent_then, spent_wider, within_spent, within_then}
 
 -- ---- the calls of one step
@@ -97,8 +97,8 @@ module _ {share : List ℕ → ℕ → ℕ} {limit : Option ℕ} {ranking : List
       (among limit ranking start count) before at now h.spent
       (omega (arith, all)) (omega (arith, all, is)) all new next
 
-  pub given_within : (now : ℕ) → given < count → IsWithin share mid (place + calls_at limit place) (calls_at limit place) at now
-      → IsWithin share old (start + among limit ranking start count) (among limit ranking start count) before now
+  pub given_within : (now : ℕ) → given < count → KeepsSessionCost share mid (place + calls_at limit place) (calls_at limit place) at now
+      → KeepsSessionCost share old (start + among limit ranking start count) (among limit ranking start count) before now
   given_within now few next =
       let all = among_next few in
       let is = h.is in
@@ -173,8 +173,8 @@ module _ (share : List ℕ → ℕ → ℕ) (rises : (s : List ℕ) (c d : ℕ) 
         }
 
     -- the last of them was cut short
-    pub paid_stopped : IsWithin share mid (reach_of_step ends members places step) (calls_of_step ends members places step) at now
-        → IsWithin share old (reach_of_steps ends members no_cursors script) (calls_of_steps ends members no_cursors script) before now
+    pub paid_stopped : KeepsSessionCost share mid (reach_of_step ends members places step) (calls_of_step ends members places step) at now
+        → KeepsSessionCost share old (reach_of_steps ends members no_cursors script) (calls_of_steps ends members no_cursors script) before now
     paid_stopped within =
         let far = h.far in
         let many = h.many in
@@ -184,7 +184,7 @@ module _ (share : List ℕ → ℕ → ℕ) (rises : (s : List ℕ) (c d : ℕ) 
 
   -- the cost is within that of the whole script
   pub paid_all : (i : ℕ) (places : Places) (old now : CursorSet) (calls before spent : ℕ) → HasPaid share ends members script i places old now calls before spent
-      → IsWithin share old (reach_of_steps ends members no_cursors script) (calls_of_steps ends members no_cursors script) before spent
+      → KeepsSessionCost share old (reach_of_steps ends members no_cursors script) (calls_of_steps ends members no_cursors script) before spent
   paid_all i places old now calls before spent h =
       let far = h.far in
       let many = h.many in

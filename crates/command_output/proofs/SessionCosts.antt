@@ -5,7 +5,7 @@ use Rattle.std.proofs.lemmas.Nat.{mul-le}
 use Rattle.cursor_set.specs.CursorSet.{CursorSet, IsKnownAt, Keeps, place_of, seen_of}
 use Rattle.bound_query.specs.Steps.{steps_for}
 use Rattle.bound_query.proofs.Pacing.{steps_more}
-use Rattle.command_output.specs.SessionCosts.{IsWithin, Paid, Spent, engine_steps}
+use Rattle.command_output.specs.SessionCosts.{KeepsSessionCost, Paid, Spent, engine_steps}
 
 module _ (share : List ℕ → ℕ → ℕ) (rises : (s : List ℕ) (c d : ℕ) → c ≤ d → share s c ≤ share s d) where
   -- ---- calls of the engine
@@ -35,7 +35,7 @@ module _ (share : List ℕ → ℕ → ℕ) (rises : (s : List ℕ) (c d : ℕ) 
 
   -- ---- calls of the set, one after another
 
-  pub within_spent : (old new : CursorSet) (reach calls before now : ℕ) → Spent share old new reach calls before now → IsWithin share old reach calls before now
+  pub within_spent : (old new : CursorSet) (reach calls before now : ℕ) → Spent share old new reach calls before now → KeepsSessionCost share old reach calls before now
   within_spent old new reach calls before now s =
       let steps = s.steps in
       let far = s.far in
@@ -67,7 +67,7 @@ module _ (share : List ℕ → ℕ → ℕ) (rises : (s : List ℕ) (c d : ℕ) 
     few_calls : mid.calls ≤ old.calls + (seen_of mid - seen_of old)
     few_calls = let r = first.rises in let f = first.few in omega (arith, r, f)
 
-    pub within_then : IsWithin share mid further more at now → IsWithin share old whole all before now
+    pub within_then : KeepsSessionCost share mid further more at now → KeepsSessionCost share old whole all before now
     within_then within =
         let x = seen_of mid - seen_of old in
         let y = further - seen_of mid in
@@ -143,10 +143,10 @@ module _ (share : List ℕ → ℕ → ℕ) (rises : (s : List ℕ) (c d : ℕ) 
       (known : IsKnownAt old number → (new ≡ record old { places = new.places }) × (now ≤ before + 4)) (called : new.calls ≤ old.calls + 1)
       (cost : now ≤ before + share old.size old.calls + 4) where
     -- even if the call was refused memory
-    pub within_call : IsWithin share old (place + 1) 1 before now
+    pub within_call : KeepsSessionCost share old (place + 1) 1 before now
     within_call = by (is_known old place)
       where
-        by : ((place + 1 ≤ old.known) ⊎ (old.ended ≡ true)) ⊎ ((old.known ≤ place) × (old.ended ≡ false)) → IsWithin share old (place + 1) 1 before now
+        by : ((place + 1 ≤ old.known) ⊎ (old.ended ≡ true)) ⊎ ((old.known ≤ place) × (old.ended ≡ false)) → KeepsSessionCost share old (place + 1) 1 before now
         by (inl seen) = let few = (known (place, here, seen)).1 in omega (arith, few)
         by (inr (past, going)) =
             let seen = seen_open old going in
@@ -194,7 +194,7 @@ module _ (share : List ℕ → ℕ → ℕ) (rises : (s : List ℕ) (c d : ℕ) 
       subst B called (subst A same h)
 
   pub within_new : (set : CursorSet) (size : List ℕ) (first reach calls before now : ℕ) → set.size ≡ size → set.calls ≡ first → seen_of set ≡ 0
-      → IsWithin share set reach calls before now → now ≤ before + steps_for (λ n. share size (first + n)) reach + 4 * calls
+      → KeepsSessionCost share set reach calls before now → now ≤ before + steps_for (λ n. share size (first + n)) reach + 4 * calls
   within_new set size first reach calls before now same called none within =
       let all : reach - seen_of set ≡ reach = omega (arith, none) in
       new_steps set size first reach calls before now same called (subst (λ k. now ≤ before + engine_steps share set k + 4 * calls) all within)

@@ -19,9 +19,9 @@ use Rattle.bound_query.specs.Steps.{whole_lines}
 use Rattle.output_model.specs.SessionCalls.{calls_among, calls_of_step, calls_of_steps, reach_of_step, reach_of_steps}
 use Rattle.command_output.specs.declared.listing.Listing.{Listing}
 use Rattle.command_output.specs.declared.open_cursors.OpenCursor.{OpenCursor}
-use Rattle.command_output.specs.SessionCosts.{IsWithin, Paid, SetPaced}
+use Rattle.command_output.specs.SessionCosts.{KeepsSessionCost, Paid, SetPaced}
 use Rattle.command_output.specs.SessionListing.{ends_in, line_in, members_in}
-use Rattle.command_output.specs.OpenCursors.{Found, IsHeld}
+use Rattle.command_output.specs.OpenCursors.{HasCursor, HoldsCursors}
 use Rattle.command_output.specs.SessionRules.{CanStep, PrintsNothing}
 use Rattle.command_output.specs.TakenSteps.{IsTaken, State}
 use Rattle.command_output.proofs.SessionCosts.{paid_places}
@@ -55,7 +55,7 @@ by_quiet P line ends members places (Close name) quiet h = h
 pub quiet_taken : (share : List ℕ → ℕ → ℕ) → ((s : List ℕ) (c d : ℕ) → c ≤ d → share s c ≤ share s d) → (line : List ℕ → List ℕ → List ℕ) (ends : Bool)
     (members : List (List ℕ)) (places : Places) (step : Step) (old new : CursorSet) (before after : List Cursor) (sink : SinkState) (steps : ℕ)
     (r : Result (Unit {0}) PrintFault) → PrintsNothing step → new ≡ record old { places = new.places } → IfErr r (λ e. e ≡ fault.NoMemory)
-    → OnOk r (IsHeld new after (places_after members places step))
+    → OnOk r (HoldsCursors new after (places_after members places step))
     → IsTaken share line ends members places step (record { set = old; cursors = before; sink = sink; steps = steps }) (record { set = new; cursors = after; sink = sink; steps = steps }) r
 quiet_taken share rises line ends members places step old new before after sink steps r quiet only memory held =
     let P : List ℕ → ℕ → ℕ → Type 0 = λ text reach calls. Printed sink sink text r × Paid share old new reach calls steps steps r in
@@ -70,7 +70,7 @@ quiet_taken share rises line ends members places step old new before after sink 
 -- the step `next`
 pub next_taken : (share : List ℕ → ℕ → ℕ) (line : List ℕ → List ℕ → List ℕ) (ends : Bool) (members : List (List ℕ)) (places : Places) (number : ℕ) (name : List ℕ)
     (place count : ℕ) (old : State) (set : CursorSet) (cursor : OpenCursor) (sink : SinkState) (steps : ℕ) (r : Result (Unit {0}) PrintFault)
-    → IsHeld old.set old.cursors places → Found old.cursors number name place → cursor.name.now ≡ name
+    → HoldsCursors old.set old.cursors places → HasCursor old.cursors number name place → cursor.name.now ≡ name
     → Printed old.sink sink (next_text (line name) (name ++ 10 ∷ []) (drop place members) count) r
     → OnOk r (cursor.place ≡ place + length (take count (drop place members))) → OnOk r (set.places ≡ slice_set old.set.places number (Some cursor.place))
     → Paid share old.set set (place + calls_among ends (length (drop place members)) count) (calls_among ends (length (drop place members)) count) old.steps steps r
@@ -81,7 +81,7 @@ next_taken share line ends members places number name place count old set cursor
     record {
       printed = next_told (λ text. Printed old.sink sink text r) line members places name place count at printed;
       held = both_ok r (λ to put.
-          next_after (λ after. IsHeld set (slice_set old.cursors number (Some cursor)) after) members places name place cursor.place count at to
+          next_after (λ after. HoldsCursors set (slice_set old.cursors number (Some cursor)) after) members places name place cursor.place count at to
           (held_at old.set set old.cursors places number name place held found cursor own put)) moved put;
       paid = next_paid (λ reach calls. Paid share old.set set reach calls old.steps steps r) ends members places name place count at paid;
       paced = next_in_pieces (λ pieces. SetPaced share old.set (whole_lines pieces) old.sink.written sink.written old.steps steps) line members places name place count at paced;
@@ -96,7 +96,7 @@ taken_as share line ends members places step other old new r is taken = subst (�
 
 -- what a step does from each places that the cursors may have
 abbrev pub Takes : (List ℕ → ℕ → ℕ) → Listing → List AnswerView → Step → State → State → Result (Unit {0}) PrintFault → Type 0
-Takes share listing answers step old new result = (places : Places) → IsHeld old.set old.cursors places → CanStep places step
+Takes share listing answers step old new result = (places : Places) → HoldsCursors old.set old.cursors places → CanStep places step
     → IsTaken share (line_in listing) (ends_in listing answers) (members_in listing answers) places step old new result
 
 -- this many steps were taken, what the other steps print is left, the cost is known, and no more
@@ -119,7 +119,7 @@ pieces_of listing answers script = steps_pieces (line_in listing) (members_in li
 
 abbrev pub CostsWithin : (List ℕ → ℕ → ℕ) → Listing → List AnswerView → List Step → CursorSet → ℕ → ℕ → Type 0
 CostsWithin share listing answers script first before now =
-    IsWithin share first (reach_of_steps (ends_in listing answers) (members_in listing answers) no_cursors script)
+    KeepsSessionCost share first (reach_of_steps (ends_in listing answers) (members_in listing answers) no_cursors script)
     (calls_of_steps (ends_in listing answers) (members_in listing answers) no_cursors script) before now
 
 module _ (share : List ℕ → ℕ → ℕ) (rises : (s : List ℕ) (c d : ℕ) → c ≤ d → share s c ≤ share s d) (listing : Listing) (answers : List AnswerView) (script : List Step) where

@@ -11,7 +11,7 @@ use Rattle.session_script.specs.declared.step.Step.TheVariants.{Next}
 use Rattle.output_model.specs.SessionPieces.{next_pieces, step_pieces}
 use Rattle.output_model.specs.Session.{Places, next_text, no_cursors, place_in, places_after, step_text, steps_text, with_cursor}
 use Rattle.command_output.specs.declared.open_cursors.OpenCursor.{OpenCursor}
-use Rattle.command_output.specs.OpenCursors.{IsAt, IsHeld}
+use Rattle.command_output.specs.OpenCursors.{IsAt, HoldsCursors}
 use Rattle.command_output.specs.SessionRules.{CanFollow, CanStep}
 use Rattle.command_output.proofs.Left.{HasLeft, left_more, left_none, left_stopped}
 use Rattle.command_output.proofs.Moves.{Cursor, inside_at, no_place, none_some, place_of_cursor}
@@ -24,7 +24,7 @@ absent cursors k c none at =
     let few : k < 64 = omega (arith, inside, ap length none, length-replicate {A = Cursor} 64 None) in
     none_some (sym (get_or-replicate {A = Cursor} 64 k None None few) ∙ ap (λ (l : List Cursor). get_or l k None) (sym none) ∙ at)
 
-pub none_held : (set : CursorSet) (cursors : List Cursor) → cursors ≡ replicate 64 None → set.places ≡ replicate 64 None → IsHeld set cursors no_cursors
+pub none_held : (set : CursorSet) (cursors : List Cursor) → cursors ≡ replicate 64 None → set.places ≡ replicate 64 None → HoldsCursors set cursors no_cursors
 none_held set cursors none same = record {
   same = same ∙ ap (map place_of_cursor) (sym none);
   placed = λ k c at. absent cursors k c none at;
@@ -37,7 +37,7 @@ none_held set cursors none same = record {
 -- this many steps were taken, and what the other steps print is left
 pub record HasTaken (line : List ℕ → List ℕ → List ℕ) (members : List (List ℕ)) (script : List Step) (i : ℕ) (places : Places) (set : CursorSet)
     (cursors : List Cursor) (old now : SinkState) : Type 0 where
-  pub held : IsHeld set cursors places
+  pub held : HoldsCursors set cursors places
   pub rules : CanFollow members places (drop i script)
   pub left : HasLeft (steps_text line members no_cursors script) (steps_text line members places (drop i script)) old now
 
@@ -54,7 +54,7 @@ module _ (line : List ℕ → List ℕ → List ℕ) (members : List (List ℕ))
   text_split = ap (steps_text line members places) split
 
   pub taken_more : (set set' : CursorSet) (cursors cursors' : List Cursor) (old mid now : SinkState)
-      → (t : HasTaken line members script i places set cursors old mid) → IsHeld set' cursors' (places_after members places step)
+      → (t : HasTaken line members script i places set cursors old mid) → HoldsCursors set' cursors' (places_after members places step)
       → Printed mid now (step_text line members places step) (Ok tt) → HasTaken line members script (i + 1) (places_after members places step) set' cursors' old now
   taken_more set set' cursors cursors' old mid now t held printed = record {
     held = held;

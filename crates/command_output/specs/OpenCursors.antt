@@ -19,7 +19,7 @@ abbrev pub IsAt : List (Option OpenCursor) → ℕ → OpenCursor → Type 0
 IsAt cursors number cursor = slice_index_or cursors number None ≡ Some cursor
 
 -- the cursor with this number has this name and this place
-pub record Found (cursors : List (Option OpenCursor)) (number : ℕ) (name : List ℕ)
+pub record HasCursor (cursors : List (Option OpenCursor)) (number : ℕ) (name : List ℕ)
     (place : ℕ) : Type 0 where
   pub cursor : OpenCursor
   pub at : IsAt cursors number cursor
@@ -29,7 +29,7 @@ pub record Found (cursors : List (Option OpenCursor)) (number : ℕ) (name : Lis
 
 -- The open cursors have these places by name, and the same places in the set. Each has a name of
 -- its own.
-pub record IsHeld (set : CursorSet) (cursors : List (Option OpenCursor))
+pub record HoldsCursors (set : CursorSet) (cursors : List (Option OpenCursor))
     (places : Places) : Type 0 where
   pub same : set.places ≡ map (option_map (λ (cursor : OpenCursor). cursor.place)) cursors
   pub placed : (number : ℕ) (cursor : OpenCursor) → IsAt cursors number cursor

@@ -9,8 +9,8 @@ engine_steps share set calls = steps_for (λ n. share set.size (set.calls + n)) 
 
 -- the steps of calls on the set: the calls of the engine that are needed to see up to `reach`, and
 -- 4 steps for each call of the set
-abbrev pub IsWithin : (List ℕ → ℕ → ℕ) → CursorSet → ℕ → ℕ → ℕ → ℕ → Type 0
-IsWithin share set reach calls before now = now
+abbrev pub KeepsSessionCost : (List ℕ → ℕ → ℕ) → CursorSet → ℕ → ℕ → ℕ → ℕ → Type 0
+KeepsSessionCost share set reach calls before now = now
     ≤ before + engine_steps share set (reach - seen_of set) + 4 * calls
 
 -- Such calls lead from one state of the set to another. The engine was called only for what is
@@ -28,7 +28,7 @@ pub record Spent (share : List ℕ → ℕ → ℕ) (old new : CursorSet)
 pub record Paid {A E : Type 0} (share : List ℕ → ℕ → ℕ) (old new : CursorSet)
     (reach calls before now : ℕ) (result : Result A E) : Type 0 where
   pub spent : OnOk result (Spent share old new reach calls before now)
-  pub within : IsWithin share old reach calls before now
+  pub within : KeepsSessionCost share old reach calls before now
 
 -- Pieces were written one by one, with at most one call of the set before each. The steps of the
 -- calls are within those for the whole pieces that were written, and for one call more.

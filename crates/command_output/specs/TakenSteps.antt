@@ -10,7 +10,7 @@ use Rattle.output_model.specs.SessionCalls.{calls_of_step, reach_of_step}
 use Rattle.output_model.specs.SessionPieces.{step_pieces}
 use Rattle.bound_query.specs.Steps.{whole_lines}
 use Rattle.command_output.specs.declared.open_cursors.OpenCursor.{OpenCursor}
-use Rattle.command_output.specs.OpenCursors.{IsHeld}
+use Rattle.command_output.specs.OpenCursors.{HoldsCursors}
 use Rattle.command_output.specs.SessionCosts.{Paid, SetPaced}
 
 -- the state of a session between two steps
@@ -25,7 +25,7 @@ pub record IsTaken (share : List ℕ → ℕ → ℕ) (line : List ℕ → List 
     (members : List (List ℕ)) (places : Places) (step : Step) (old new : State)
     (result : Result (Unit {0}) PrintFault) : Type 0 where
   pub printed : Printed old.sink new.sink (step_text line members places step) result
-  pub held : OnOk result (IsHeld new.set new.cursors (places_after members places step))
+  pub held : OnOk result (HoldsCursors new.set new.cursors (places_after members places step))
   pub paid : Paid share old.set new.set (reach_of_step ends members places step)
       (calls_of_step ends members places step) old.steps new.steps result
   pub paced : SetPaced share old.set (whole_lines (step_pieces line members places step))

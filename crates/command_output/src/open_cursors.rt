@@ -1,7 +1,7 @@
 //! The open cursors by name, and the steps that open, move and close them.
 ghost use Rattle.std.specs.Prelude.{◌≡◌, ℕ, IfNone, IfSome, IsSome, List, None, OnOk, Some};
 ghost use Rattle.output_model.specs.Session.{Places, places_after, with_cursor};
-ghost use Rattle.command_output.specs.OpenCursors.{AreOthers, Found, IsHeld};
+ghost use Rattle.command_output.specs.OpenCursors.{AreOthers, HasCursor, HoldsCursors};
 ghost use Rattle.command_output.specs.SessionRules.{CanStep, PrintsNothing};
 
 use cursor_set::{CursorId, Cursors, MAX_OPEN};
@@ -21,7 +21,7 @@ pub(crate) type OpenCursors<'s> = [Option<OpenCursor<'s>>; MAX_OPEN];
 
 /// The cursor with this name and its place, or `None` if none is open under it.
 pub(crate) fn cursor_of(cursors: &OpenCursors<'_>, name: &[u8]) -> Option<(CursorId, u64)>
-    ensures found { IfSome result (λ found. Found cursors.now found.0.number name.now found.1) }
+    ensures found { IfSome result (λ found. HasCursor cursors.now found.0.number name.now found.1) }
     ensures unknown { IfNone result (AreOthers cursors.now name.now 64) }
 {
     for number in 0..MAX_OPEN {
@@ -42,8 +42,8 @@ pub(crate) fn move_cursor<'s, E: Ranked>(
     step: &'s Step,
 ) -> Result<(), NoMemory>
     ensures held { (members : List (List ℕ)) → (places : Places)
-        → IsHeld set.old cursors.old places → CanStep places step.now → PrintsNothing step.now
-        → OnOk result (IsHeld set.new cursors.new (places_after members places step.now)) }
+        → HoldsCursors set.old cursors.old places → CanStep places step.now → PrintsNothing step.now
+        → OnOk result (HoldsCursors set.new cursors.new (places_after members places step.now)) }
     ensures only { set.new ≡ record set.old { places = set.new.places } }
 {
     match step {
@@ -61,11 +61,12 @@ fn open<'s, E: Ranked>(
     cursors: &mut OpenCursors<'s>,
     name: &'s [u8],
 ) -> Result<(), NoMemory>
-    ensures held { (places : Places) → IsHeld set.old cursors.old places
+    ensures held { (places : Places) → HoldsCursors set.old cursors.old places
         → places name.entry.now ≡ None
-        → OnOk result (IsHeld set.new cursors.new (with_cursor places name.entry.now (Some 0))) }
+        → OnOk result (HoldsCursors set.new cursors.new (with_cursor places name.entry.now (Some 0))) }
     ensures only { set.new ≡ record set.old { places = set.new.places } }
 {
+    // never refused: a script has at most 64 cursors open
     let Ok(id) = set.open() else {
         return Err(NoMemory);
     };
@@ -81,15 +82,16 @@ fn fork<'s, E: Ranked>(
     name: &[u8],
     new: &'s [u8],
 ) -> Result<(), NoMemory>
-    ensures held { (places : Places) → IsHeld set.old cursors.old places → IsSome (places name.now)
+    ensures held { (places : Places) → HoldsCursors set.old cursors.old places → IsSome (places name.now)
         → places new.entry.now ≡ None
-        → OnOk result (IsHeld set.new cursors.new
+        → OnOk result (HoldsCursors set.new cursors.new
         (with_cursor places new.entry.now (places name.now))) }
     ensures only { set.new ≡ record set.old { places = set.new.places } }
 {
     let Some((id, place)) = cursor_of(cursors, name) else {
         return Ok(());
     };
+    // never refused: a script has at most 64 cursors open
     let Ok(copy) = set.fork(id) else {
         return Err(NoMemory);
     };
@@ -103,9 +105,9 @@ fn rewind<'s, E: Ranked>(
     cursors: &mut OpenCursors<'s>,
     name: &'s [u8],
 ) -> Result<(), NoMemory>
-    ensures held { (places : Places) → IsHeld set.old cursors.old places
+    ensures held { (places : Places) → HoldsCursors set.old cursors.old places
         → IsSome (places name.entry.now)
-        → OnOk result (IsHeld set.new cursors.new (with_cursor places name.entry.now (Some 0))) }
+        → OnOk result (HoldsCursors set.new cursors.new (with_cursor places name.entry.now (Some 0))) }
     ensures only { set.new ≡ record set.old { places = set.new.places } }
 {
     let Some((id, _)) = cursor_of(cursors, name) else {
@@ -124,8 +126,8 @@ fn close<E: Ranked>(
     cursors: &mut OpenCursors<'_>,
     name: &[u8],
 ) -> Result<(), NoMemory>
-    ensures held { (places : Places) → IsHeld set.old cursors.old places → IsSome (places name.now)
-        → OnOk result (IsHeld set.new cursors.new (with_cursor places name.now None)) }
+    ensures held { (places : Places) → HoldsCursors set.old cursors.old places → IsSome (places name.now)
+        → OnOk result (HoldsCursors set.new cursors.new (with_cursor places name.now None)) }
     ensures only { set.new ≡ record set.old { places = set.new.places } }
 {
     let Some((id, _)) = cursor_of(cursors, name) else {

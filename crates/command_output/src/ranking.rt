@@ -77,6 +77,7 @@ fn print_answers<E: Ranked, S: Sink, L: Ledger>(
         };
         print_answer(records, query, tables, style, &answer.rows, out)?;
     }
+    // not met without a limit: no memory holds 2^64 - 1 answers
     if query.limit().is_none() {
         return Err(PrintFault::NoMemory);
     }

@@ -11,14 +11,14 @@ ghost use Rattle.output_model.specs.SessionCalls.{calls_of_steps, ends_by_itself
 ghost use Rattle.output_model.specs.SessionPieces.{pieces_in};
 ghost use Rattle.bound_query.specs.Steps.{steps_for};
 ghost use Rattle.witness_key.specs.WitnessKey.{AreCombinations, combinations_in};
-ghost use Rattle.command_output.specs.OpenCursors.{IsHeld};
+ghost use Rattle.command_output.specs.OpenCursors.{HoldsCursors};
 ghost use Rattle.command_output.specs.SessionRules.{CanStep};
-ghost use Rattle.command_output.specs.SessionCosts.{IsWithin, SetPaced};
+ghost use Rattle.command_output.specs.SessionCosts.{KeepsSessionCost, SetPaced};
 ghost use Rattle.command_output.specs.SessionListing.{ends_in, line_in, members_in};
 ghost use Rattle.command_output.specs.TakenSteps.{IsTaken};
 
 use crate::listing::Listing;
-use crate::moving::print_next;
+use crate::next_step::print_next;
 use crate::open_cursors::{OpenCursor, OpenCursors, cursor_of, move_cursor};
 use answer_print::{RecordWriter, Style, print_header};
 use bound_query::Query;
@@ -101,7 +101,7 @@ fn print_steps<E: Ranked, S: Sink, L: Ledger>(
         (session_text listing.now.query.now.query listing.now.tables.now
         (style_view listing.now.style.now) (members_in listing.now set.old.answers) script.now)
         result }
-    ensures within { IsWithin E.share set.old
+    ensures within { KeepsSessionCost E.share set.old
         (reach_of_steps (ends_in listing.now set.old.answers)
         (members_in listing.now set.old.answers) no_cursors script.now)
         (calls_of_steps (ends_in listing.now set.old.answers)
@@ -146,7 +146,7 @@ fn take_step<'s, E: Ranked, S: Sink, L: Ledger>(
     requires rows { AreCombinations listing.now.query.now.query listing.now.tables.now
         set.old.answers }
     requires same { set.old.places ≡ map (option_map (λ cursor. cursor.place)) cursors.old }
-    ensures taken { (places : Places) → IsHeld set.old cursors.old places → CanStep places step.now
+    ensures taken { (places : Places) → HoldsCursors set.old cursors.old places → CanStep places step.now
         → IsTaken E.share (line_in listing.now) (ends_in listing.now set.old.answers)
         (members_in listing.now set.old.answers) places step.now
         (record {

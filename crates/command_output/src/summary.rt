@@ -6,7 +6,7 @@ ghost use Rattle.bound_query.specs.Steps.{calls_for, steps_for};
 ghost use Rattle.output_model.specs.Summary.{summary_text};
 ghost use Rattle.witness_key.specs.WitnessKey.{AreCombinations, combinations_in};
 
-use crate::ends::take_ends;
+use crate::first_and_last::take_ends;
 use crate::summary_text::summary;
 use bound_query::Query;
 use std::alloc::Global;
@@ -32,6 +32,7 @@ pub fn take_summary<E: Ranked, L: Ledger>(
         + steps_for (λ n. E.share (E.size engine.old) (E.calls engine.old + n))
         (calls_for query.now.query.limit (combinations_in query.now.query (E.rest engine.old))) }
 {
+    // for the proof: there are at most 16 items
     let _items = query.items();
     let ends = take_ends(query.limit(), engine, steps)?;
     summary(alloc, query, tables, &ends)

@@ -5,7 +5,7 @@ ghost use Rattle.bound_query.specs.WeighedQuery.{Fits};
 ghost use Rattle.output_model.specs.Summary.{member_text, rows_in_all};
 ghost use Rattle.command_output.specs.Ends.{ends_text};
 
-use crate::ends::Ends;
+use crate::first_and_last::FirstAndLast;
 use answer_print::key_sum;
 use bound_query::Query;
 use std::alloc::Global;
@@ -17,7 +17,7 @@ pub(crate) fn summary(
     alloc: Global,
     query: &Query,
     tables: &Tables,
-    ends: &Ends,
+    ends: &FirstAndLast,
 ) -> Result<Vec<u8>, NoMemory>
     requires fits { Fits query.now tables.now }
     requires first { IfSome ends.now.first

@@ -116,6 +116,7 @@ fn print_members<'q, E: Ranked + Drop, S: Sink, L: Ledger>(
         };
         print_member(records, &tagged, queries, tables, style, out)?;
     }
+    // not met without a limit: no memory holds 2^64 - 1 answers
     if limit.is_none() {
         return Err(PrintFault::NoMemory);
     }

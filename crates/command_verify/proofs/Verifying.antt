@@ -15,7 +15,7 @@ use Rattle.proof_check.specs.RowLists.{item_rows}
 use Rattle.proof_check.proofs.Ranked.{cut_member}
 use Rattle.proof_model.specs.Faults.{TellsFirst, TellsFlaw, fault_of}
 use Rattle.proof_model.specs.QueryProblem.{problem_in, problem_of}
-use Rattle.proof_model.specs.Valid.{Flaw, IsFirst, IsValid}
+use Rattle.proof_model.specs.Valid.{Flaw, IsFirstFlaw, IsValid}
 use Rattle.bound_query.specs.WeighedQuery.{BoundQuery}
 use Rattle.hyper_graph.specs.Items.{items_of}
 use Rattle.bound_query.specs.declared.fault.ShapeFault.{ShapeFault}
@@ -36,25 +36,25 @@ use Rattle.refusals.specs.Reason as reason
 use Rattle.refusals.specs.Reason.{Reason}
 use Rattle.session_script.specs.declared.step.Step.{Step}
 use Rattle.command_input.specs.Input.{InputView, loaded_of}
-use Rattle.command_input.specs.Turns.{IsTurn}
+use Rattle.command_input.specs.FilesRead.{IsTurn}
 use Rattle.verdict.specs.Faults.{of_proof}
 use Rattle.verdict.specs.Bound.{IsBounded, IsPrompt}
 use Rattle.verdict.specs.Execution.{IsExecuted}
 use Rattle.verdict.specs.Outcome.{GotNothing, Outside}
 use Rattle.verdict.specs.Output.{HasOutput, answers_text, style_of}
-use Rattle.verdict.specs.AcceptedInput.{Found, found_of, queries_in}
+use Rattle.verdict.specs.AcceptedInput.{AcceptedInput, found_of, queries_in}
 use Rattle.verdict.specs.Loading.{Loaded}
 use Rattle.verdict.specs.StageResults.{NoTurn, Pure, Shelved}
 use Rattle.verdict.specs.Stages.{Then, followed, refused}
 use Rattle.verdict.specs.Verdict.{IsLoadedOn, IsShaped, IsStructure, IsVerdict, IsVerified}
-use Rattle.verdict.specs.Words.{IsNamed, Words, a_command, verify, sought_by}
+use Rattle.verdict.specs.Words.{IsNamed, Words, a_command, verify, input_files_of}
 use Rattle.verdict.proofs.Printed.{printed_caused, printed_complete, printed_cut, printed_fits}
 use Rattle.verdict.proofs.Staging.{found_within, pure_staged}
 use Rattle.command_input.proofs.Ends.{judged_accepts, judged_caused, judged_cut, judged_reason}
 use Rattle.command_input.proofs.Telling.{pure_result}
 use Rattle.command_verify.specs.Verifications.{HasAnswers, IsCheckedFor, IsShown, check_reason, rejected, shape_reason, shown}
 use Rattle.command_verify.specs.declared.fault.CheckFault.{CheckFault}
-use Rattle.command_input.specs.Judgement.{IsJudgedOn, IsLookedUp}
+use Rattle.command_input.specs.Planned.{IsJudgedOn, IsLookedUp}
 
 -- ---- stages that read no file
 
@@ -109,17 +109,17 @@ module _ (query : Query) (tables : List Table) (best : Option ℕ) (steps : List
           followed {a = found_of loaded (shape ∷ [])} (one_shaped shape structured) (refused flaw)
 
 -- what is loaded, and is then verified or refused, has that verdict
-pub looked_verified : (proof : List ℕ) (words : Words) (old new : Shelved) (loaded : Loaded) (r : Result Found Reason)
-    → IsLookedUp (sought_by (verify proof words)) old new (Ok loaded) → Pure (Then (IsShaped loaded) IsVerified) r
+pub looked_verified : (proof : List ℕ) (words : Words) (old new : Shelved) (loaded : Loaded) (r : Result AcceptedInput Reason)
+    → IsLookedUp (input_files_of (verify proof words)) old new (Ok loaded) → Pure (Then (IsShaped loaded) IsVerified) r
     → IsJudgedOn (verify proof words) old new r
 looked_verified proof words old new loaded r h verified =
     let command = verify proof words in
     record {
-      staged = found_within (IsLoadedOn (sought_by command)) (IsTurn (sought_by command))
-          (λ files. Then (IsShaped loaded) IsVerified) NoTurn (IsVerdict (a_command command)) (IsTurn (sought_by command))
-          old new new loaded r (λ files g v. then_both (IsLoadedOn (sought_by command) files) IsShaped IsVerified loaded r g v)
+      staged = found_within (IsLoadedOn (input_files_of command)) (IsTurn (input_files_of command))
+          (λ files. Then (IsShaped loaded) IsVerified) NoTurn (IsVerdict (a_command command)) (IsTurn (input_files_of command))
+          old new new loaded r (λ files g v. then_both (IsLoadedOn (input_files_of command) files) IsShaped IsVerified loaded r g v)
           (λ files name g no_turn. absurd no_turn) h.staged (pure_staged (Then (IsShaped loaded) IsVerified) new r verified);
-      tells = pure_result (IsNamed (sought_by command)) (Then (IsShaped loaded) IsVerified) r verified;
+      tells = pure_result (IsNamed (input_files_of command)) (Then (IsShaped loaded) IsVerified) r verified;
     }
 
 -- ---- the join tree that is stored is that of the structure
@@ -171,7 +171,7 @@ module _ (query : Query) (tables : List Table) (join : JoinTree) (proof : Certif
   abbrev Tells : Reason → List ℕ → List ℕ → Type 0
   Tells told items ups =
       (flaw : Flaw) × (told ≡ of_proof (fault_of (problem_of query tables items ups) proof flaw))
-      × IsFirst (problem_of query tables items ups) proof query.limit flaw
+      × IsFirstFlaw (problem_of query tables items ups) proof query.limit flaw
 
   first_checked : (told : ProofFault) → TellsFirst query tables join proof told → IsCheckedFor query tables proof (Err (of_proof told))
   first_checked told (shape, is, flaw, same_fault, first) =
@@ -205,7 +205,7 @@ with_queries input queries = record {
   proof = input.proof;
 }
 
-abbrev IsTold : InputView → List BoundQuery → Result Found Reason → Type 0
+abbrev IsTold : InputView → List BoundQuery → Result AcceptedInput Reason → Type 0
 IsTold input queries = Then (IsShaped (with_queries input queries)) IsVerified
 
 -- its certificate is valid, and its answers were printed
@@ -215,7 +215,7 @@ pub shown_in : (words : Words) (input : InputView) (query : BoundQuery) → inpu
     → IsShown words (loaded_of input) old new (print.refused r)
 shown_in words input query only old new r checked printed =
     let told = checked_found query.query input.tables input.best input.steps input.proof checked in
-    let found : List BoundQuery → Found = λ qs. found_of (with_queries input qs) (told.0 ∷ []) in
+    let found : List BoundQuery → AcceptedInput = λ qs. found_of (with_queries input qs) (told.0 ∷ []) in
     shown told.0 r (subst (λ (qs : List BoundQuery). IsTold input qs (Ok (found qs))) (sym only) told.1) (printed told.0)
 
 -- it is not, or the query has no structure, and nothing was printed
@@ -300,7 +300,7 @@ refused_ends proof words files files' old new before now refusal judged nothing 
 
 -- after the input was read
 pub verified_ends : (proof : List ℕ) (words : Words) (files files' : Option Files) (old new : Outside) (before now : ℕ) (loaded : Loaded)
-    (r : Result (Unit {0}) Refusal) → IsLookedUp (sought_by (verify proof words)) (shelf_of files old) (shelf_of files' new) (Ok loaded)
+    (r : Result (Unit {0}) Refusal) → IsLookedUp (input_files_of (verify proof words)) (shelf_of files old) (shelf_of files' new) (Ok loaded)
     → IsShown words loaded (sink_of old) (sink_of new) r → IsExecuted (verify proof words) files old new before now r
 verified_ends proof words files files' old new before now loaded _ looked (rejected {refusal} told nothing) =
     refused_ends proof words files files' old new before now refusal

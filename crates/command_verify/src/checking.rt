@@ -43,7 +43,7 @@ pub(crate) fn check_proof<L: Ledger>(
         Ok(join) => join,
         Err(fault) => return Err(CheckFault::Shape(fault)),
     };
-    // there are at most 16 items
+    // for the proof: there are at most 16 items
     let _items = query.items();
     if query.keys() <= 1 {
         listed_answers::<SumRank, L>(alloc, query, tables, &join, proof, steps)

@@ -11,14 +11,14 @@ ghost use Rattle.verdict.specs.Execution.{IsExecuted};
 ghost use Rattle.verdict.specs.Words.{verify};
 ghost use Rattle.command_input.specs.Tasks.{words_of};
 ghost use Rattle.command_verify.specs.Verifications.{HasAnswers, IsShown};
-ghost use Rattle.verdict.specs.Sides.{seen_by};
+ghost use Rattle.verdict.specs.OutsideOf.{outside_before};
 
 use crate::checking::check_proof;
 use crate::fault::check_refusal;
 use crate::printing::print_listed;
 use answer_print::Style;
 use cmd_words::Words;
-use command_input::{Aside, Input, look_up};
+use command_input::{Input, SideFile, read_files_of};
 use hash_keys::Keys;
 use outer_io::{PrintFault, Shelf, Sink};
 use refusals::{Refusal, refused};
@@ -39,11 +39,11 @@ pub fn execute_verify<'a, F: Shelf, S: Sink, L: Ledger>(
     steps: &mut Steps<L>,
 ) -> Result<(), Refusal<'a>>
     ensures { IsExecuted (verify proof.now (words_of (words_view words.now))) (F.files shelf.old)
-        (seen_by F.Shelf S.Sink shelf.old out.old) (seen_by F.Shelf S.Sink shelf.new out.new)
+        (outside_before F.Shelf S.Sink shelf.old out.old) (outside_before F.Shelf S.Sink shelf.new out.new)
         steps.old steps.new result }
 {
-    let aside = Aside::Certificate(proof);
-    match look_up(alloc, words, false, aside, None, shelf, keys) {
+    let aside = SideFile::Certificate(proof);
+    match read_files_of(alloc, words, false, aside, None, shelf, keys) {
         Ok(input) => print_verified(alloc, words, &input, out, steps),
         Err(refusal) => Err(refusal),
     }

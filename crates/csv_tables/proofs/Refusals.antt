@@ -3,7 +3,7 @@ use Rattle.std.proofs.Common.{Result, Ok, Err, IfErr, OnOk, inl, option_map, ◌
 use Rattle.std.specs.Option.{option_or}
 use Rattle.std.specs.Result.{IsErr, IsErrAnd}
 use Rattle.anyk_model.specs.Table.{Flaw}
-use Rattle.csv_tables.specs.Faults.{Tells, fault_of, refusal}
+use Rattle.csv_tables.specs.Faults.{IsTableFault, fault_of, refusal}
 use Rattle.csv_tables.specs.declared.fault.TableFault.{TableFault}
 use Rattle.csv_tables.specs.declared.fault.TableFault.TheVariants as fault
 
@@ -25,10 +25,10 @@ pub none_on_ok : {T E : Type 0} (r : Result T E) (P : Type 0) → IsErr r → On
 none_on_ok (Ok x) P e = absurd cc
 none_on_ok (Err y) P e = tt
 
-pub memory_tells : {T : Type 0} (r : Result T TableFault) (flaw : Option Flaw) → IsErrAnd r (λ e. e ≡ fault.NoMemory) → IfErr r (Tells flaw)
+pub memory_tells : {T : Type 0} (r : Result T TableFault) (flaw : Option Flaw) → IsErrAnd r (λ e. e ≡ fault.NoMemory) → IfErr r (IsTableFault flaw)
 memory_tells (Ok x) flaw e = tt
 memory_tells (Err y) flaw e = inl e
 
-pub same_tells : {T : Type 0} (r : Result T TableFault) (x : TableFault) (flaw : Option Flaw) → IsErrAnd r (λ e. e ≡ x) → Tells flaw x → IfErr r (Tells flaw)
+pub same_tells : {T : Type 0} (r : Result T TableFault) (x : TableFault) (flaw : Option Flaw) → IsErrAnd r (λ e. e ≡ x) → IsTableFault flaw x → IfErr r (IsTableFault flaw)
 same_tells (Ok y) x flaw e h = tt
-same_tells (Err y) x flaw e h = subst (Tells flaw) (sym e) h
+same_tells (Err y) x flaw e h = subst (IsTableFault flaw) (sym e) h

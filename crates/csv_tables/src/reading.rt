@@ -2,7 +2,7 @@
 ghost use Rattle.std.specs.Prelude.{◌≡◌, ◌<◌, ◌≤◌, ◌∷◌, ◌++◌, [], IfErr, IfOk, None, OnErr, OnOk, length};
 ghost use Rattle.csv.specs.Records.{fields_of};
 ghost use Rattle.anyk_model.specs.Table.{flaw_of, header_flaw, records_of, row_flaw, rows_flaw, table_of};
-ghost use Rattle.csv_tables.specs.Faults.{Tells, refusal};
+ghost use Rattle.csv_tables.specs.Faults.{IsTableFault, refusal};
 ghost use Rattle.table_store.specs.Values.{lists_of};
 
 use crate::fault::TableFault;
@@ -76,7 +76,7 @@ impl Tables {
         ensures number { IfOk result (λ n. n ≡ length self.old) }
         ensures added { OnOk result (self.new ≡ self.old ++ table_of (records_of bytes.now) ∷ []) }
         ensures sound { OnOk result (flaw_of (records_of bytes.now) ≡ None) }
-        ensures fault { IfErr result (Tells (flaw_of (records_of bytes.now))) }
+        ensures fault { IfErr result (IsTableFault (flaw_of (records_of bytes.now))) }
         ensures err { OnErr result (self.new ≡ self.old) }
     {
         let table = parse_table(self.alloc, bytes)?;
@@ -175,7 +175,7 @@ fn read_names(
 ) -> Result<Vec<Vec<u8>>, TableFault>
     ensures names { IfOk result (λ names. records.old ≡ lists_of names.items ∷ records.new) }
     ensures sound { IfOk result (λ names. header_flaw (lists_of names.items) ≡ None) }
-    ensures fault { IfErr result (Tells (flaw_of records.old)) }
+    ensures fault { IfErr result (IsTableFault (flaw_of records.old)) }
 {
     if !records.next(row)? {
         return Err(TableFault::NoHeader);
@@ -199,7 +199,7 @@ fn read_rows(
         (rows_flaw (length (lists_of names.items)) 1 records.old ≡ None) }
     ensures table { IfOk result (λ t. t ≡ table_of (lists_of names.items ∷ records.old)) }
     ensures fault { IfErr result
-        (Tells (rows_flaw (length (lists_of names.items)) 1 records.old)) }
+        (IsTableFault (rows_flaw (length (lists_of names.items)) 1 records.old)) }
 {
     let width = names.len();
     let mut table = PlainTable::new(alloc, names);
@@ -218,7 +218,7 @@ fn add_rows(
     requires no_rows { table.old ≡ table_of (table.old.names ∷ []) }
     ensures sound { OnOk result (rows_flaw width 1 records.old ≡ None) }
     ensures table { OnOk result (table.new ≡ table_of (table.old.names ∷ records.old)) }
-    ensures fault { IfErr result (Tells (rows_flaw width 1 records.old)) }
+    ensures fault { IfErr result (IsTableFault (rows_flaw width 1 records.old)) }
 {
     'rows: for count in 0..usize::MAX {
         if !records.next(row)? {
@@ -227,6 +227,7 @@ fn add_rows(
         check_row(width, count + 1, row)?;
         table.push_row(row)?;
     }
+    // not reached: no file has 2^64 records
     Err(TableFault::NoMemory)
 }
 
@@ -239,7 +240,7 @@ fn read_table(
 ) -> Result<PlainTable, TableFault>
     ensures sound { OnOk result (flaw_of records.old ≡ None) }
     ensures table { IfOk result (λ t. t ≡ table_of records.old) }
-    ensures fault { IfErr result (Tells (flaw_of records.old)) }
+    ensures fault { IfErr result (IsTableFault (flaw_of records.old)) }
 {
     let names = read_names(alloc, records, row)?;
     read_rows(alloc, records, row, names)
@@ -249,7 +250,7 @@ fn read_table(
 fn parse_table(alloc: Global, bytes: &[u8]) -> Result<PlainTable, TableFault>
     ensures sound { OnOk result (flaw_of (records_of bytes.now) ≡ None) }
     ensures table { IfOk result (λ t. t ≡ table_of (records_of bytes.now)) }
-    ensures fault { IfErr result (Tells (flaw_of (records_of bytes.now))) }
+    ensures fault { IfErr result (IsTableFault (flaw_of (records_of bytes.now))) }
 {
     let mut records = Records::new(alloc, bytes);
     let mut row = ByteRecord::new(alloc);

@@ -5,7 +5,7 @@ ghost use Rattle.cursor_set.specs.CursorSet.{CursorSet, Keeps, IsKnownAt, ArePla
 ghost use Rattle.cursor_set.specs.Faults.{RefusesNext, RefusesFork, refused_after};
 
 use crate::cursor_id::{CursorFault, CursorId};
-use crate::fetch::fetch;
+use crate::next_answer::fetch;
 use std::alloc::Global;
 use std::marker::Model;
 use std::sync::ledger::Ledger;

@@ -48,6 +48,7 @@ pub fn drive<E: Ranked, L: Ledger>(
         → place + members ≤ cursors.old.known → result.refused ≡ 0 }
     ensures after_end { cursors.old.ended ≡ true → result.refused ≡ 0 }
 {
+    // for the proof: the set's count of refused calls fits 64 bits
     let _before = cursors.refused();
     let mut given = 0;
     let mut refused = 0;

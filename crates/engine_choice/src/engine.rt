@@ -48,6 +48,7 @@ pub fn engine_over<'t, R: Rank, L: Ledger>(
         + 16 * (length plan.now.tree * (1 + row_count plan.now.tree)) }
 {
     let tree = plan.tree();
+    // for the proof: the tree is well formed
     let _nodes = tree.nodes();
     match best {
         None => choose_engine(alloc, kind_of(engine), tree, arena, steps),

@@ -11,7 +11,7 @@ use Rattle.tdp_model.specs.KeyNumbers.{sum_of}
 use Rattle.tdp_model.specs.TreeProblem.{sum_from}
 use Rattle.tdp_model.proofs.KeyTuples.{slot_of_add}
 use Rattle.tdp_model.proofs.KeyNumbers.{sum_of_add, sum_of_lists}
-use Rattle.rank_key.specs.Keys.{IsHeld, IsInRange, IsWithin, KeyFits, row_key}
+use Rattle.rank_key.specs.Keys.{IsHeld, IsInRange, IsInLimits, KeyFits, row_key}
 use Rattle.rank_key.specs.Packed.{packed_key, number_of}
 use Rattle.rank_key.specs.Digits.{key_of_number, number_fits}
 use Rattle.rank_key.specs.declared.packed.PackedRank.{PackedRank}
@@ -49,7 +49,7 @@ in_two_slots : (i most : ℕ) → cond {A = ℕ} (nat_eq i 1) most 0 + cond {A =
 in_two_slots i most = grind (arith, nat_tests)
 
 module _ {R : Type 0} {d items limit rows : ℕ} (key : R → KeyOf d 16)
-    (holds : (k : KeyOf d 16) → IsWithin d items limit rows k → IsHeld d key k)
+    (holds : (k : KeyOf d 16) → IsInLimits d items limit rows k → IsHeld d key k)
     (roomy : 2 ^ 21 ≤ rows) (few : 2 ≤ items) (wide : 100 ≤ limit) where
   -- a row with small sums that a rank holds
   pub own_row_fits : (r : R) (xs : List ℤ) (slot row : ℕ) → key r ≡ row_key d xs slot row → AllByRecursion IsSmall xs → row < 100 → KeyFits d key (key r)

@@ -8,7 +8,7 @@ use Rattle.tdp_model.specs.Remains.{AtMost}
 use Rattle.tdp_model.specs.KeyTuple.{KeyOf, key_below, key_add, key_none, slot_of}
 use Rattle.tdp_model.specs.TreeProblem.{sum_from, kid_part, best_by_kids}
 use Rattle.tdp_model.proofs.KeyTuples.{tuple_keys}
-use Rattle.rank_key.specs.Keys.{IsHeld, IsWithin, KeyFits, row_key}
+use Rattle.rank_key.specs.Keys.{IsHeld, IsInLimits, KeyFits, row_key}
 use Rattle.engine_tests.specs.SmallNodes.{small_caps, small_shape, root_node, leaf_node}
 use Rattle.tdp_core.specs.declared.parts.NodeShape.{NodeShape}
 use Rattle.tdp_core.specs.declared.parts.NodeParts.{NodeParts}
@@ -66,7 +66,7 @@ pub small_shaped : AreShapes small_shapes
 small_shaped = two_shaped _ _ _ refl refl refl refl (λ i. capped i (get_or small_caps i 0) (ten i)) (λ i. capped i (get_or small_caps i 0) (ten i))
 
 module _ {R : Type 0} {d items limit rows : ℕ} (key : R → KeyOf d 16)
-    (holds : (k : KeyOf d 16) → IsWithin d items limit rows k → IsHeld d key k)
+    (holds : (k : KeyOf d 16) → IsInLimits d items limit rows k → IsHeld d key k)
     (roomy : 2 ^ 21 ≤ rows) (few : 2 ≤ items) (wide : 100 ≤ limit) where
   pub small_held : ((r : R) (i : ℕ) → i < 16 → slot_of d 16 i (key r) < rows) → rows ≤ 2 ^ 32 → AreShapesHeld d key small_shapes
   small_held low narrow = two_nodes_held key holds roomy few wide low narrow _ _ refl refl
@@ -201,7 +201,7 @@ pub small_data : {R : Type 0} {top later sooner whole : R} {root leaf : NodePart
 small_data {top = top} {whole = whole} {leaf = leaf} e r l = ap tree_view e ∙ ap (λ n. n ∷ node_view leaf ∷ []) r ∙ ap (λ n. root_node top whole ∷ n ∷ []) l
 
 module _ {R : Type 0} {d items limit rows : ℕ} (key : R → KeyOf d 16)
-    (holds : (k : KeyOf d 16) → IsWithin d items limit rows k → IsHeld d key k)
+    (holds : (k : KeyOf d 16) → IsInLimits d items limit rows k → IsHeld d key k)
     (roomy : 2 ^ 21 ≤ rows) (few : 2 ≤ items) (wide : 100 ≤ limit) where
   -- what the join of the root's row and the lesser row below it asks
   pub small_fits : (a b : KeyOf d 16) → a ≡ row_key d [] 1 4 → b ≡ row_key d [] 0 1 → KeyFits d key (key_add d 16 a b)

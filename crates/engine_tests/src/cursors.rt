@@ -14,14 +14,14 @@ use tdp_core::{Answer, Ranked};
 
 /// Answers in memory, given in their order. The first `refusals` calls are refused memory.
 #[derive(Drop)]
-struct Listed<R: Rank> {
+struct GivenAnswers<R: Rank> {
     answers: Vec<Answer<R>>,
     place: usize,
     calls: u64,
     refusals: u64,
 }
 
-impl<R: Rank> Ranked for Listed<R> {
+impl<R: Rank> Ranked for GivenAnswers<R> {
     type Key = R;
 
     ghost rest = { λ s. map (λ a. record { rows = a.rows; key = numbers R.KEYS 16 (R.key a.rank) })
@@ -74,10 +74,10 @@ fn cursors_over<R: Rank>(
     alloc: Global,
     count: u16,
     refusals: u64,
-) -> Result<Cursors<Listed<R>>, NoMemory>
+) -> Result<Cursors<GivenAnswers<R>>, NoMemory>
     requires slots { 1 ≤ R.ITEMS }
 {
-    let engine = Listed {
+    let engine = GivenAnswers {
         answers: answers_of(alloc, count)?,
         place: 0,
         calls: 0,

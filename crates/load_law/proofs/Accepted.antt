@@ -12,7 +12,7 @@ use Rattle.query_bind.specs.declared.fault.BindFault.{BindFault}
 use Rattle.refusals.specs.Reason as reason
 use Rattle.refusals.specs.Reason.{Reason, status_of}
 use Rattle.verdict.specs.Faults.{of_bind, of_flaw}
-use Rattle.verdict.specs.AcceptedInput.{Found, found_of}
+use Rattle.verdict.specs.AcceptedInput.{AcceptedInput, found_of}
 use Rattle.verdict.specs.Loading.{Loaded, bound_in, first_uses, most_bytes, no_certificate, short_enough, sound_table}
 use Rattle.verdict.specs.Loading.{tables_in, with_steps}
 use Rattle.verdict.specs.MadeFiles.{made_files}
@@ -127,13 +127,13 @@ accepted number rows in_range some few given = (found_of (load_found number rows
 
 -- ---- how a call ends
 
-accepted_only : {found : Found} {refusal : Reason} → ◌≡◌ {A = Result Found Reason} (Ok found) (Err refusal) → ⊥
+accepted_only : {found : AcceptedInput} {refusal : Reason} → ◌≡◌ {A = Result AcceptedInput Reason} (Ok found) (Err refusal) → ⊥
 accepted_only e = cc
 
 is_command : {command : Command} → ◌≡◌ {A = Asked} (a_command command) no_command → ⊥
 is_command e = cc
 
-module _ (number rows : ℕ) (found : Found) (v : IsVerdict (a_command (load number rows)) [] (Ok found)) where
+module _ (number rows : ℕ) (found : AcceptedInput) (v : IsVerdict (a_command (load number rows)) [] (Ok found)) where
   ends_by : (e : Reason) → IsReason (a_command (load number rows)) (Some []) e → (status_of e ≡ 0) ⊎ ((status_of e ≡ 11) ⊎ (status_of e ≡ 12))
   ends_by reason.Usage h = absurd (is_command h)
   ends_by (reason.ReadFault name) h = absurd h

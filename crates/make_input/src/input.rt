@@ -22,12 +22,12 @@ pub fn query_of(alloc: Global) -> Result<Vec<u8>, NoMemory>
 
 /// The generator's state: the number that it started with, or the last draw.
 #[derive(Drop)]
-struct Draws {
+struct Generator {
     last: u32,
     ghost in_range: { last < 2 ^ 31 },
 }
 
-impl Draws {
+impl Generator {
     /// The next draw.
     fn next(&mut self) -> u32
         ensures value { result ≡ next_draw self.old.last }
@@ -41,7 +41,7 @@ impl Draws {
 
 /// One more row, of two draws: two values below the modulus, and a weight below 1000.
 #[tactic(auto, unfolding(crate::specs::Input::draw, crate::specs::Input::row_text))]
-fn push_row(text: &mut String, modulus: u32, draws: &mut Draws) -> Result<(), AllocError>
+fn push_row(text: &mut String, modulus: u32, draws: &mut Generator) -> Result<(), AllocError>
     requires { 1 ≤ modulus }
     ensures text { IfOk result
         (λ _. string_bytes text.new ≡ string_bytes text.old ++ row_text modulus draws.old.last) }
@@ -62,7 +62,7 @@ fn push_table(
     header: &str,
     modulus: u32,
     rows: u32,
-    draws: &mut Draws,
+    draws: &mut Generator,
 ) -> Result<(), NoMemory>
     requires { 1 ≤ modulus }
     ensures pushed { OnOk result (map (λ f. f.items) tables.new.items
@@ -88,7 +88,7 @@ pub fn tables_of(alloc: Global, number: u32, rows: u32) -> Result<Vec<Vec<u8>>, 
     ensures { IfOk result (λ v. map (λ f. f.items) v.items ≡ files number rows) }
 {
     let modulus = rows / 100 + 1;
-    let mut draws = Draws { last: number };
+    let mut draws = Generator { last: number };
     let mut tables = Vec::new(alloc);
     push_table(alloc, &mut tables, "a,b,w\n", modulus, rows, &mut draws)?;
     push_table(alloc, &mut tables, "b,c,w\n", modulus, rows, &mut draws)?;

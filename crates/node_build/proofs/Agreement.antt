@@ -9,7 +9,7 @@ use Rattle.table_store.specs.Values.{number_of}
 use Rattle.anyk_model.proofs.Flaws.{option_or_first, option_or_second, rows_width}
 use Rattle.table_store.proofs.Numbers.{numbers_tell_lem}
 use Rattle.bound_query.specs.Classes.{HasVariable, row_field, variable_at}
-use Rattle.bound_query.specs.Inside.{IsInside}
+use Rattle.bound_query.specs.NamedPlaces.{IsInside}
 use Rattle.bound_query.specs.Items.{item_at}
 use Rattle.bound_query.specs.WeighedQuery.{BoundQuery, Fits}
 use Rattle.bound_query.specs.Weights.{table_in}

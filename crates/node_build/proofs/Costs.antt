@@ -7,7 +7,7 @@ use Rattle.tdp_model.specs.TreeProblem.{sum_from}
 use Rattle.join_tree.specs.declared.tree.JoinTree.{JoinTree}
 use Rattle.anyk_model.specs.Table.{Table, table_at}
 use Rattle.anyk_model.specs.Query.{Item, Query, item_table, row_counts}
-use Rattle.bound_query.specs.Parts.{sum_of_all}
+use Rattle.bound_query.specs.KeyParts.{sum_of_all}
 use Rattle.bound_query.specs.WeighedQuery.{BoundQuery}
 use Rattle.bound_query.proofs.NodeSums.{fewer_nodes, lengths_fewer, over}
 use Rattle.node_build.specs.Nodes.{IsJoinTreeOf, TellsFault, item_of}

@@ -4,7 +4,7 @@ use Rattle.std.proofs.lemmas.Bool.{cases_lt, cond-true, lt-ltb}
 use Rattle.std.proofs.lemmas.List.{get_or-map, get_or_past, length-map}
 use Rattle.tdp_model.specs.KeyTuple.{KeyOf}
 use Rattle.tdp_model.specs.TreeProblem.{sum_from}
-use Rattle.rank_key.specs.Keys.{IsHeld, IsWithin, row_key}
+use Rattle.rank_key.specs.Keys.{IsHeld, IsInLimits, row_key}
 use Rattle.rank_key.proofs.RowKeys.{row_held}
 use Rattle.tdp_core.specs.declared.parts.NodeShape.{NodeShape}
 use Rattle.tdp_core.specs.RawView.{shape_cap, shape_children, shape_item, shape_parent}
@@ -61,7 +61,7 @@ module _ (bound : BoundQuery) (tables : List Table) where
         omega (arith, small, one, all)
 
     -- ranks that hold each key within these bounds hold that of a row
-    pub node_row_held : {R : Type 0} (d : ℕ) (key : R → KeyOf d 16) (items rows : ℕ) → ((k : KeyOf d 16) → IsWithin d items limit rows k → IsHeld d key k)
+    pub node_row_held : {R : Type 0} (d : ℕ) (key : R → KeyOf d 16) (items rows : ℕ) → ((k : KeyOf d 16) → IsInLimits d items limit rows k → IsHeld d key k)
         → item < 16 → item < items → row < rows → IsHeld d key (row_key d (row_parts bound tables item row) item row)
     node_row_held d key items rows holds = row_held key holds (row_parts bound tables item row) item row
         (λ i. at_below i (unsigned_abs (get_or (row_parts bound tables item row) i (pos 0))) (part_small item row i))

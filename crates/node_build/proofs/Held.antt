@@ -4,7 +4,7 @@ use Rattle.std.specs.List.{range_with_len}
 use Rattle.std.proofs.lemmas.Bool.{cases_lt, cond-false, ne_eqb}
 use Rattle.tdp_model.specs.KeyTuple.{KeyOf, slot_of}
 use Rattle.tdp_model.specs.TreeProblem.{sum_from}
-use Rattle.rank_key.specs.Keys.{IsHeld, IsWithin}
+use Rattle.rank_key.specs.Keys.{IsHeld, IsInLimits}
 use Rattle.tdp_core.specs.declared.parts.NodeShape.{NodeShape}
 use Rattle.tdp_core.specs.RawView.{AreShapesHeld, shape_cap, shape_item}
 use Rattle.tdp_core.specs.WellFormed.{WithinCaps}
@@ -60,7 +60,7 @@ module _ (query : Query) (join : JoinTree) (tree : IsJoinTreeOf query join) (mos
 module _ (bound : BoundQuery) (tables : List Table) (join : JoinTree) (tree : IsJoinTreeOf bound.query join)
     (shapes : List NodeShape) (of_join : AreShapesOf bound tables join join.count shapes) where
   keys_held : {R : Type 0} (d : ℕ) (key : R → KeyOf d 16) (items limit rows : ℕ)
-      → ((k : KeyOf d 16) → IsWithin d items limit rows k → IsHeld d key k) → 0 < rows
+      → ((k : KeyOf d 16) → IsInLimits d items limit rows k → IsHeld d key k) → 0 < rows
       → length bound.query.items ≤ items → CapsBelow limit bound tables
       → (k : KeyOf d 16) → WithinCaps d (length shapes) (shape_item shapes) (shape_cap shapes) (rows - 1) k → IsHeld d key k
   keys_held d key items limit rows holds wide slots below k within =
@@ -96,7 +96,7 @@ module _ (bound : BoundQuery) (tables : List Table) (join : JoinTree) (tree : Is
 
   -- ranks that hold each key within these bounds hold what rows of the nodes can add up to
   pub shapes_held : {R : Type 0} (d : ℕ) (key : R → KeyOf d 16) (items limit rows : ℕ)
-      → ((k : KeyOf d 16) → IsWithin d items limit rows k → IsHeld d key k)
+      → ((k : KeyOf d 16) → IsInLimits d items limit rows k → IsHeld d key k)
       → ((r : R) (i : ℕ) → i < 16 → slot_of d 16 i (key r) < rows) → rows ≤ 2 ^ 32 → 0 < rows
       → length bound.query.items ≤ items → CapsBelow limit bound tables → AreShapesHeld d key shapes
   shapes_held d key items limit rows holds low narrow some slots below = record {

@@ -6,7 +6,7 @@ use Rattle.tdp_core.specs.RawView.{RawView, row_total, rows_at}
 use Rattle.join_tree.specs.declared.tree.JoinTree.{JoinTree}
 use Rattle.anyk_model.specs.Table.{Table}
 use Rattle.anyk_model.specs.Query.{Query}
-use Rattle.bound_query.specs.Parts.{sum_of_all}
+use Rattle.bound_query.specs.KeyParts.{sum_of_all}
 use Rattle.bound_query.specs.WeighedQuery.{BoundQuery}
 use Rattle.bound_query.specs.Shape.{HasNodeRows, HasShape, IsShape, Shape, too_many_rows}
 use Rattle.tdp_model.specs.NodeRows.{most_node_rows}

@@ -9,8 +9,8 @@ use Rattle.join_tree.specs.declared.tree.JoinTree.{JoinTree}
 use Rattle.anyk_model.specs.Table.{Table}
 use Rattle.anyk_model.specs.Query.{Query}
 use Rattle.bound_query.proofs.Sums.{sum_zero}
-use Rattle.bound_query.specs.Inside.{KeyInside}
-use Rattle.bound_query.specs.Parts.{numbers_of}
+use Rattle.bound_query.specs.NamedPlaces.{KeyInside}
+use Rattle.bound_query.specs.KeyParts.{numbers_of}
 use Rattle.bound_query.specs.WeighedQuery.{BoundQuery, Fits}
 use Rattle.bound_query.specs.Weights.{KeyInRange, cap_of, key_at}
 use Rattle.bound_query.proofs.Parts.{caps_add}

@@ -12,7 +12,7 @@ use Rattle.anyk_model.specs.Table.{Table}
 use Rattle.anyk_model.specs.Query.{Query}
 use Rattle.bound_query.specs.Classes.{HasVariable, IsPassing, row_field}
 use Rattle.bound_query.specs.Graph.{IsGraphOf}
-use Rattle.bound_query.specs.Parts.{numbers_of, sum_of_all}
+use Rattle.bound_query.specs.KeyParts.{numbers_of, sum_of_all}
 use Rattle.bound_query.specs.WeighedQuery.{BoundQuery, Fits}
 use Rattle.bound_query.specs.Weights.{cap_of, key_at, part_of, table_in}
 use Rattle.node_build.specs.declared.built.BuildFault.{BuildFault}

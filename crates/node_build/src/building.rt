@@ -4,7 +4,7 @@ ghost use Rattle.tdp_model.specs.NodeRows.{most_node_rows};
 ghost use Rattle.tdp_core.specs.RawView.{row_total};
 ghost use Rattle.tdp_core.specs.Solutions.{IsTieFreeRaw};
 ghost use Rattle.anyk_model.specs.Query.{row_counts};
-ghost use Rattle.bound_query.specs.Parts.{sum_of_all};
+ghost use Rattle.bound_query.specs.KeyParts.{sum_of_all};
 ghost use Rattle.bound_query.specs.WeighedQuery.{Fits};
 ghost use Rattle.node_build.specs.Nodes.{CapsBelow, IsBuilt, IsJoinTreeOf, TellsFault};
 
@@ -58,6 +58,7 @@ pub fn build<R: Rank, L: Ledger>(
         ≤ steps.old + length query.now.query.items
         * sum_of_all (row_counts query.now.query.items tables.now) }
 {
+    // for the proof: there are at most 16 tables, and each is sound
     let _count = tables.count();
     let rows = rows_of_nodes(alloc, query, tables, join)?;
     let rows_of = counts_of(alloc, rows.as_slice())?;

@@ -85,10 +85,10 @@ pub(crate) fn rank_of<R: Rank>(
         ≡ row_key R.KEYS (row_parts query.now tables.now (item_of join.now node) row)
         (item_of join.now node) row }
 {
-    // there are at most 16 items
+    // for the proof: there are at most 16 items
     let _items = query.items();
     let item = join.atom[node as usize];
-    // a table has at most 1,048,576 rows
+    // for the proof: a table has at most 1,048,576 rows
     let _rows = tables.len(query.table_of(item));
     if query.keys() == 1 {
         return R::of_row(&[query.part(tables, item, row, 0)], item, row);

@@ -10,7 +10,7 @@ use Rattle.std.proofs.lemmas.Option.{slice_get_past, slice_get_cases}
 use borrow.Author.Tests.{ltb-false, ltb-true}
 use Rattle.outer_io.specs.Entries.{entry_of, rest_at}
 use Rattle.outer_io.specs.Files.{bytes_of}
-use Rattle.outer_io.specs.declared.held.MemFile.{MemFile}
+use Rattle.outer_io.specs.declared.mem_files.MemFile.{MemFile}
 
 abbrev pub is_named : List ℕ → MemFile → Bool
 is_named name file = bytes_eq (string_bytes file.name) name

@@ -3,7 +3,7 @@ use Rattle.std.proofs.Common.{◌≡◌, ◌↔◌, ◌<◌, ◌≤◌, ◌+◌,
 use Rattle.std.proofs.lemmas.Bool.{lt-ltb}
 use Rattle.std.proofs.lemmas.List.FromFn.{get_or-map-range_with_len, length-map-range_with_len}
 use Rattle.anyk_model.specs.Table.{Table}
-use Rattle.bound_query.specs.Parts.{numbers_of, sum_of_all}
+use Rattle.bound_query.specs.KeyParts.{numbers_of, sum_of_all}
 use Rattle.bound_query.specs.WeighedQuery.{BoundQuery, Fits}
 use Rattle.bound_query.specs.Weights.{cap_of, key_at}
 use Rattle.node_build.specs.Nodes.{CapsBelow, cap_at}

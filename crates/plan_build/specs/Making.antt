@@ -7,7 +7,7 @@ use Rattle.tdp_core.specs.Solutions.{IsTieFreeRaw}
 use Rattle.tdp_core.specs.TreeView.{item, parent}
 use Rattle.anyk_model.specs.Table.{Table}
 use Rattle.anyk_model.specs.Query.{Query, row_counts}
-use Rattle.bound_query.specs.Parts.{sum_of_all}
+use Rattle.bound_query.specs.KeyParts.{sum_of_all}
 use Rattle.bound_query.specs.WeighedQuery.{BoundQuery, Fits}
 use Rattle.join_tree.specs.Rerooting.{IsTree}
 use Rattle.join_tree.specs.declared.tree.JoinTree.{JoinTree}

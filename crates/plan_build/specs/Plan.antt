@@ -9,7 +9,7 @@ use Rattle.anyk_model.specs.Table.{Table}
 use Rattle.anyk_model.specs.Query.{Query, IsWitness}
 use Rattle.anyk_model.specs.Ranking.{ranking_of}
 use Rattle.bound_query.specs.Classes.{IsPassing}
-use Rattle.bound_query.specs.Parts.{sum_of_all}
+use Rattle.bound_query.specs.KeyParts.{sum_of_all}
 use Rattle.bound_query.specs.WeighedQuery.{BoundQuery}
 use Rattle.bound_query.specs.Weights.{part_of}
 use Rattle.rank_key.specs.Keys.{row_key}

@@ -2,7 +2,7 @@
 ghost use Rattle.std.specs.Prelude.{◌≡◌, ◌≤◌, ◌+◌, ◌*◌, ◌<◌, List, length, IfErr, IfOk, Ok};
 ghost use Rattle.anyk_model.specs.Query.{row_counts};
 ghost use Rattle.anyk_model.specs.Table.{Table};
-ghost use Rattle.bound_query.specs.Parts.{sum_of_all};
+ghost use Rattle.bound_query.specs.KeyParts.{sum_of_all};
 ghost use Rattle.bound_query.specs.WeighedQuery.{Fits};
 ghost use Rattle.join_tree.specs.Rerooting.{IsTree};
 ghost use Rattle.bound_query.specs.JoinTreeView.{HasStoredTree};
@@ -135,6 +135,7 @@ fn plan_over<R: Rank, L: Ledger>(
     let node_rows = in_order(built.rows_of, over, join);
     let reduced = reduce(alloc, built.tree, steps)?;
     let tree = solve(alloc, reduced, steps)?;
+    // for the proof: the tree is well formed
     let _nodes = tree.nodes();
     Ok(Plan {
         tree,
@@ -181,6 +182,7 @@ fn nodes_of<R: Rank, L: Ledger>(
 {
     match build(alloc, query, tables, join, MAX_NODE_ROWS, steps) {
         Ok(built) => {
+            // for the proof: the tree is well formed
             let _nodes = built.tree.nodes();
             Ok(built)
         }

@@ -54,8 +54,9 @@ pub fn prepare_ranked<L: Ledger>(
     ensures refusal { IfErr result (TellsFlaw query.now.query tables.now) }
     ensures cost { IsPrepared query.now.query tables.now steps.old steps.new }
 {
-    // at most 8 and at most 16
+    // for the proof: there are at most 8 order keys
     let _keys = query.keys();
+    // for the proof: there are at most 16 items
     let _items = query.items();
     if has_packed_room(query) {
         match prepare_of(alloc, query, tables, item, steps) {

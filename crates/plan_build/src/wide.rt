@@ -37,7 +37,7 @@ pub fn fits_wide_ranks<const N: usize>(query: &Query, tables: &Tables)
     ensures slots { length query.now.query.items ≤ ⟦<FixedRank<N, 16> as Rank>⟧.ITEMS }
     ensures limit { CapsBelow ⟦<FixedRank<N, 16> as Rank>⟧.LIMIT query.now tables.now }
 {
-    // there are at most 16 items
+    // for the proof: there are at most 16 items
     let _items = query.items();
 }
 

@@ -3,7 +3,7 @@ use Rattle.std.proofs.Common.{◌≡◌, ℕ, zero, suc, ◌+◌, ◌^◌, ◌<�
 use Rattle.std.proofs.lemmas.Bool.Decides.{nat_tests}
 use Rattle.tdp_model.specs.KeyTuple.{KeyOf, slot_of}
 use Rattle.tdp_model.specs.TreeProblem.{sum_from}
-use Rattle.rank_key.specs.Keys.{IsHeld, IsWithin}
+use Rattle.rank_key.specs.Keys.{IsHeld, IsInLimits}
 use Rattle.tdp_core.specs.declared.parts.NodeShape.{NodeShape}
 use Rattle.tdp_core.specs.RawView.{AreShapes, AreShapesHeld, shape_item, shape_parent, shape_cap, shape_children}
 use Rattle.tdp_core.specs.TreeView.{kids_below}
@@ -58,7 +58,7 @@ chain_shaped = record {
 }
 
 module _ {R : Type 0} {d items limit rows : ℕ} (key : R → KeyOf d 16)
-    (holds : (k : KeyOf d 16) → IsWithin d items limit rows k → IsHeld d key k)
+    (holds : (k : KeyOf d 16) → IsInLimits d items limit rows k → IsHeld d key k)
     (roomy : 2 ^ 21 ≤ rows) (few : 16 ≤ items) (wide : 2 ^ 127 ≤ limit) where
   pub chain_held : ((r : R) (i : ℕ) → i < 16 → slot_of d 16 i (key r) < rows) → rows ≤ 2 ^ 32 → AreShapesHeld d key chain_shapes
   chain_held low narrow = three_nodes_held key holds roomy few wide low narrow _ _ refl refl refl cap_few cap_few cap_few

@@ -3,7 +3,7 @@ use Rattle.std.proofs.Common.{◌≡◌, ℕ, ◌+◌, ◌-◌, ◌^◌, ◌<◌
 use Rattle.std.proofs.lemmas.Bool.Decides.{nat_tests}
 use Rattle.tdp_model.specs.KeyTuple.{KeyOf, slot_of}
 use Rattle.tdp_model.specs.TreeProblem.{sum_from}
-use Rattle.rank_key.specs.Keys.{IsHeld, IsWithin, row_key}
+use Rattle.rank_key.specs.Keys.{IsHeld, IsInLimits, row_key}
 use Rattle.rank_key.proofs.RowKeys.{row_held}
 use Rattle.tdp_core.specs.WellFormed.{AreHeld, WithinCaps}
 use Rattle.anyk_model.specs.Table.{Table}
@@ -16,7 +16,7 @@ in_three_slots : (i most : ℕ) → cond {A = ℕ} (nat_eq i 2) most 0 + (cond {
 in_three_slots i most = grind (arith, nat_tests)
 
 keys_held : {R : Type 0} {d items limit rows : ℕ} (key : R → KeyOf d 16)
-    → ((k : KeyOf d 16) → IsWithin d items limit rows k → IsHeld d key k)
+    → ((k : KeyOf d 16) → IsInLimits d items limit rows k → IsHeld d key k)
     → 2 ^ 21 ≤ rows → 16 ≤ items → 2 ^ 127 ≤ limit
     → (item : ℕ → ℕ) (cap : ℕ → ℕ → ℕ) → item 0 ≡ 0 → item 1 ≡ 1 → item 2 ≡ 2
     → ((i : ℕ) → cap 0 i ≤ 100) → ((i : ℕ) → cap 1 i ≤ 100) → ((i : ℕ) → cap 2 i ≤ 100)
@@ -35,7 +35,7 @@ keys_held {rows = rows} key holds roomy few wide item cap i0 i1 i2 c0 c1 c2 k wi
 
 -- three nodes of items 0, 1 and 2, whose caps are at most 100
 pub three_nodes_held : {R : Type 0} {d items limit rows : ℕ} (key : R → KeyOf d 16)
-    → ((k : KeyOf d 16) → IsWithin d items limit rows k → IsHeld d key k)
+    → ((k : KeyOf d 16) → IsInLimits d items limit rows k → IsHeld d key k)
     → 2 ^ 21 ≤ rows → 16 ≤ items → 2 ^ 127 ≤ limit
     → ((r : R) (i : ℕ) → i < 16 → slot_of d 16 i (key r) < rows) → rows ≤ 2 ^ 32
     → (item : ℕ → ℕ) (cap : ℕ → ℕ → ℕ) → item 0 ≡ 0 → item 1 ≡ 1 → item 2 ≡ 2
@@ -54,7 +54,7 @@ one_small x h (suc i) = omega arith
 
 -- a row with such sums
 pub small_row_held : {R : Type 0} {d items limit rows : ℕ} (key : R → KeyOf d 16)
-    → ((k : KeyOf d 16) → IsWithin d items limit rows k → IsHeld d key k)
+    → ((k : KeyOf d 16) → IsInLimits d items limit rows k → IsHeld d key k)
     → 2 ^ 21 ≤ rows → 16 ≤ items → 2 ^ 127 ≤ limit
     → (xs : List ℤ) (slot row : ℕ) → ((i : ℕ) → unsigned_abs (get_or xs i (pos 0)) ≤ 100) → slot < 16 → row < 2 ^ 21
     → IsHeld d key (row_key d xs slot row)

@@ -5,7 +5,7 @@ use Rattle.std.proofs.Common.{refl, sym, ap, subst, ◌∙◌, inl, inr, arith, 
 use Rattle.std.proofs.lemmas.Bool.{cases_lt}
 use Rattle.std.proofs.lemmas.List.{get_or_append_left, get_or_push, get_or-replicate, length-replicate}
 use Rattle.proof_check.specs.RowPlaces.{place_at}
-use Rattle.proof_check.specs.Adding.{IsAdding}
+use Rattle.proof_check.specs.PrefixNumbers.{IsAdding}
 use Rattle.proof_check.specs.Levels.{ArePrefixes, BeginAlike, IsPairAt, IsTaken, list_at}
 
 abbrev Pair : Type 0

@@ -11,10 +11,10 @@ use Rattle.rank_key.specs.Keys.{KeyFits}
 use Rattle.tdp_core.specs.RawView.{IsRawFormed, raw_len}
 use Rattle.proof_model.specs.QueryProblem.{problem_in}
 use Rattle.proof_check.specs.BoundedRows.{BoundedView, bound_ranks}
-use Rattle.proof_check.specs.Lows.{IsBoundedTree}
+use Rattle.proof_check.specs.LowBounds.{IsBoundedTree}
 use Rattle.proof_check.proofs.Nodes.{all_nodes}
-use Rattle.proof_check.specs.declared.branches.Branch.{Branch}
-use Rattle.proof_check.specs.Levels.{FitsGroup, IsBase, IsBranch, IsGroupOf, IsNoBranch, base_part}
+use Rattle.proof_check.specs.declared.open_places.OpenPlace.{OpenPlace}
+use Rattle.proof_check.specs.Levels.{FitsGroup, IsBase, IsOpenPlace, IsGroupOf, IsNoOpenPlace, base_part}
 use Rattle.proof_check.proofs.Known.{choice_fits, choice_is, in_some}
 
 module _ {R : Type 0} (join : JoinTree) (tree : BoundedView R) (d : ℕ) (key : R → KeyOf d 16) (p : ℕ) (start : List ℕ) where
@@ -39,7 +39,7 @@ module _ {R : Type 0} (join : JoinTree) (tree : BoundedView R) (d : ℕ) (key : 
       no clash
 
   -- a beginning that may not be left is left in no way
-  pub not_left : (g : ℕ) (b : KeyOf d 16) → IsNoBranch join tree d key p start → g < length (bound_ranks tree p)
+  pub not_left : (g : ℕ) (b : KeyOf d 16) → IsNoOpenPlace join tree d key p start → g < length (bound_ranks tree p)
       → IsGroupOf join tree d key p start g → IsBase join tree d key p start (Some b) → ⊥
   not_left g b (inl none) l group base = none g l group
   not_left g b (inr none) l group base = no_base b none base
@@ -47,8 +47,8 @@ module _ {R : Type 0} (join : JoinTree) (tree : BoundedView R) (d : ℕ) (key : 
   -- the ranks that are added fit
   pub branch_fits : IsBoundedTree join d key tree → IsTree join.count join.atom join.parent → length join.atom ≡ 16
       → IsRawFormed d key tree.raw → p < join.count
-      → ((q : ℕ) → q < p → slice_index start q < raw_len tree.raw q) → (b : Branch R)
-      → IsBranch join tree d key p start b → FitsGroup join tree d key p b.group (key b.base)
+      → ((q : ℕ) → q < p → slice_index start q < raw_len tree.raw q) → (b : OpenPlace R)
+      → IsOpenPlace join tree d key p start b → FitsGroup join tree d key p b.group (key b.base)
   branch_fits known ordered long formed node within b is i low inside has =
       let nodes = all_nodes known.query known.tables join ordered long in
       let node' : p < (problem_in known.query known.tables join).nodes = omega (arith, nodes, node) in

@@ -21,7 +21,7 @@ use Rattle.proof_model.specs.Valid.{bound_row, choice_key}
 use Rattle.proof_model.proofs.Choices.{pick_le, pick_gt}
 use Rattle.proof_model.proofs.Sums.{pick_eq, pick_ne}
 use Rattle.proof_check.specs.BoundedRows.{BoundedView, IsBounded, bound_ranks, named_bound, own_bound, query_key, rank_of_bound}
-use Rattle.proof_check.specs.Lows.{AreServed, IsLow, low_key}
+use Rattle.proof_check.specs.LowBounds.{AreServed, IsLow, low_key}
 use Rattle.proof_check.specs.RowPlaces.{ArePlaced, place_at}
 use Rattle.proof_check.proofs.LowKeys.{low_some}
 use Rattle.proof_check.proofs.LowParts.{AreNamed, low_part}

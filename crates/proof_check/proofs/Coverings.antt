@@ -18,7 +18,7 @@ use Rattle.proof_model.specs.Valid.{IsCovered, bound_key}
 use Rattle.proof_model.specs.Wide.{wide}
 use Rattle.proof_model.proofs.Wider.{wide_below}
 use Rattle.proof_check.specs.BoundedRows.{BoundedView, IsBounded, own_bound, query_key, rank_of_bound}
-use Rattle.proof_check.specs.Lows.{IsLow, low_key}
+use Rattle.proof_check.specs.LowBounds.{IsLow, low_key}
 use Rattle.proof_check.proofs.Nodes.{option_none, option_some}
 
 -- wide keys are in the order of the keys that they stand for

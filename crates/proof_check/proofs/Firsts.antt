@@ -4,7 +4,7 @@ use Rattle.proof_model.specs.Certificate.{Certificate}
 use Rattle.proof_model.specs.Problem.{Problem, IsSolutionAt}
 use Rattle.proof_model.specs.Valid.{Flaw, no_solution, bound_twice, weak, no_answer, not_in_order, wrong_count, missed}
 use Rattle.proof_model.specs.Valid.{answer_at, answer_key, bound_at, bound_row, Holds, IsBoundOf, IsCount}
-use Rattle.proof_model.specs.Valid.{IsEarlier, IsFirst}
+use Rattle.proof_model.specs.Valid.{IsEarlier, IsFirstFlaw}
 use Rattle.proof_check.specs.Coverage.{AllCovered, IsFirstWeak}
 use Rattle.proof_check.specs.Solutions.{AreOrdered, IsFirstBad, IsFirstBehind}
 
@@ -19,7 +19,7 @@ module _ {K : Type 0} (t : Problem K) (c : Certificate) (limit : Option ℕ)
   twice_none : (j : ℕ) → Holds t c limit (bound_twice j) → ⊥
   twice_none j h = apart h.0 h.1 j h.2 h.3 h.4 h.5
 
-  pub first_weak_lem : (v : ℕ) → IsFirstWeak t c v → IsFirst t c limit (weak v)
+  pub first_weak_lem : (v : ℕ) → IsFirstWeak t c v → IsFirstFlaw t c limit (weak v)
   first_weak_lem v h = record {
     holds = (h.1.0, h.0, h.1.1, h.1.2);
     first = before;
@@ -43,7 +43,7 @@ module _ {K : Type 0} (t : Problem K) (c : Certificate) (limit : Option ℕ)
     weak_none : (v : ℕ) → Holds t c limit (weak v) → ⊥
     weak_none v h = h.3 (covered v h.1 h.0 h.2)
 
-    pub first_bad : (i : ℕ) → IsFirstBad t c i → IsFirst t c limit (no_answer i)
+    pub first_bad : (i : ℕ) → IsFirstBad t c i → IsFirstFlaw t c limit (no_answer i)
     first_bad i h = record {
       holds = (h.0, h.1);
       first = before;
@@ -74,7 +74,7 @@ module _ {K : Type 0} (t : Problem K) (c : Certificate) (limit : Option ℕ)
           h.2 (subst (λ m. t.Below (answer_key t c (j - 1)) (answer_key t c m)) next
           (ordered (j - 1) (omega (arith, next, l))))
 
-      pub first_behind : (i : ℕ) → IsFirstBehind t c i → IsFirst t c limit (not_in_order i)
+      pub first_behind : (i : ℕ) → IsFirstBehind t c i → IsFirstFlaw t c limit (not_in_order i)
       first_behind i h = record {
         holds = (h.0, h.1, h.2);
         first = before;
@@ -93,7 +93,7 @@ module _ {K : Type 0} (t : Problem K) (c : Certificate) (limit : Option ℕ)
           before missed (inr e) holds = absurd (omega (arith, e.0))
 
       pub first_count : AreOrdered t c (length c.answers) → (IsCount t c limit c.ended (length c.answers) → ⊥)
-          → IsFirst t c limit wrong_count
+          → IsFirstFlaw t c limit wrong_count
       first_count ordered h = record {
         holds = h;
         first = before;

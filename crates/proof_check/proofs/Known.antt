@@ -23,7 +23,7 @@ use Rattle.proof_model.proofs.Sums.{pick_eq, pick_ne}
 use Rattle.proof_model.proofs.Wider.{wide_add, wide_none, wide_sum}
 use Rattle.proof_check.specs.BoundedRows.{BoundedView, IsBounded, named_bound, query_key, rank_of_bound}
 use Rattle.proof_check.proofs.RankSums.{parts_fit}
-use Rattle.proof_check.specs.Lows.{AreServed, low_key}
+use Rattle.proof_check.specs.LowBounds.{AreServed, low_key}
 use Rattle.proof_check.proofs.Nodes.{parent_at, parents_first_lem, option_some}
 use Rattle.proof_check.proofs.Keys.{base_key, base_term, choice_term}
 use Rattle.proof_check.specs.Levels.{base_part}

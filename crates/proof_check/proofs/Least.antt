@@ -8,11 +8,11 @@ use Rattle.tdp_model.specs.KeyTuple.{KeyOf, key_below}
 use Rattle.tdp_model.specs.Remains.{AtMost}
 use Rattle.tdp_model.proofs.Keys.{at_most_trans}
 use Rattle.tdp_model.proofs.KeyTuples.{tuple_keys}
-use Rattle.proof_check.specs.declared.branches.Branch.{Branch}
+use Rattle.proof_check.specs.declared.open_places.OpenPlace.{OpenPlace}
 use Rattle.proof_check.specs.Levels.{AreLeast, IsLesser}
 
 -- nothing is known before the first beginning
-pub none_least : {R : Type 0} (d : ℕ) (key : R → KeyOf d 16) (branches : List (Option (Branch R))) (least : List (Option R))
+pub none_least : {R : Type 0} (d : ℕ) (key : R → KeyOf d 16) (branches : List (Option (OpenPlace R))) (least : List (Option R))
     → ((g : ℕ) → get_or least g None ≡ None) → AreLeast d key 0 branches least
 none_least d key branches least none = record {
   below = λ n b l e. absurd (omega (arith, l));
@@ -20,7 +20,7 @@ none_least d key branches least none = record {
       let no : None ≡ Some k → ⊥ = λ w. cc in no clash);
 }
 
-module _ {R : Type 0} (d : ℕ) (key : R → KeyOf d 16) (m : ℕ) (branches : List (Option (Branch R)))
+module _ {R : Type 0} (d : ℕ) (key : R → KeyOf d 16) (m : ℕ) (branches : List (Option (OpenPlace R)))
     (least : List (Option R)) (are : AreLeast d key m branches least) where
   -- a beginning that may not be left
   pub least_kept : get_or branches m None ≡ None → AreLeast d key (m + 1) branches least
@@ -36,7 +36,7 @@ module _ {R : Type 0} (d : ℕ) (key : R → KeyOf d 16) (m : ℕ) (branches : L
         (o.0, (o.1.0, let l = o.1.1 in omega (arith, l), o.1.2, o.1.3, o.1.4));
   }
 
-  module _ (b : Branch R) (here : get_or branches m None ≡ Some b) (within : b.group < length least) (now : R)
+  module _ (b : OpenPlace R) (here : get_or branches m None ≡ Some b) (within : b.group < length least) (now : R)
       (lesser : IsLesser d key (get_or least b.group None) b.base now) where
     after : List (Option R)
     after = set least b.group (Some now)
@@ -49,7 +49,7 @@ module _ {R : Type 0} (d : ℕ) (key : R → KeyOf d 16) (m : ℕ) (branches : L
     unfolding after
     elsewhere g n = get_or-set_other least b.group g (Some now) None n
 
-    below_now : (n : ℕ) (x : Branch R) → n < m + 1 → get_or branches n None ≡ Some x
+    below_now : (n : ℕ) (x : OpenPlace R) → n < m + 1 → get_or branches n None ≡ Some x
         → (k : R) × (get_or after x.group None ≡ Some k) × AtMost (key_below d 16) (key k) (key x.base)
     below_now n x l e = elim (cases_lt n m) [
       | inl less ↦
@@ -67,12 +67,12 @@ module _ {R : Type 0} (d : ℕ) (key : R → KeyOf d 16) (m : ℕ) (branches : L
           let is : n ≡ m = omega (arith, l, at) in
           let same : b ≡ x =
           let both : Some b ≡ Some x = sym here ∙ ap (λ k. get_or branches k None) (sym is) ∙ e in cc in
-          subst (λ (y : Branch R). (k : R) × (get_or after y.group None ≡ Some k)
+          subst (λ (y : OpenPlace R). (k : R) × (get_or after y.group None ≡ Some k)
           × AtMost (key_below d 16) (key k) (key y.base)) same (now, at_group, lesser.below)
     ]
 
     one_now : (g : ℕ) (k : R) → get_or after g None ≡ Some k
-        → (n : ℕ) × ((x : Branch R) × (n < m + 1) × (get_or branches n None ≡ Some x) × (x.group ≡ g) × (x.base ≡ k))
+        → (n : ℕ) × ((x : OpenPlace R) × (n < m + 1) × (get_or branches n None ≡ Some x) × (x.group ≡ g) × (x.base ≡ k))
     one_now g k e = elim (cases_eq g b.group) [
       | inl same ↦
           let is : now ≡ k =

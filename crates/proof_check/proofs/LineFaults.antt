@@ -23,7 +23,7 @@ use Rattle.bound_query.specs.Shape.{IsShape, Shape}
 use Rattle.proof_model.specs.Faults.{TellsFlaw}
 use Rattle.proof_model.specs.Problem.{IsSolutionAt, Problem}
 use Rattle.proof_model.specs.QueryProblem.{problem_in}
-use Rattle.proof_model.specs.Valid.{Flaw, Holds, IsBoundOf, IsEarlier, IsFirst, bound_at, bound_key, bound_row}
+use Rattle.proof_model.specs.Valid.{Flaw, Holds, IsBoundOf, IsEarlier, IsFirstFlaw, bound_at, bound_key, bound_row}
 use Rattle.proof_model.specs.Valid.{no_solution, bound_twice, weak, no_answer, not_in_order, wrong_count, missed}
 use Rattle.proof_check.specs.BoundedRows.{HasProblemRows, query_key}
 use Rattle.proof_check.specs.Faults.{TellsBadBound, TellsBoundTwice}
@@ -79,7 +79,7 @@ module _ {K : Type 0} (t : Problem K) (c : Certificate) (limit : Option ℕ) whe
     none_before missed (inl l) h = absurd (omega (arith, l))
     none_before missed (inr l) h = let e = l.0 in absurd (omega (arith, e))
 
-    pub first_bad : Holds t c limit (no_solution n) → IsFirst t c limit (no_solution n)
+    pub first_bad : Holds t c limit (no_solution n) → IsFirstFlaw t c limit (no_solution n)
     first_bad h = record { holds = h; first = none_before }
 
   module _ (n : ℕ) (solved : AreSolved (length c.bounds))
@@ -100,7 +100,7 @@ module _ {K : Type 0} (t : Problem K) (c : Certificate) (limit : Option ℕ) whe
       none_twice missed (inl l) h = absurd (omega (arith, l))
       none_twice missed (inr l) h = let e = l.0 in absurd (omega (arith, e))
 
-      pub first_twice : Holds t c limit (bound_twice n) → IsFirst t c limit (bound_twice n)
+      pub first_twice : Holds t c limit (bound_twice n) → IsFirstFlaw t c limit (bound_twice n)
       first_twice h = record { holds = h; first = none_twice }
 
 -- ---- one line more
@@ -305,7 +305,7 @@ module _ (query : Query) (tables : List Table) (join : JoinTree) {R : Type 0} (d
       -- the next line is the first whose group has a line before it
       pub twice : (limit : Option ℕ) (v b : ℕ) → n ≡ length c.bounds → v < length raw.shapes → b < length (get_or groups v []) → k < n
           → line_node c k ≡ suc v → get_or (get_or groups v []) b 0 ≡ group_link raw v (get_or tops k 0)
-          → IsFirst t c limit (bound_twice k)
+          → IsFirstFlaw t c limit (bound_twice k)
       twice limit v b all inside h room node same =
           let at = place_line v b inside h in
           let low = at.0 in

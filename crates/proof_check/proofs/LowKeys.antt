@@ -17,7 +17,7 @@ use Rattle.proof_model.specs.QueryProblem.{problem_in}
 use Rattle.proof_model.specs.Valid.{Serves, bound_key}
 use Rattle.proof_model.proofs.Wider.{wide_add, wide_none, wide_sum}
 use Rattle.proof_check.specs.BoundedRows.{BoundedView, IsBounded, named_bound, query_key, rank_of_bound}
-use Rattle.proof_check.specs.Lows.{AreServed, IsLow, low_key}
+use Rattle.proof_check.specs.LowBounds.{AreServed, IsLow, low_key}
 use Rattle.proof_check.proofs.LowParts.{AreNamed, low_part, named_key}
 
 module _ {R : Type 0} (query : Query) (tables : List Table) (join : JoinTree) (d : ℕ) (key : R → KeyOf d 16)

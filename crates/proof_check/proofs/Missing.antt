@@ -3,7 +3,7 @@ use Rattle.std.proofs.Common.{◌≡◌, ℕ, ◌+◌, ◌-◌, ◌<◌, suc, Op
 use Rattle.proof_model.specs.Certificate.{Certificate}
 use Rattle.proof_model.specs.Problem.{Problem, IsSolutionAt}
 use Rattle.proof_model.specs.Valid.{Flaw, no_solution, bound_twice, weak, no_answer, not_in_order, wrong_count, missed}
-use Rattle.proof_model.specs.Valid.{Holds, IsBoundOf, IsCount, IsCovered, IsEarlier, IsFirst, answer_at, answer_key}
+use Rattle.proof_model.specs.Valid.{Holds, IsBoundOf, IsCount, IsCovered, IsEarlier, IsFirstFlaw, answer_at, answer_key}
 use Rattle.proof_model.specs.Valid.{bound_at, bound_row}
 
 module _ {K : Type 0} (t : Problem K) (c : Certificate) (limit : Option ℕ)
@@ -28,5 +28,5 @@ module _ {K : Type 0} (t : Problem K) (c : Certificate) (limit : Option ℕ)
   none_before wrong_count e h = h count
   none_before missed e h = elim e [ inl x ↦ absurd (omega (arith, x)) | inr x ↦ absurd (let y = x.1 in omega (arith, y)) ]
 
-  pub missed_first : Holds t c limit missed → IsFirst t c limit missed
+  pub missed_first : Holds t c limit missed → IsFirstFlaw t c limit missed
   missed_first h = record { holds = h; first = none_before }

@@ -9,7 +9,7 @@ use Rattle.tdp_core.specs.RawView.{raw_len, raw_rank}
 use Rattle.proof_model.proofs.Choices.{pick_gt, pick_le}
 use Rattle.proof_model.specs.QueryProblem.{problem_in}
 use Rattle.proof_check.specs.BoundedRows.{BoundedView, bound_ranks, named_bound, rank_of_bound}
-use Rattle.proof_check.specs.Lows.{IsBoundedTree}
+use Rattle.proof_check.specs.LowBounds.{IsBoundedTree}
 use Rattle.proof_check.proofs.Nodes.{all_nodes, parent_at}
 use Rattle.proof_check.specs.Levels.{base_part}
 

@@ -10,7 +10,7 @@ use Rattle.anyk_model.specs.Query.{IsWitness, Query}
 use Rattle.anyk_model.specs.Output.{cut}
 use Rattle.anyk_model.specs.Ranking.{ranking_of}
 use Rattle.anyk_model.proofs.Exists.{ranking_is}
-use Rattle.bound_query.specs.Inside.{IsWithin}
+use Rattle.bound_query.specs.NamedPlaces.{NamesExist}
 use Rattle.bound_query.specs.Shape.{HasTree}
 use Rattle.witness_key.specs.WitnessKey.{witness_key}
 use Rattle.witness_key.proofs.Rankings.{keys_tell_witnesses_lem, witness_length}
@@ -60,7 +60,7 @@ module _ (query : Query) (tables : List Table) (few : length query.items ≤ 16)
       rest_of [] = []
       rest_of (a ∷ more) = more
 
-module _ (query : Query) (tables : List Table) (atoms parents : List ℕ) (within : IsWithin query tables)
+module _ (query : Query) (tables : List Table) (atoms parents : List ℕ) (within : NamesExist query tables)
     (hung : HasTree query atoms parents)
     (c : Certificate) (valid : IsValid (problem_of query tables atoms parents) c query.limit) where
   abbrev t : Problem (KeyOf (length query.order) 16)

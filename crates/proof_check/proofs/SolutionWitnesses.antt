@@ -10,7 +10,7 @@ use Rattle.rankings.specs.Order.{IsRanking}
 use Rattle.anyk_model.specs.Table.{Table}
 use Rattle.anyk_model.specs.Query.{IsWitness, Query}
 use Rattle.anyk_model.specs.Ranking.{ranking_of}
-use Rattle.bound_query.specs.Inside.{IsWithin}
+use Rattle.bound_query.specs.NamedPlaces.{NamesExist}
 use Rattle.bound_query.specs.Shape.{HasTree}
 use Rattle.witness_key.specs.WitnessKey.{witness_key}
 use Rattle.witness_key.proofs.Rankings.{keys_of_ranking}
@@ -28,7 +28,7 @@ use Rattle.proof_model.proofs.SolutionRows.{list_key, list_of, list_solves, solu
 use Rattle.proof_model.proofs.Soundness.{all_below}
 use Rattle.proof_model.proofs.Sums.{pick_eq}
 
-module _ (query : Query) (tables : List Table) (atoms parents : List ℕ) (within : IsWithin query tables)
+module _ (query : Query) (tables : List Table) (atoms parents : List ℕ) (within : NamesExist query tables)
     (hung : HasTree query atoms parents) where
   abbrev t : Problem (KeyOf (length query.order) 16)
   t = problem_of query tables atoms parents

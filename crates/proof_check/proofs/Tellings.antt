@@ -9,7 +9,7 @@ use Rattle.proof_model.specs.Certificate.{Certificate}
 use Rattle.proof_model.specs.declared.fault.ProofFault.{ProofFault}
 use Rattle.proof_model.specs.Faults.{TellsFlaw}
 use Rattle.proof_model.specs.QueryProblem.{problem_in}
-use Rattle.proof_model.specs.Valid.{IsFirst, no_answer, not_in_order}
+use Rattle.proof_model.specs.Valid.{IsFirstFlaw, no_answer, not_in_order}
 use Rattle.proof_check.specs.Solutions.{IsFirstBad, IsFirstBehind, TellsBad, TellsBehind}
 
 -- what is told of the fault that `?` hands on
@@ -22,7 +22,7 @@ module _ (query : Query) (tables : List Table) (join : JoinTree) (c : Certificat
     (is_shape : IsShape query tables (Ok shape)) (told : ProofFault) where
   pub tells_bad : TellsBad (problem_in query tables join) c told
       → ((i : ℕ) → IsFirstBad (problem_in query tables join) c i
-      → IsFirst (problem_in query tables join) c query.limit (no_answer i))
+      → IsFirstFlaw (problem_in query tables join) c query.limit (no_answer i))
       → TellsFlaw query tables join c told
   tells_bad (inl e) first = subst (TellsFlaw query tables join c) (sym e) tt
   tells_bad (inr h) first =
@@ -30,7 +30,7 @@ module _ (query : Query) (tables : List Table) (join : JoinTree) (c : Certificat
 
   pub tells_behind : TellsBehind (problem_in query tables join) c told
       → ((i : ℕ) → IsFirstBehind (problem_in query tables join) c i
-      → IsFirst (problem_in query tables join) c query.limit (not_in_order i))
+      → IsFirstFlaw (problem_in query tables join) c query.limit (not_in_order i))
       → TellsFlaw query tables join c told
   tells_behind h first =
       subst (TellsFlaw query tables join c) (sym h.1) (shape, is_shape, not_in_order h.0, refl, first h.0 h.2)

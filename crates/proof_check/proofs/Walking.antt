@@ -10,7 +10,7 @@ use Rattle.tdp_model.specs.KeyTuple.{KeyOf, key_add}
 use Rattle.tdp_core.specs.RawView.{raw_len}
 use Rattle.proof_check.specs.BoundedRows.{BoundedView}
 use Rattle.proof_check.proofs.Nodes.{all_nodes}
-use Rattle.proof_check.specs.declared.branches.Branch.{Branch}
+use Rattle.proof_check.specs.declared.open_places.OpenPlace.{OpenPlace}
 use Rattle.proof_check.specs.declared.offers.Offer.{Offer}
 use Rattle.proof_check.specs.Levels.{AreGroups, AreLeast, AreLists, AreOffers, CanLeave, FitSums, FitsRows, HasLow}
 use Rattle.proof_check.specs.Levels.{IsFirstEarly, IsFirstPast, IsInGroup, IsLeftAfter, IsLeftBefore, IsListed, IsReady}
@@ -45,10 +45,10 @@ module _ {R : Type 0} (join : JoinTree) (tree : BoundedView R) (d : ℕ) (key : 
 
   module _ (groups : List (List ℕ)) (least : List (Option R))
       (grouped : AreGroups (own_bounds tree p) (length least) groups) (last : Option (KeyOf d 16))
-      (branches : List (Option (Branch R))) (its : AreLeast d key (length branches) branches least)
+      (branches : List (Option (OpenPlace R))) (its : AreLeast d key (length branches) branches least)
       (lists : List (List (Offer R))) (are : AreLists join tree d key p last groups least (length least) lists) where
     -- the list of a branch's group
-    pub listed : (n : ℕ) (b : Branch R) → n < length branches → slice_index_or branches n None ≡ Some b
+    pub listed : (n : ℕ) (b : OpenPlace R) → n < length branches → slice_index_or branches n None ≡ Some b
         → b.group < length least → IsListed join tree d key p last b lists
     listed n b l e h =
         let low = its.below n b l e in
@@ -62,7 +62,7 @@ module _ {R : Type 0} (join : JoinTree) (tree : BoundedView R) (d : ℕ) (key : 
           offers = are.each b.group low.0 h low.1;
         }
 
-  module _ (last : Option (KeyOf d 16)) (b : Branch R) (lists : List (List (Offer R)))
+  module _ (last : Option (KeyOf d 16)) (b : OpenPlace R) (lists : List (List (Offer R)))
       (its : IsListed join tree d key p last b lists) where
     abbrev offers : List (Offer R)
     offers = slice_index_or lists b.group []

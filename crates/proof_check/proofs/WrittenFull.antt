@@ -12,7 +12,7 @@ use Rattle.anyk_model.specs.Output.{cut}
 use Rattle.anyk_model.specs.Ranking.{IsBefore, Precedes, ranking_of}
 use Rattle.anyk_model.proofs.Exists.{ranking_is}
 use Rattle.anyk_model.specs.ListOrder.{before_irrefl}
-use Rattle.bound_query.specs.Inside.{IsWithin}
+use Rattle.bound_query.specs.NamedPlaces.{NamesExist}
 use Rattle.bound_query.specs.Shape.{HasTree}
 use Rattle.bound_query.specs.Steps.{reaches}
 use Rattle.witness_key.specs.WitnessKey.{witness_key}
@@ -31,7 +31,7 @@ use Rattle.proof_model.proofs.SolutionRows.{HasItems, list_key, list_of, list_so
 use Rattle.proof_check.proofs.Lists.{AreFirst, are_first, ascending_at, member_of, place_at}
 use Rattle.proof_check.proofs.SolutionWitnesses.{root_below, rows_key, solution_witness, witness_solution}
 
-module _ (query : Query) (tables : List Table) (atoms parents : List ℕ) (within : IsWithin query tables)
+module _ (query : Query) (tables : List Table) (atoms parents : List ℕ) (within : NamesExist query tables)
     (hung : HasTree query atoms parents)
     (c : Certificate)
     (written : IsWritten (problem_of query tables atoms parents) c (cut query.limit (ranking_of query tables)))

@@ -8,7 +8,7 @@ use Rattle.anyk_model.specs.Table.{Table}
 use Rattle.anyk_model.specs.Query.{Query}
 use Rattle.anyk_model.specs.Output.{cut}
 use Rattle.anyk_model.specs.Ranking.{ranking_of}
-use Rattle.bound_query.specs.Inside.{IsWithin}
+use Rattle.bound_query.specs.NamedPlaces.{NamesExist}
 use Rattle.bound_query.specs.Shape.{HasNodeRows, HasShape, HasTree, Shape}
 use Rattle.bound_query.proofs.OneShape.{one_tree}
 use Rattle.bound_query.specs.Steps.{reaches}
@@ -90,7 +90,7 @@ answers_from n (x ∷ xs) d h =
           (omega (arith, later), next.1)),
     )
 
-module _ (query : Query) (tables : List Table) (atoms parents : List ℕ) (within : IsWithin query tables)
+module _ (query : Query) (tables : List Table) (atoms parents : List ℕ) (within : NamesExist query tables)
     (few : HaveFewRows tables)
     (hung : HasTree query atoms parents) where
   abbrev t : Problem (KeyOf (length query.order) 16)

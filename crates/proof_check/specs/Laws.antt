@@ -4,7 +4,7 @@ use Rattle.anyk_model.specs.Table.{Table}
 use Rattle.anyk_model.specs.Query.{IsWitness, Query}
 use Rattle.anyk_model.specs.Output.{cut}
 use Rattle.anyk_model.specs.Ranking.{ranking_of}
-use Rattle.bound_query.specs.Inside.{IsWithin}
+use Rattle.bound_query.specs.NamedPlaces.{NamesExist}
 use Rattle.bound_query.specs.Shape.{HasTree}
 use Rattle.witness_key.specs.WitnessKey.{witness_key}
 use Rattle.proof_model.specs.Certificate.{AnswerLine, Certificate}
@@ -23,7 +23,7 @@ answer_rows c = map (λ (a : AnswerLine). a.rows) c.answers
 -- key
 abbrev pub SolutionsAreWitnesses : Type 0
 SolutionsAreWitnesses =
-    (query : Query) (tables : List Table) (atoms parents : List ℕ) → IsWithin query tables
+    (query : Query) (tables : List Table) (atoms parents : List ℕ) → NamesExist query tables
     → HasTree query atoms parents
     → (rows : List ℕ)
     → (IsSolutionAt (problem_of query tables atoms parents) 0 rows ↔ IsWitness query tables rows)
@@ -36,7 +36,7 @@ SolutionsAreWitnesses =
 abbrev pub AnswersBeginRanking : Type 0
 AnswersBeginRanking =
     (query : Query) (tables : List Table) (atoms parents : List ℕ) (c : Certificate)
-    → IsWithin query tables → HasTree query atoms parents
+    → NamesExist query tables → HasTree query atoms parents
     → IsValid (problem_of query tables atoms parents) c query.limit
     → (answer_rows c ≡ cut query.limit (ranking_of query tables))
     × (c.ended ≡ true → answer_rows c ≡ ranking_of query tables)
@@ -45,7 +45,7 @@ AnswersBeginRanking =
 abbrev pub WrittenIsValid : Type 0
 WrittenIsValid =
     (query : Query) (tables : List Table) (atoms parents text : List ℕ)
-    → IsWithin query tables → HaveFewRows tables → HasTree query atoms parents
+    → NamesExist query tables → HaveFewRows tables → HasTree query atoms parents
     → IsProofText query tables text
     → (c : Certificate) × (proof_of text ≡ Ok c)
     × IsValid (problem_of query tables atoms parents) c query.limit

@@ -11,10 +11,10 @@ use Rattle.tdp_model.specs.Remains.{AtMost}
 use Rattle.tdp_model.specs.TreeProblem.{sum_from}
 use Rattle.tdp_core.specs.RawView.{IsRawFormed, raw_len, raw_number, raw_rank}
 use Rattle.proof_check.specs.BoundedRows.{BoundedView, bound_ranks, named_bound, own_bound, rank_of_bound}
-use Rattle.proof_check.specs.Lows.{IsBoundedTree, IsLow, OfEach}
+use Rattle.proof_check.specs.LowBounds.{IsBoundedTree, IsLow, OfEach}
 use Rattle.proof_check.specs.RowPlaces.{place_at}
 use Rattle.proof_check.specs.declared.offers.Offer.{Offer}
-use Rattle.proof_check.specs.declared.branches.Branch.{Branch}
+use Rattle.proof_check.specs.declared.open_places.OpenPlace.{OpenPlace}
 
 -- # Beginnings
 
@@ -73,7 +73,7 @@ module _ {R : Type 0} (d : ℕ) (key : R → KeyOf d 16) where
       → AtMost (key_below d 16) (key a.low) (key b.low)
 
   -- what is known for the branch can be added to the offers of its group
-  abbrev pub FitSums : Branch R → List (List (Offer R)) → Type 0
+  abbrev pub FitSums : OpenPlace R → List (List (Offer R)) → Type 0
   FitSums b lists =
       (j : ℕ) (o : Offer R) → slice_get (slice_index_or lists b.group []) j ≡ Some o
       → KeyFits d key (key_add d 16 (key b.base) (key o.low))
@@ -85,7 +85,7 @@ module _ {R : Type 0} (d : ℕ) (key : R → KeyOf d 16) where
       → (k : ℕ) × IsPairAt pairs k (n, a.row)
 
   -- each offer is taken, or the first that is not comes after the last answer
-  abbrev pub IsFirstPast : List (ℕ × ℕ) → ℕ → Option (KeyOf d 16) → Branch R
+  abbrev pub IsFirstPast : List (ℕ × ℕ) → ℕ → Option (KeyOf d 16) → OpenPlace R
       → List (List (Offer R)) → Type 0
   IsFirstPast pairs n last b lists =
       ((i : ℕ) (a : Offer R) → slice_get (slice_index_or lists b.group []) i ≡ Some a
@@ -95,7 +95,7 @@ module _ {R : Type 0} (d : ℕ) (key : R → KeyOf d 16) where
       × (is_past d last (key_add d 16 (key b.base) (key o.low)) ≡ true)))
 
   -- an offer that is not taken does not
-  abbrev pub IsFirstEarly : List (ℕ × ℕ) → ℕ → Option (KeyOf d 16) → Branch R
+  abbrev pub IsFirstEarly : List (ℕ × ℕ) → ℕ → Option (KeyOf d 16) → OpenPlace R
       → List (List (Offer R)) → Type 0
   IsFirstEarly pairs n last b lists =
       (j : ℕ) × ((o : Offer R) × (slice_get (slice_index_or lists b.group []) j ≡ Some o)
@@ -138,14 +138,14 @@ module _ {R : Type 0} (join : JoinTree) (tree : BoundedView R) (d : ℕ) (key : 
       ⊎ ((0 < p) × (named_bound tree p (slice_index start (slice_index join.parent p)) ≡ Some g))
 
   -- where a beginning may be left at node p: for which group, and what is known then
-  pub record IsBranch (p : ℕ) (start : List ℕ) (branch : Branch R) : Type 0 where
+  pub record IsOpenPlace (p : ℕ) (start : List ℕ) (branch : OpenPlace R) : Type 0 where
     pub group : IsGroupOf p start branch.group
     pub within : branch.group < length (bound_ranks tree p)
     pub base : IsBase p start (Some (key branch.base))
 
   -- it may not be left: the group has no bound, or one of those that are known to be open has none
-  abbrev pub IsNoBranch : ℕ → List ℕ → Type 0
-  IsNoBranch p start = ((g : ℕ) → g < length (bound_ranks tree p) → IsGroupOf p start g → ⊥)
+  abbrev pub IsNoOpenPlace : ℕ → List ℕ → Type 0
+  IsNoOpenPlace p start = ((g : ℕ) → g < length (bound_ranks tree p) → IsGroupOf p start g → ⊥)
       ⊎ IsBase p start None
 
   -- # The rows that may follow
@@ -188,19 +188,19 @@ module _ {R : Type 0} (join : JoinTree) (tree : BoundedView R) (d : ℕ) (key : 
       → KeyFits d key (key_add d 16 k low)
 
   -- the branch's group has a bound, and what is known can be added to the ranks of its rows
-  abbrev pub CanLeave : ℕ → Branch R → Type 0
+  abbrev pub CanLeave : ℕ → OpenPlace R → Type 0
   CanLeave p b = (b.group < length (bound_ranks tree p)) × FitsGroup p b.group (key b.base)
 
   -- each row of the branch's group that no answer has after the beginning comes after the last
   -- answer
-  abbrev pub IsLeftAfter : ℕ → List (ℕ × ℕ) → ℕ → Option (KeyOf d 16) → Branch R → Type 0
+  abbrev pub IsLeftAfter : ℕ → List (ℕ × ℕ) → ℕ → Option (KeyOf d 16) → OpenPlace R → Type 0
   IsLeftAfter p pairs n last b =
       (i : ℕ) (low : KeyOf d 16) → IsInGroup p b.group i → (((j : ℕ) × IsPairAt pairs j (n, i)) → ⊥)
       → HasLow p i (Some low) → IsPast d last (key_add d 16 (key b.base) low)
 
   -- some such row does not
   pub record IsLeftBefore (p : ℕ) (pairs : List (ℕ × ℕ)) (n : ℕ) (last : Option (KeyOf d 16))
-      (b : Branch R)
+      (b : OpenPlace R)
       : Type 0 where
     pub row : ℕ
     pub low : KeyOf d 16
@@ -249,7 +249,7 @@ module _ {R : Type 0} (join : JoinTree) (tree : BoundedView R) (d : ℕ) (key : 
 
   -- The list of the branch's group has the offers of the group's rows that no more than what is
   -- known for the branch asks for.
-  pub record IsListed (p : ℕ) (last : Option (KeyOf d 16)) (b : Branch R)
+  pub record IsListed (p : ℕ) (last : Option (KeyOf d 16)) (b : OpenPlace R)
       (lists : List (List (Offer R))) : Type 0 where
     pub within : b.group < length lists
     pub rows : List ℕ
@@ -261,11 +261,11 @@ module _ {R : Type 0} (join : JoinTree) (tree : BoundedView R) (d : ℕ) (key : 
     pub offers : AreOffers p rows known last (slice_index_or lists b.group [])
 
   -- for each beginning of the first ones whether it may be left, and how
-  abbrev pub AreBranches : ℕ → List (List ℕ) → List (Option (Branch R)) → Type 0
-  AreBranches p starts branches =
+  abbrev pub AreOpenPlaces : ℕ → List (List ℕ) → List (Option (OpenPlace R)) → Type 0
+  AreOpenPlaces p starts branches =
       (n : ℕ) → n < length branches
-      → MatchOption (slice_index_or branches n None) (IsNoBranch p (list_at starts n))
-      (IsBranch p (list_at starts n))
+      → MatchOption (slice_index_or branches n None) (IsNoOpenPlace p (list_at starts n))
+      (IsOpenPlace p (list_at starts n))
 
   -- # All nodes
 
@@ -295,13 +295,13 @@ module _ {R : Type 0} (join : JoinTree) (tree : BoundedView R) (d : ℕ) (key : 
 
 module _ {R : Type 0} (d : ℕ) (key : R → KeyOf d 16) where
   -- for each group the least that is known for one of the first m beginnings
-  pub record AreLeast (m : ℕ) (branches : List (Option (Branch R)))
+  pub record AreLeast (m : ℕ) (branches : List (Option (OpenPlace R)))
       (least : List (Option R)) : Type 0 where
-    pub below : (n : ℕ) (b : Branch R) → n < m → slice_index_or branches n None ≡ Some b
+    pub below : (n : ℕ) (b : OpenPlace R) → n < m → slice_index_or branches n None ≡ Some b
         → (k : R) × (slice_index_or least b.group None ≡ Some k)
         × AtMost (key_below d 16) (key k) (key b.base)
     pub one : (g : ℕ) (k : R) → slice_index_or least g None ≡ Some k
-        → (n : ℕ) × ((b : Branch R) × (n < m) × (slice_index_or branches n None ≡ Some b)
+        → (n : ℕ) × ((b : OpenPlace R) × (n < m) × (slice_index_or branches n None ≡ Some b)
         × (b.group ≡ g) × (b.base ≡ k))
 
   -- the lesser of what was known, if anything was, and of something else

@@ -6,9 +6,9 @@ pub mod Lines
 pub mod Places
 pub mod Subtrees
 pub mod Coverage
-pub mod Lows
+pub mod LowBounds
 pub mod RowPlaces
 pub mod Solutions
-pub mod Adding
+pub mod PrefixNumbers
 pub mod Choices
 pub mod Levels

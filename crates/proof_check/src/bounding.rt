@@ -49,6 +49,7 @@ pub fn bounded_tree<R: Rank, L: Ledger>(
 {
     match build(alloc, query, tables, join, MAX_NODE_ROWS as u64, steps) {
         Ok(built) => {
+            // for the proof: the tree is well formed
             let _nodes = built.tree.nodes();
             with_bounds(alloc, query, tables, join, built.tree, proof, steps)
         }

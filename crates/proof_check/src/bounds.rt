@@ -38,6 +38,7 @@ pub fn with_bounds<R: Rank, L: Ledger>(
     ensures fault { IfErr result
         (TellsFlaw query.now.query tables.now join.now (proof_view proof.now)) }
 {
+    // for the proof: the tree is well formed
     let _nodes = raw.nodes();
     let PlacedLines { tops, mut bounds } = placed_lines(alloc, &raw, proof, steps)?;
     let keys = tables.keys();

@@ -10,7 +10,7 @@ ghost use Rattle.proof_model.specs.QueryProblem.{problem_in};
 ghost use Rattle.proof_model.specs.Valid.{IsCovered};
 ghost use Rattle.proof_check.specs.BoundedRows.{IsBounded, bound_ranks, named_bound, own_bound, rank_of_bound};
 ghost use Rattle.proof_check.specs.Coverage.{AllCovered, HasWeakRow, IsFirstWeak};
-ghost use Rattle.proof_check.specs.Lows.{IsBoundedTree, IsLow, OfEach};
+ghost use Rattle.proof_check.specs.LowBounds.{IsBoundedTree, IsLow, OfEach};
 
 use crate::bounded::BoundedTree;
 use join_tree::JoinTree;

@@ -26,6 +26,7 @@ fn is_linked<R: Rank>(raw: &RawTree<R>, node: u32, above: u32, place: u32) -> bo
     requires place { place < raw_len raw.now node }
     ensures { IsTrue result ↔ HasLinkOf raw.now node above place }
 {
+    // for the proof: the tree is well formed
     let _nodes = raw.nodes();
     let parent = raw.shape(node).parent;
     raw.own(node, place) == raw.link(parent, above, child_place(raw, node))

@@ -1,9 +1,9 @@
 //! How answers begin: the rows of the first nodes.
 ghost use Rattle.std.specs.Prelude.{◌≡◌, ◌↔◌, ◌+◌, ◌<◌, ℕ, [], length, IfOk, OnOk, slice_index};
 ghost use Rattle.proof_check.specs.Levels.{ArePrefixes, IsPairAt, IsTaken};
-ghost use Rattle.proof_check.specs.Adding.{IsAdding};
+ghost use Rattle.proof_check.specs.PrefixNumbers.{IsAdding};
 
-use crate::taken::TakenRows;
+use crate::taken_rows::TakenRows;
 use std::alloc::Global;
 use step_counter::NoMemory;
 

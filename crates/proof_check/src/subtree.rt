@@ -62,6 +62,7 @@ pub(crate) fn child_place<R: Rank>(raw: &RawTree<R>, node: u32) -> u32
     ensures within { result < shape_children raw.now.shapes (shape_parent raw.now.shapes node) }
     ensures above { shape_parent raw.now.shapes node < node }
 {
+    // for the proof: the tree is well formed
     let _nodes = raw.nodes();
     let parent = raw.shape(node).parent;
     let mut place = 0;

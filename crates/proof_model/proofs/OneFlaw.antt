@@ -4,7 +4,7 @@ use Rattle.std.proofs.lemmas.Bool.{cases_order}
 use Rattle.proof_model.specs.Certificate.{Certificate}
 use Rattle.proof_model.specs.Problem.{Problem}
 use Rattle.proof_model.specs.Valid.{Flaw, no_solution, bound_twice, weak, no_answer, not_in_order, wrong_count, missed}
-use Rattle.proof_model.specs.Valid.{stage, place, IsFirst}
+use Rattle.proof_model.specs.Valid.{stage, place, IsFirstFlaw}
 
 -- the flaw of a stage and a place
 flaw_at : ℕ → ℕ → Flaw
@@ -27,7 +27,7 @@ told wrong_count = refl
 told missed = refl
 
 module _ {K : Type 0} (t : Problem K) (c : Certificate) (limit : Option ℕ) where
-  pub one_flaw : (f g : Flaw) → IsFirst t c limit f → IsFirst t c limit g → f ≡ g
+  pub one_flaw : (f g : Flaw) → IsFirstFlaw t c limit f → IsFirstFlaw t c limit g → f ≡ g
   one_flaw f g a b = elim (cases_order (stage f) (stage g)) [
     | inr (inl less) ↦ absurd (b.first f (inl less) a.holds)
     | inr (inr more) ↦ absurd (a.first g (inl more) b.holds)

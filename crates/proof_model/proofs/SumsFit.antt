@@ -19,7 +19,7 @@ use Rattle.tdp_model.proofs.Ranges as ranges
 use Rattle.rank_key.specs.Keys.{IsInRange}
 use Rattle.anyk_model.specs.Table.{Table, most_rows, table_at}
 use Rattle.anyk_model.specs.Query.{OrderKey}
-use Rattle.bound_query.specs.Parts.{sum_of_all}
+use Rattle.bound_query.specs.KeyParts.{sum_of_all}
 use Rattle.bound_query.specs.WeighedQuery.{BoundQuery, Fits}
 use Rattle.bound_query.specs.Weights.{cap_of, key_at, part_of}
 use Rattle.bound_query.proofs.Parts.{nat_abs_add, part_capped}

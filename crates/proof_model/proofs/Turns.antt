@@ -10,7 +10,7 @@ use Rattle.proof_model.specs.declared.fault.ProofFault.{ProofFault}
 use Rattle.proof_model.specs.declared.fault.ProofFault.TheVariants.{BadHeader, BadLine}
 use Rattle.proof_model.specs.Certificate.{Certificate}
 use Rattle.proof_model.specs.Forms.{last_line, line_of, line_of_parts, numbers_line}
-use Rattle.proof_model.specs.Reading.{Lines, Fails, by_line, no_lines, proof_of, proof_of_lines, read_from}
+use Rattle.proof_model.specs.Reading.{Lines, IsProofFault, by_line, no_lines, proof_of, proof_of_lines, read_from}
 
 pub one_part : (text word : List ℕ) → parts text ≡ word ∷ [] → line_of text ≡ last_line word
 unfolding line_of_parts
@@ -36,8 +36,8 @@ pub no_turn : (n : ℕ) (read : Lines) (lines : List (List ℕ)) → lines ≡ [
 unfolding read_from
 no_turn n read lines e = ap (read_from n read) e
 
-pub fails_so : (r all : Result Certificate ProofFault) (e : ProofFault) → r ≡ all → Fails r e → Fails all e
-fails_so r all e same h = subst (λ z. Fails z e) same h
+pub fails_so : (r all : Result Certificate ProofFault) (e : ProofFault) → r ≡ all → IsProofFault r e → IsProofFault all e
+fails_so r all e same h = subst (λ z. IsProofFault z e) same h
 
 pub after_header : (bytes first : List ℕ) (more : List (List ℕ)) → lines bytes ≡ first ∷ more
     → bytes_eq first (codes "anyk-proof 1") ≡ true

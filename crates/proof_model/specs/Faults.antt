@@ -10,7 +10,7 @@ use Rattle.proof_model.specs.declared.fault.ProofFault.{ProofFault}
 use Rattle.proof_model.specs.declared.fault.ProofFault.TheVariants as fault
 use Rattle.proof_model.specs.Problem.{Problem}
 use Rattle.proof_model.specs.QueryProblem.{problem_in}
-use Rattle.proof_model.specs.Valid.{Flaw, IsFirst, answer_at, bound_at}
+use Rattle.proof_model.specs.Valid.{Flaw, IsFirstFlaw, answer_at, bound_at}
 use Rattle.proof_model.specs.Valid.{no_solution, bound_twice, weak, no_answer, not_in_order, wrong_count, missed}
 
 -- how a flaw is told: bounds and answers by their lines, nodes by their numbers, from 1
@@ -29,7 +29,7 @@ module _ (query : Query) (tables : List Table) (join : JoinTree) (c : Certificat
   TellsFirst told =
       (shape : Shape) × IsShape query tables (Ok shape) × (f : Flaw)
       × (told ≡ fault_of (problem_in query tables join) c f)
-      × IsFirst (problem_in query tables join) c query.limit f
+      × IsFirstFlaw (problem_in query tables join) c query.limit f
 
   -- the fault that may be returned if a certificate is checked: memory ran out, there are too many
   -- node rows, or the certificate has this flaw

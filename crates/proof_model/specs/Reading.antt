@@ -65,5 +65,5 @@ abbrev pub proof_of : List ℕ → Result Certificate ProofFault
 proof_of bytes = proof_of_lines (lines bytes)
 
 -- a result that is an error: memory was refused, or it is this fault
-abbrev pub Fails : {A : Type 0} → Result A ProofFault → ProofFault → Type 0
-Fails r e = (e ≡ NoMemory) ⊎ (r ≡ Err e)
+abbrev pub IsProofFault : {A : Type 0} → Result A ProofFault → ProofFault → Type 0
+IsProofFault r e = (e ≡ NoMemory) ⊎ (r ≡ Err e)

@@ -17,7 +17,7 @@ use Rattle.proof_model.specs.FirstAnswers.{IsSolutionKey, answer_keys}
 use Rattle.proof_model.specs.Parts.{HaveFewRows, IsPart}
 use Rattle.proof_model.specs.Wide.{wide}
 use Rattle.proof_model.specs.Full.{IsFull}
-use Rattle.proof_model.specs.Valid.{IsValid, IsFirst, Begins, Flaw, Holds, answer_key}
+use Rattle.proof_model.specs.Valid.{IsValid, IsFirstFlaw, Begins, Flaw, Holds, answer_key}
 
 -- there is a node, and each other one comes after its parent
 pub record AreNodes (atoms parents : List ℕ) : Type 0 where
@@ -60,8 +60,8 @@ ValidHasNoFlaw =
 abbrev pub OneFirstFlaw : Type 0
 OneFirstFlaw =
     (query : Query) (tables : List Table) (atoms parents : List ℕ) (c : Certificate) (f g : Flaw)
-    → IsFirst (problem_of query tables atoms parents) c query.limit f
-    → IsFirst (problem_of query tables atoms parents) c query.limit g → f ≡ g
+    → IsFirstFlaw (problem_of query tables atoms parents) c query.limit f
+    → IsFirstFlaw (problem_of query tables atoms parents) c query.limit g → f ≡ g
 
 -- a certificate that leaves nothing out is valid
 abbrev pub FullIsValid : Type 0

@@ -149,6 +149,6 @@ module _ {K : Type 0} (t : Problem K) (c : Certificate) where
   Holds limit missed = (o : OpenChoice) × (IsPassed c.ended o → ⊥)
 
   -- the flaw holds, and none before it
-  pub record IsFirst (limit : Option ℕ) (f : Flaw) : Type 0 where
+  pub record IsFirstFlaw (limit : Option ℕ) (f : Flaw) : Type 0 where
     pub holds : Holds limit f
     pub first : (g : Flaw) → IsEarlier g f → Holds limit g → ⊥

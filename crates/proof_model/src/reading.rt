@@ -8,7 +8,7 @@ ghost use Rattle.proof_model.specs.declared.fault.ProofFault.TheVariants.{NoMemo
 ghost use Rattle.proof_model.specs.Certificate.{Certificate};
 ghost use Rattle.proof_model.specs.Forms.{line_of};
 ghost use Rattle.proof_model.specs.NumberedProofs.{IsNumbered};
-ghost use Rattle.proof_model.specs.Reading.{Lines, Fails, at_last, by_line, no_lines, proof_of, read_from};
+ghost use Rattle.proof_model.specs.Reading.{Lines, IsProofFault, at_last, by_line, no_lines, proof_of, read_from};
 ghost use Rattle.proof_model.specs.ProofView.{lines_of, proof_view};
 ghost use Rattle.proof_model.specs.Writing.{proof_text};
 
@@ -38,7 +38,7 @@ fn put_line(alloc: Global, read: &mut Proof, number: u32, text: &[u8]) -> Result
         MatchResult result
         (λ last. all ≡ (if last then at_last number (proof_view read.new) more else later
         (lines_of read.new)))
-        (λ e. Fails all e) }
+        (λ e. IsProofFault all e) }
 {
     let Some(line) = read_line(alloc, text)? else {
         return Err(ProofFault::BadLine(number));
@@ -69,7 +69,7 @@ fn put_line(alloc: Global, read: &mut Proof, number: u32, text: &[u8]) -> Result
 /// The certificate whose last line has this number, if nothing is after it.
 fn finished(read: Proof, number: u32, after: &[u8]) -> Result<Proof, ProofFault>
     ensures { let all = at_last number (proof_view read) (lines after.now) in
-        MatchResult result (λ proof. all ≡ Ok (proof_view proof)) (λ e. Fails all e) }
+        MatchResult result (λ proof. all ≡ Ok (proof_view proof)) (λ e. IsProofFault all e) }
 {
     if first_line(after).is_none() {
         return Ok(read);
@@ -81,7 +81,7 @@ fn finished(read: Proof, number: u32, after: &[u8]) -> Result<Proof, ProofFault>
 /// The certificate of the lines after the header.
 fn read_lines(alloc: Global, bytes: &[u8]) -> Result<Proof, ProofFault>
     ensures { let all = read_from 2 no_lines (lines bytes.now) in
-        MatchResult result (λ proof. all ≡ Ok (proof_view proof)) (λ e. Fails all e) }
+        MatchResult result (λ proof. all ≡ Ok (proof_view proof)) (λ e. IsProofFault all e) }
 {
     let mut read = Proof {
         bounds: Vec::new(alloc),
@@ -114,7 +114,7 @@ fn is_header(text: &[u8]) -> bool
 pub fn read_proof(alloc: Global, bytes: &[u8]) -> Result<Proof, ProofFault>
     // The certificate that the text is, or the reason why it is none.
     ensures read { let all = proof_of bytes.now in
-        MatchResult result (λ proof. all ≡ Ok (proof_view proof)) (λ e. Fails all e) }
+        MatchResult result (λ proof. all ≡ Ok (proof_view proof)) (λ e. IsProofFault all e) }
     // Its lines are numbered as they stand, each has a row, and its numbers have at most 7 digits.
     ensures numbered { IfOk result (λ proof. IsNumbered (proof_view proof)) }
     // The lines are those that are written of it: the form, said without the reader.

@@ -23,7 +23,7 @@ use Rattle.anyk_model.specs.Ranking.{IsBefore}
 use Rattle.proof_model.specs.Certificate.{BoundLine}
 use Rattle.proof_model.specs.Writing.{bound_text}
 use Rattle.proof_model.specs.WrittenProofs.{BoundBefore}
-use Rattle.proof_write.specs.Firsts.{AreBounds, AreFirsts, AreTold, IsBound, IsFirst, IsUnder, bound_at, listed}
+use Rattle.proof_write.specs.Firsts.{AreBounds, AreFirsts, AreTold, IsBoundLine, IsFirst, IsUnder, bound_at, listed}
 use Rattle.proof_write.proofs.Groups.{distinct_moved, one_group}
 use Rattle.proof_write.proofs.Listing.{AreAlike, alike_from, here_counted, listed_before}
 
@@ -311,11 +311,11 @@ module _ {R : Type 0} (d : ℕ) (key : R → KeyOf d 16) (tree : List (NodeView 
         ]
 
         each_bound : (i : ℕ) → i < length more
-            → (w g : ℕ) × (w < v + 1) × (g < group_count tree w) × IsBound tree w g (bound_at tree more i)
+            → (w g : ℕ) × (w < v + 1) × (g < group_count tree w) × IsBoundLine tree w g (bound_at tree more i)
         each_bound i l = elim (find i l) [
           | inl old ↦
               let f = so_far.firsts i old in
-              (f.0, f.1, omega (arith, f.2), f.3, subst (IsBound tree f.0 f.1) (sym (old_at i old)) f.4)
+              (f.0, f.1, omega (arith, f.2), f.3, subst (IsBoundLine tree f.0 f.1) (sym (old_at i old)) f.4)
           | inr new ↦
               let k : ℕ = new.0 in
               let f = each_first k new.1 in
@@ -324,13 +324,13 @@ module _ {R : Type 0} (d : ℕ) (key : R → KeyOf d 16) (tree : List (NodeView 
                 f.0,
                 omega arith,
                 f.1,
-                subst (IsBound tree v f.0) (sym at)
+                subst (IsBoundLine tree v f.0) (sym at)
                     (record { node = refl; numbers = get_or firsts k []; first = f.2; rows = refl }),
               )
         ]
 
         all_bound : (w g : ℕ) → w < v + 1 → g < group_count tree w
-            → (i : ℕ) × (i < length more) × IsBound tree w g (bound_at tree more i)
+            → (i : ℕ) × (i < length more) × IsBoundLine tree w g (bound_at tree more i)
         all_bound w g low lg = elim (cases_eq w v) [
           | inl e ↦
               let f = all_first g (subst (λ z. g < group_count tree z) e lg) in
@@ -339,15 +339,15 @@ module _ {R : Type 0} (d : ℕ) (key : R → KeyOf d 16) (tree : List (NodeView 
               let n = more_length in (
                 length bounds + k,
                 omega (arith, n, lk),
-                subst (λ z. IsBound tree z g (bound_at tree more (length bounds + k))) (sym e)
-                    (subst (IsBound tree v g) (sym (new_at k lk))
+                subst (λ z. IsBoundLine tree z g (bound_at tree more (length bounds + k))) (sym e)
+                    (subst (IsBoundLine tree v g) (sym (new_at k lk))
                     (record { node = refl; numbers = get_or firsts k []; first = f.2; rows = refl })),
               )
           | inr other ↦
               let f = so_far.each w g (omega (arith, low, other)) lg in
               let li = f.1 in
               let n = more_length in
-              (f.0, omega (arith, n, li), subst (IsBound tree w g) (sym (old_at f.0 li)) f.2)
+              (f.0, omega (arith, n, li), subst (IsBoundLine tree w g) (sym (old_at f.0 li)) f.2)
         ]
 
         pub bounds_more : AreBounds tree (v + 1) (bounds ++ lines (length bounds + 2) v firsts)

@@ -46,7 +46,7 @@ module _ {R : Type 0} (tree : List (NodeView R)) where
     pub sorted : IsSorted (slice_cmp nat_cmp) firsts
 
   -- the bound of group g of node v
-  pub record IsBound (v g : ℕ) (bound : BoundLine) : Type 0 where
+  pub record IsBoundLine (v g : ℕ) (bound : BoundLine) : Type 0 where
     pub node : bound.node ≡ suc v
     pub numbers : List ℕ
     pub first : IsFirst v g numbers
@@ -61,6 +61,6 @@ module _ {R : Type 0} (tree : List (NodeView R)) where
         → BoundBefore (bound_at bounds i) (bound_at bounds j)
     pub lines : (i : ℕ) → i < length bounds → (bound_at bounds i).line ≡ i + 2
     pub firsts : (i : ℕ) → i < length bounds
-        → (v g : ℕ) × (v < n) × (g < group_count tree v) × IsBound v g (bound_at bounds i)
+        → (v g : ℕ) × (v < n) × (g < group_count tree v) × IsBoundLine v g (bound_at bounds i)
     pub each : (v g : ℕ) → v < n → g < group_count tree v
-        → (i : ℕ) × (i < length bounds) × IsBound v g (bound_at bounds i)
+        → (i : ℕ) × (i < length bounds) × IsBoundLine v g (bound_at bounds i)

@@ -37,6 +37,7 @@ pub fn push_answers<E: Ranked, L: Ledger>(
         };
         push_answer(alloc, text, &answer.rows[..items])?;
     }
+    // not met without a limit: no memory holds 2^64 - 1 answers
     if query.limit().is_none() {
         return Err(NoMemory);
     }

@@ -10,7 +10,7 @@ use Rattle.bound_query.specs.Classes.{Linked}
 use Rattle.query_bind.specs.Filters.{HasFilters, HaveFilters, HaveConstants, HavePairs}
 use Rattle.bound_query.specs.FilterViews.{filter_view}
 use Rattle.bound_query.specs.Filters.{ItemFilter, filter_at}
-use Rattle.bound_query.specs.Inside.{EqualityInside, IsInside, IsWithin}
+use Rattle.bound_query.specs.NamedPlaces.{EqualityInside, IsInside, NamesExist}
 use Rattle.query_bind.specs.Labels.{IsLabelling}
 use Rattle.bound_query.specs.StoredParts.{item_view, items_view}
 use Rattle.query_bind.specs.Variables.{width_in}
@@ -60,7 +60,7 @@ filters_more label es tables items n width d filters f h wide known pairs consta
       ];
     })
 
-module _ (query : Query) (tables : List Table) (within : IsWithin query tables) where
+module _ (query : Query) (tables : List Table) (within : NamesExist query tables) where
   there : (e : Equality) → IsMember e query.equalities → IsInside tables query.items e.left
   there e m = (all_member (EqualityInside tables query.items) e query.equalities within.equalities m).left
 

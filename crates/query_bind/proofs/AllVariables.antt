@@ -11,7 +11,7 @@ use Rattle.query_bind.specs.Binding.{columns_from, item_columns}
 use Rattle.bound_query.specs.Classes.{AreVariables, AreVariablesOf, ColumnBefore, HasVariable, IsShared, variable_at}
 use Rattle.table_store.specs.Tables.{IsSound}
 use Rattle.table_store.proofs.Places.{sound_few_columns}
-use Rattle.bound_query.specs.Inside.{HasTable, IsInside, IsWithin}
+use Rattle.bound_query.specs.NamedPlaces.{HasTable, IsInside, NamesExist}
 use Rattle.query_bind.specs.Labels.{IsFirstPlace, IsLabelling, least_in}
 use Rattle.bound_query.specs.StoredParts.{column_view, equality_view, item_view, items_view, lists_view}
 use Rattle.query_bind.specs.Variables.{HasVariables, HavePlaces, HavePlacesEach, is_variable, width_in}
@@ -176,7 +176,7 @@ each_more label variables tables items n width d lists v h wide known own =
     })
 
 -- what is found for a query that fits its tables
-pub has_variables : (query : Query) (tables : List Table) (label : Column → Column) (variables : List Column) (lists : List (List (ℕ × ℕ))) → IsWithin query tables
+pub has_variables : (query : Query) (tables : List Table) (label : Column → Column) (variables : List Column) (lists : List (List (ℕ × ℕ))) → NamesExist query tables
     → IsLabelling query.equalities label → AreVariables query.equalities variables → length variables ≤ 1024
     → HavePlacesEach label variables tables query.items (length query.items) lists → HasVariables query variables lists
 has_variables query tables label variables lists within known are few each = record {
@@ -199,7 +199,7 @@ narrow_items tables [] sound h = tt
 narrow_items tables (i ∷ items) sound h =
     (sound_few_columns (table_at tables i.table) (all_at IsSound tables i.table (record { names = []; rows = [] }) sound h.0), narrow_items tables items sound h.1)
 
-module _ (query : Query) (tables : List Table) (within : IsWithin query tables) (sound : AllByRecursion IsSound tables)
+module _ (query : Query) (tables : List Table) (within : NamesExist query tables) (sound : AllByRecursion IsSound tables)
     (items : List BoundItem) (items_are : items_view items ≡ query.items) (few : length items ≤ 16) where
   pub items_known : AllByRecursion (λ (i : BoundItem). i.table < length tables) items
   items_known = with_table tables items (subst (λ (l : List Item). AllByRecursion (HasTable tables) l) (sym items_are) within.items)

@@ -13,7 +13,7 @@ use Rattle.bound_query.specs.Classes.{IsFixedTo, Linked}
 use Rattle.bound_query.specs.FilterViews.{constant_view}
 use Rattle.bound_query.specs.Filters.{IsFilterOf, ItemFilter, Reaches}
 use Rattle.query_bind.specs.Filters.{HaveConstants, HavePairs}
-use Rattle.bound_query.specs.Inside.{IsInside}
+use Rattle.bound_query.specs.NamedPlaces.{IsInside}
 use Rattle.query_bind.specs.Labels.{HasNoPlace, IsFirstPlace, IsLabelling}
 use Rattle.bound_query.specs.StoredParts.{equality_view}
 use Rattle.bound_query.specs.declared.bound.BoundEquality.{BoundEquality}

@@ -12,11 +12,11 @@ use Rattle.std.proofs.lemmas.List.FromFn.{fill_by_all, get_or-map-range_with_len
 use Rattle.anyk_model.specs.Table.{Table, field_at, table_at}
 use Rattle.anyk_model.specs.Weight.{weight_of}
 use Rattle.anyk_model.specs.Query.{Item, Column, Term, OrderKey, total}
-use Rattle.query_bind.specs.Answers.{Tells}
+use Rattle.query_bind.specs.Answers.{IsBindFault}
 use Rattle.query_bind.specs.Fits.{BoundInside}
 use Rattle.query_bind.specs.Measures.{AreSmall, added, most_u128}
 use Rattle.query_bind.specs.Names.{first_of}
-use Rattle.bound_query.specs.Parts.{sum_of_all}
+use Rattle.bound_query.specs.KeyParts.{sum_of_all}
 use Rattle.bound_query.specs.StoredParts.{column_view, item_view, items_view, term_view}
 use Rattle.query_bind.specs.Tallies.{AreTallies, net, signed, tallies_in, tallies_size, tallies_sum, tally_size, tally_worth, term_worth}
 use Rattle.bound_query.specs.WeighedQuery.{ItemParts, item_parts, kept, key_parts, row_parts}
@@ -406,7 +406,7 @@ module _ (tables : List Table) (items : List Item) (key : OrderKey) (ys : List T
   -- the fault of a column is that of the key, if no column before it has one
   pub tallied_tells : (i : ℕ) (d : Tally) (e : BindFault) → i < length ys
       → first_of (λ (y : Tally). column_fault tables items (column_view y.column)) (take i ys) ≡ None
-      → Tells (column_fault tables items (column_view (get_or ys i d).column)) e → Tells (key_fault tables items key) e
+      → IsBindFault (column_fault tables items (column_view (get_or ys i d).column)) e → IsBindFault (key_fault tables items key) e
   tallied_tells i d e h before (inl m) = inl m
   tallied_tells i d e h before (inr f) =
       inr (sym tallied_fault ∙ first_at (λ (y : Tally). column_fault tables items (column_view y.column)) ys i d e h before f)

@@ -8,7 +8,7 @@ use Rattle.std.proofs.Math.Seq.{map-set_same}
 use Rattle.anyk_model.specs.Query.{Column, Term, total}
 use Rattle.rankings.specs.Order.{IsMember}
 use Rattle.query_bind.specs.Names.{first_of}
-use Rattle.bound_query.specs.Parts.{sum_of_all}
+use Rattle.bound_query.specs.KeyParts.{sum_of_all}
 use Rattle.bound_query.specs.StoredParts.{column_view}
 use Rattle.query_bind.specs.Tallies.{AreTallies, StandOnce, columns_of, tally_size, tally_worth, term_worth, with_one}
 use Rattle.query_bind.specs.declared.fault.BindFault.{BindFault}

@@ -10,7 +10,7 @@ use Rattle.rankings.specs.Order.{IsMember}
 use Rattle.rankings.proofs.Members.{all_member}
 use Rattle.query_bind.specs.declared.fault.BindFault.{BindFault}
 use Rattle.query_bind.specs.declared.fault.BindFault.TheVariants as fault
-use Rattle.query_bind.specs.Answers.{Tells}
+use Rattle.query_bind.specs.Answers.{IsBindFault}
 use Rattle.query_bind.specs.Bind.{bind_fault}
 use Rattle.query_bind.specs.Binding.{bound_key}
 use Rattle.query_bind.specs.Names.{alias_fault, first_of, items_of, names_fault, ref_fault}
@@ -93,7 +93,7 @@ module _ (tables : List Table) (items : List Item) (order : List OrderKey) (e : 
   ]
 
 -- a fault of a reference is that of the first one in the text that fails
-pub earliest : (select : Select) (tables : List Table) (which : List ℕ) (e : BindFault) → Tells (bind_fault select tables which) e
+pub earliest : (select : Select) (tables : List Table) (which : List ℕ) (e : BindFault) → IsBindFault (bind_fault select tables which) e
     → IsReferenceFault e → AreInTextOrder (columns_of select) → IsFirstFailing tables (items_of select.items which) (columns_of select) e
 earliest select tables which e (inl memory) kind order = absurd (subst IsReferenceFault memory kind)
 earliest select tables which e (inr h) kind order =

@@ -4,7 +4,7 @@ use Rattle.anyk_model.specs.Table.{Table}
 use Rattle.anyk_model.specs.Query.{Item, Column, Term, total}
 use Rattle.rankings.specs.Order.{IsMember}
 use Rattle.query_bind.specs.Names.{first_of}
-use Rattle.bound_query.specs.Parts.{sum_of_all}
+use Rattle.bound_query.specs.KeyParts.{sum_of_all}
 use Rattle.bound_query.specs.StoredParts.{column_view}
 use Rattle.bound_query.specs.Weights.{column_size, worth_at}
 use Rattle.query_bind.specs.declared.fault.BindFault.{BindFault}

@@ -3,10 +3,10 @@ ghost use Rattle.std.specs.Prelude.{◌≡◌, ◌<◌, ◌≤◌, length, map, 
 ghost use Rattle.std.specs.Option.{option_or};
 ghost use Rattle.std.specs.List.{AllByRecursion};
 ghost use Rattle.query_select.specs.TextOrder.{AreInTextOrder, columns_of};
-ghost use Rattle.query_bind.specs.Answers.{Means, Tells};
+ghost use Rattle.query_bind.specs.Answers.{Means, IsBindFault};
 ghost use Rattle.query_bind.specs.Bind.{bind_fault, HasNames};
 ghost use Rattle.query_bind.specs.Binding.{bound_query};
-ghost use Rattle.bound_query.specs.Inside.{IsWithin};
+ghost use Rattle.bound_query.specs.NamedPlaces.{NamesExist};
 ghost use Rattle.query_bind.specs.Names.{items_of};
 ghost use Rattle.query_bind.specs.Filters.{HasFilters};
 ghost use Rattle.bound_query.specs.FilterViews.{filter_view};
@@ -62,12 +62,13 @@ fn weigh_selection(
     selection: &Selection,
     tables: &Tables,
 ) -> Result<Vec<Vec<ItemWeights>>, BindFault>
-    requires { IsWithin selection.now tables.now }
+    requires { NamesExist selection.now tables.now }
     ensures { Means (λ v. map weighed_view v.items)
         (map (key_parts tables.now selection.now.items) selection.now.order)
         (option_or (weights_fault tables.now selection.now.items selection.now.order)
         (range_fault tables.now selection.now.items selection.now.order)) result }
 {
+    // for the proof: there are at most 16 tables, and each is sound
     let _tables = tables.count();
     weigh(
         alloc,
@@ -84,12 +85,13 @@ fn find_structure(
     tables: &Tables,
     classes: &[Member],
 ) -> Result<Variables, AllocError>
-    requires within { IsWithin selection.now tables.now }
+    requires within { NamesExist selection.now tables.now }
     requires known { IsLabelling selection.now.equalities (least_in classes.now) }
     ensures { IfOk result
         (λ v. HasVariables selection.now (map column_view v.least.items)
         (lists_view v.of_items.items)) }
 {
+    // for the proof: there are at most 16 tables, and each is sound
     let _tables = tables.count();
     let items = selection.bound_items();
     let equalities = selection.equalities();
@@ -105,12 +107,13 @@ fn find_parts(
     selection: &Selection,
     tables: &Tables,
 ) -> Result<(Variables, Vec<Filter>), AllocError>
-    requires { IsWithin selection.now tables.now }
+    requires { NamesExist selection.now tables.now }
     ensures { IfOk result
         (λ p. HasVariables selection.now (map column_view p.0.least.items)
         (lists_view p.0.of_items.items)
         × HasFilters selection.now (map filter_view p.1.items)) }
 {
+    // for the proof: there are at most 16 tables, and each is sound
     let _tables = tables.count();
     let items = selection.bound_items();
     let equalities = selection.equalities();
@@ -140,7 +143,7 @@ pub fn bind(
     ensures query { IfOk result (λ q. q.query ≡ bound_query select.now tables.now which.now) }
     ensures fits { IfOk result (λ q. Fits q tables.now) }
     ensures sound { OnOk result (bind_fault select.now tables.now which.now ≡ None) }
-    ensures fault { IfErr result (Tells (bind_fault select.now tables.now which.now)) }
+    ensures fault { IfErr result (IsBindFault (bind_fault select.now tables.now which.now)) }
     ensures earliest { IfErr result
         (λ fault. IsReferenceFault fault → AreInTextOrder (columns_of select.now)
         → IsFirstFailing tables.now (items_of select.now.items which.now)

@@ -3,7 +3,7 @@ ghost use Rattle.std.specs.Prelude.{◌≡◌, ◌<◌, ◌≤◌, ◌++◌, len
 ghost use Rattle.std.specs.List.{AllByRecursion};
 ghost use Rattle.anyk_model.specs.Query.{Item, Column, OrderKey, Side as BoundTo, Equality as Equates, Term as Adds};
 ghost use Rattle.anyk_model.specs.Table.{Table};
-ghost use Rattle.query_bind.specs.Answers.{Tells, Means, side_fault, equality_fault, key_names_fault, term_fault};
+ghost use Rattle.query_bind.specs.Answers.{IsBindFault, Means, side_fault, equality_fault, key_names_fault, term_fault};
 ghost use Rattle.query_bind.specs.Binding.{bound_column, bound_equality, bound_key, bound_list, bound_side, bound_term, columns_from, item_columns};
 ghost use Rattle.query_bind.specs.declared.fault.BindFault.{BindFault};
 ghost use Rattle.query_bind.specs.Names.{alias_fault, first_of, items_of, ref_fault};
@@ -14,7 +14,7 @@ ghost use Rattle.bound_query.specs.declared.bound.BoundItem.{BoundItem};
 use crate::fault::BindFault;
 use crate::names::{column_of_all, column_of_item, has_alias};
 use bound_query::{BoundEquality, BoundItem, BoundKey, BoundSide, BoundTerm};
-use query_select::name::{Bytes, Name};
+use query_select::name::{Bytes, Identifier};
 use query_select::select::{ColumnRef, Equality, ItemRef, KeyRef, SelectList, Side, Term};
 use std::alloc::{AllocError, Global};
 use table_store::Tables;
@@ -36,7 +36,7 @@ pub(crate) fn bind_items(
         if has_alias(items.as_slice(), alias) {
             return Err(BindFault::DuplicateAlias(i as u32 + 1));
         }
-        let alias = Name::from_slice(alloc, alias)?;
+        let alias = Identifier::from_slice(alloc, alias)?;
         let table = which[i];
         items.push(BoundItem { table, alias })?;
     }

@@ -3,7 +3,7 @@
 //! the distinct columns.
 ghost use Rattle.std.specs.Prelude.{◌≡◌, ◌<◌, ◌+◌, ◌^◌, ◌++◌, ◌∷◌, [], List, map, IfOk, OnOk, MatchOption};
 ghost use Rattle.anyk_model.specs.Query.{Term};
-ghost use Rattle.bound_query.specs.Parts.{sum_of_all};
+ghost use Rattle.bound_query.specs.KeyParts.{sum_of_all};
 ghost use Rattle.bound_query.specs.StoredParts.{term_view};
 ghost use Rattle.query_bind.specs.Tallies.{AreTalliesOnce, IsTallyOf, columns_of, tally_size, with_one};
 ghost use Rattle.rankings.specs.Order.{IsMember};

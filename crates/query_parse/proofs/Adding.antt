@@ -3,7 +3,7 @@ use Rattle.std.proofs.Common.{◌≡◌, ◌∙◌, ◌∷◌, [], ℕ, ◌<◌,
 use Rattle.query_parse.specs.declared.fault.ParseFault.{ParseFault}
 use Rattle.query_select.specs.declared.token.Token.{Token}
 use Rattle.query_select.specs.Lexeme.{Lexeme, lexemes}
-use Rattle.query_parse.specs.Reading.{Steps, Read, Next, ◌>>=◌, all_at, several_at, Fails, Gives, Added, found}
+use Rattle.query_parse.specs.Reading.{Steps, Read, Next, ◌>>=◌, all_at, several_at, IsParseFault, Gives, Added, found}
 use Rattle.query_parse.proofs.Columns.{fails_on}
 use Rattle.query_parse.proofs.Handed.{found_gives, given, faulty}
 use Rattle.query_parse.proofs.Loops.{with_front, goes_on, ends}
@@ -27,7 +27,7 @@ module _ {A R : Type 0} (tokens_of : R → List Token) where
           regrouped (Ok x) = refl
           regrouped (Err left) = refl
 
-      pub first_faulty : (ts : List Lexeme) (e : ParseFault) → Gives end seen read (one ts) → Added {B = R} (λ x. x ∷ []) old new read (Err e) → Fails end e (several_at one next ts)
+      pub first_faulty : (ts : List Lexeme) (e : ParseFault) → Gives end seen read (one ts) → Added {B = R} (λ x. x ∷ []) old new read (Err e) → IsParseFault end e (several_at one next ts)
       first_faulty ts e g h = fails_on end e (one ts) _ (faulty end seen read e (one ts) h g)
 
       module _ (s : Steps next) (after : R) (ts : List Token) (leads : next (lexemes ts) ≡ found (one (lexemes (tokens_of after)))) (g : Gives end seen read (one (lexemes (tokens_of after)))) where
@@ -42,8 +42,8 @@ module _ {A R : Type 0} (tokens_of : R → List Token) where
         pub shortens_with : (rest : R) → Added (λ x. x ∷ []) old new read (Ok rest) → length (tokens_of rest) < length ts
         shortens_with rest h = fewer s ts (tokens_of rest) h.0 (further rest h)
 
-        pub ends_with : (e : ParseFault) (total : Read (List A)) → Added {B = R} (λ x. x ∷ []) old new read (Err e) → with_front old (all_at next (lexemes ts)) ≡ total → Fails end e total
+        pub ends_with : (e : ParseFault) (total : Read (List A)) → Added {B = R} (λ x. x ∷ []) old new read (Err e) → with_front old (all_at next (lexemes ts)) ≡ total → IsParseFault end e total
         ends_with e total h so_far =
-            let stopped : Fails end e (one (lexemes (tokens_of after))) = faulty end seen read e (one (lexemes (tokens_of after))) h g in
+            let stopped : IsParseFault end e (one (lexemes (tokens_of after))) = faulty end seen read e (one (lexemes (tokens_of after))) h g in
             let found_stopped = found_gives end (λ (x : A × List Lexeme). x) (Err e) (one (lexemes (tokens_of after))) stopped in
-            ends s end e old (lexemes ts) total (subst (Fails end e) (sym leads) found_stopped) so_far
+            ends s end e old (lexemes ts) total (subst (IsParseFault end e) (sym leads) found_stopped) so_far

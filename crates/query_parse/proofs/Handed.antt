@@ -4,7 +4,7 @@ use Rattle.std.specs.Option.{option_map}
 use Rattle.query_parse.specs.declared.fault.ParseFault.{ParseFault}
 use Rattle.query_parse.specs.declared.fault.ParseFault.TheVariants as fault
 use Rattle.query_select.specs.Lexeme.{Lexeme}
-use Rattle.query_parse.specs.Reading.{Gives, Fails, found}
+use Rattle.query_parse.specs.Reading.{Gives, IsParseFault, found}
 
 pub found_gives : {X Y : Type 0} (end : ℕ) (view : X → Y) (r : Result X ParseFault) (read : Result Y (List Lexeme)) → Gives end view r read → Gives end (option_map view) (found r) (found read)
 found_gives end view (Ok x) read h = rw h refl
@@ -17,6 +17,6 @@ pub given : {X Y : Type 0} (end : ℕ) (view : X → Y) (r : Result X ParseFault
 given end view r x read is g = subst (λ (s : Result _ ParseFault). Gives end view s read) is g
 
 -- a fault that is handed on is one of reading
-pub faulty : {X Y : Type 0} (end : ℕ) (view : X → Y) (r : Result X ParseFault) (e : ParseFault) (read : Result Y (List Lexeme)) → (fault.NoMemory ≢ e → r ≡ Err e) → Gives end view r read → Fails end e read
+pub faulty : {X Y : Type 0} (end : ℕ) (view : X → Y) (r : Result X ParseFault) (e : ParseFault) (read : Result Y (List Lexeme)) → (fault.NoMemory ≢ e → r ≡ Err e) → Gives end view r read → IsParseFault end e read
 faulty end view r fault.NoMemory read is g = tt
 faulty end view r _ read is g = subst (λ (s : Result _ ParseFault). Gives end view s read) (is (λ q. absurd cc)) g

@@ -5,7 +5,7 @@ use Rattle.query_select.specs.declared.token.Kind.TheVariants as kind
 use Rattle.query_select.specs.declared.token.Token.{Token}
 use Rattle.query_select.specs.Lexeme.{Lexeme, lexeme}
 use Rattle.query_parse.specs.declared.fault.ParseFault.{ParseFault}
-use Rattle.query_parse.specs.Reading.{◌>>=◌, Fails, Read, alias_at, expect_at, item_at}
+use Rattle.query_parse.specs.Reading.{◌>>=◌, IsParseFault, Read, alias_at, expect_at, item_at}
 use Rattle.query_parse.proofs.Columns.{fails_on}
 
 module _ (ts rest : List Lexeme) (table : Token) (named : expect_at kind.Name ts ≡ Ok (lexeme table, rest)) where
@@ -17,6 +17,6 @@ module _ (ts rest : List Lexeme) (table : Token) (named : expect_at kind.Name ts
       ∙ ap (λ (r : Read Lexeme). r >>= λ a. let i : Read ItemRef = Ok (record { table = table.body.now; alias = a.0.body; at = table.at }, a.1) in i) b
       ∙ ap (λ (i : ItemRef). Ok (i, left)) (sym c)
 
-  pub alias_fails : (end : ℕ) (e : ParseFault) → Fails end e (alias_at (lexeme table) rest) → Fails end e (item_at ts)
+  pub alias_fails : (end : ℕ) (e : ParseFault) → IsParseFault end e (alias_at (lexeme table) rest) → IsParseFault end e (item_at ts)
   unfolding item_at
   alias_fails end e h = rw named (fails_on end e (alias_at (lexeme table) rest) _ h)

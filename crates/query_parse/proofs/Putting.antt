@@ -8,7 +8,7 @@ use Rattle.query_select.specs.declared.select.Equality.{Equality}
 use Rattle.query_select.specs.declared.token.Kind.TheVariants as kind
 use Rattle.query_select.specs.declared.token.Token.{Token}
 use Rattle.query_select.specs.Lexeme.{Lexeme, lexemes}
-use Rattle.query_parse.specs.Reading.{Added, Read, Next, ◌>>=◌, all_at, Gives, Fails, Joined, Steps, found, item_at, plain_item_at, next_item_at, items_at, put_after, put_next, expect_at, optional_at, sources_at, where_at, conditions_at, condition_at, next_condition_at, several_at}
+use Rattle.query_parse.specs.Reading.{Added, Read, Next, ◌>>=◌, all_at, Gives, IsParseFault, Joined, Steps, found, item_at, plain_item_at, next_item_at, items_at, put_after, put_next, expect_at, optional_at, sources_at, where_at, conditions_at, condition_at, next_condition_at, several_at}
 use Rattle.query_parse.proofs.Columns.{fails_on}
 use Rattle.query_parse.proofs.Handed.{faulty, given}
 use Rattle.query_parse.proofs.Loops.{with_items, items_go_on, items_end, items_done}
@@ -24,7 +24,7 @@ pub plain_put : (had : Lists) (item : ItemRef) (ts rest : List Lexeme) → item_
 unfolding plain_item_at
 plain_put had item ts rest e = rw e (ap (λ (on : List Equality). Ok ((had.0 ++ item ∷ [], on), rest)) (append-nil had.1))
 
-item_unread : (had : Lists) (ts : List Lexeme) (end : ℕ) (e : ParseFault) → Fails end e (item_at ts) → Fails end e (put_after had (plain_item_at ts))
+item_unread : (had : Lists) (ts : List Lexeme) (end : ℕ) (e : ParseFault) → IsParseFault end e (item_at ts) → IsParseFault end e (put_after had (plain_item_at ts))
 unfolding plain_item_at
 item_unread had ts end e h = fails_on end e (plain_item_at ts) _ (fails_on end e (item_at ts) _ h)
 
@@ -95,11 +95,11 @@ putting_shortens s had new ts rest h =
     let f = put_found had new (lexemes rest) (next_item_at (lexemes ts)) h in
     fewer s ts rest f.0 f.1
 
-pub putting_ends : Steps next_item_at → (end : ℕ) (e : ParseFault) (had : Lists) (ts : List Lexeme) (total : Read Lists) → Fails end e (put_next had (next_item_at ts))
-    → with_items had.0 had.1 (all_at next_item_at ts) ≡ total → Fails end e total
+pub putting_ends : Steps next_item_at → (end : ℕ) (e : ParseFault) (had : Lists) (ts : List Lexeme) (total : Read Lists) → IsParseFault end e (put_next had (next_item_at ts))
+    → with_items had.0 had.1 (all_at next_item_at ts) ≡ total → IsParseFault end e total
 putting_ends s end e had ts total h so_far = items_end s end e had.0 had.1 ts total (unput e h) so_far
   where
-    unput : (e : ParseFault) → Fails end e (put_next had (next_item_at ts)) → Fails end e (next_item_at ts)
+    unput : (e : ParseFault) → IsParseFault end e (put_next had (next_item_at ts)) → IsParseFault end e (next_item_at ts)
     unput fault.NoMemory h = tt
     unput (fault.Syntax at) h = (h.0, put_failed had h.0 (next_item_at ts) h.1, h.2)
     unput _ h = h
@@ -125,7 +125,7 @@ module _ (ts after : List Lexeme) (word : Lexeme) (from : expect_at kind.From ts
   unfolding sources_at items_at
   rest_begins item rest had items empty first are = rw (from, first, are, empty) refl
 
-  pub first_ends : (end : ℕ) (e : ParseFault) → Fails end e (item_at after) → Fails end e (sources_at ts)
+  pub first_ends : (end : ℕ) (e : ParseFault) → IsParseFault end e (item_at after) → IsParseFault end e (sources_at ts)
   unfolding sources_at items_at
   first_ends end e h = rw from (fails_on end e (items_at after) _ (fails_on end e (item_at after) _ h))
 
@@ -134,9 +134,9 @@ module _ (had new : Lists) (ts : List Lexeme) (total : Read Lists) (so_far : wit
   rest_goes_on rest h =
       ap (λ (r : Read Lists). r >>= and_where) (putting_goes_on item_steps had new ts rest (with_items had.0 had.1 (all_at next_item_at ts)) h refl) ∙ so_far
 
-  pub rest_ends : (end : ℕ) (e : ParseFault) → Fails end e (put_next had (next_item_at ts)) → Fails end e total
+  pub rest_ends : (end : ℕ) (e : ParseFault) → IsParseFault end e (put_next had (next_item_at ts)) → IsParseFault end e total
   rest_ends end e h =
-      subst (Fails end e) so_far (fails_on end e (with_items had.0 had.1 (all_at next_item_at ts)) and_where (putting_ends item_steps end e had ts (with_items had.0 had.1 (all_at next_item_at ts)) h refl))
+      subst (IsParseFault end e) so_far (fails_on end e (with_items had.0 had.1 (all_at next_item_at ts)) and_where (putting_ends item_steps end e had ts (with_items had.0 had.1 (all_at next_item_at ts)) h refl))
 
   pub rest_gives : {V R : Type 0} (listed : V → List Equality) (tokens_of : R → List Lexeme) (end : ℕ) (all : List Equality) (conditions : Result (V × R) ParseFault) (r : Result R ParseFault) → put_next had (next_item_at ts) ≡ Ok (new, None)
       → Gives end (λ x. (listed x.0, tokens_of x.1)) conditions (where_at ts) → Added listed new.1 all conditions r → Gives end (λ x. ((new.0, all), tokens_of x)) r total

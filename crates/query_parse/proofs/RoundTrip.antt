@@ -18,7 +18,7 @@ use Rattle.query_parse.specs.Grammar.{IsLimit, no_limit, some_limit, IsEnd, no_s
 use Rattle.query_select.specs.Tokens.{tokens_from, tokens_of, kind_of_word}
 use Rattle.query_parse.specs.Parse.{decimal_from, limit_of, select_of, IsParsed}
 use Rattle.query_parse.specs.Text.{list_text, items_text, where_text, order_text, limit_text, text_of}
-use Rattle.query_select.specs.Same.{placeless_item, placeless_key, placeless}
+use Rattle.query_select.specs.Placeless.{placeless_item, placeless_key, placeless}
 use Rattle.query_parse.specs.ReadBack.{ReadsBack}
 use Rattle.query_parse.proofs.Plain.{PlainSelect}
 use Rattle.query_parse.proofs.PlainNames.{tokens_plain, query_plain}

@@ -10,7 +10,7 @@ use Rattle.query_select.specs.declared.select.Select.{Select}
 use Rattle.query_select.specs.declared.select.SelectList.{SelectList}
 use Rattle.query_select.specs.Lexeme.{Lexeme, lexemes}
 use Rattle.query_parse.specs.declared.fault.ParseFault.{ParseFault}
-use Rattle.query_parse.specs.Reading.{◌>>=◌, Ended, Fails, Gives, Read, branch_at, ended_at, finish_at, limit_at, next_branch_at, queries_at, query_at, branches_at, optional_at, order_at, selection_at, several_at, sources_at}
+use Rattle.query_parse.specs.Reading.{◌>>=◌, Ended, IsParseFault, Gives, Read, branch_at, ended_at, finish_at, limit_at, next_branch_at, queries_at, query_at, branches_at, optional_at, order_at, selection_at, several_at, sources_at}
 use Rattle.query_parse.proofs.Columns.{fails_on}
 
 abbrev Lists : Type 0
@@ -19,12 +19,12 @@ Lists = List ItemRef × List Equality
 -- ---- a query up to its order keys
 
 module _ (ts : List Lexeme) where
-  pub selection_fails : (end : ℕ) (e : ParseFault) → Fails end e (selection_at ts) → Fails end e (branch_at ts)
+  pub selection_fails : (end : ℕ) (e : ParseFault) → IsParseFault end e (selection_at ts) → IsParseFault end e (branch_at ts)
   unfolding branch_at
   selection_fails end e h = fails_on end e (selection_at ts) _ h
 
   module _ (list : SelectList) (after : List Lexeme) (selects : selection_at ts ≡ Ok (list, after)) where
-    pub sources_fail : (end : ℕ) (e : ParseFault) → Fails end e (sources_at after) → Fails end e (branch_at ts)
+    pub sources_fail : (end : ℕ) (e : ParseFault) → IsParseFault end e (sources_at after) → IsParseFault end e (branch_at ts)
     unfolding branch_at
     sources_fail end e h = rw selects (fails_on end e (sources_at after) _ h)
 

@@ -18,7 +18,7 @@ use Rattle.query_parse.specs.Grammar.{Many, none, more, Behind, after_sign, IsCo
 use Rattle.query_select.specs.Tokens.{tokens_from, kind_of_word}
 use Rattle.query_select.specs.Text.{name_text_of}
 use Rattle.query_parse.specs.Text.{constant_text, alias_text, column_text, more_columns_text, columns_text, list_text, item_text, more_items_text, items_text, side_text, equality_text, more_equalities_text, where_text, first_term_text, term_text, terms_text, key_text, more_keys_text, order_text}
-use Rattle.query_select.specs.Same.{placeless_column, placeless_list, placeless_item, placeless_side, placeless_equality, placeless_term, placeless_key}
+use Rattle.query_select.specs.Placeless.{placeless_column, placeless_list, placeless_item, placeless_side, placeless_equality, placeless_term, placeless_key}
 use Rattle.query_select.proofs.ScanLength.{tokens_at_blank}
 use Rattle.query_parse.proofs.TextScan.{undoubled_doubled}
 use Rattle.query_parse.proofs.Plain.{Each, EachOfSome, PlainAlias, PlainColumn, PlainItem, PlainSide, PlainEquality, PlainTerm, PlainKey, PlainList}

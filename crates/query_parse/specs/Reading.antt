@@ -38,20 +38,20 @@ place_of end [] = end
 place_of end (t ∷ ts) = t.at
 
 -- The result of a function, as `view` sees it, is what reading gives, unless memory ran out.
-abbrev pub Fails : {Y : Type 0} → ℕ → ParseFault → Result Y (List Lexeme) → Type 0
-Fails end fault.NoMemory read = Unit {0}
-Fails end (fault.Syntax at) read = (left : List Lexeme) × (read ≡ Err left)
+abbrev pub IsParseFault : {Y : Type 0} → ℕ → ParseFault → Result Y (List Lexeme) → Type 0
+IsParseFault end fault.NoMemory read = Unit {0}
+IsParseFault end (fault.Syntax at) read = (left : List Lexeme) × (read ≡ Err left)
     × (at ≡ place_of end left)
-Fails end fault.TooLong read = ⊥
-Fails end fault.TooManyBranches read = ⊥
-Fails end fault.TooManyItems read = ⊥
-Fails end fault.TooManyKeys read = ⊥
-Fails end (fault.LimitRange at) read = ⊥
+IsParseFault end fault.TooLong read = ⊥
+IsParseFault end fault.TooManyBranches read = ⊥
+IsParseFault end fault.TooManyItems read = ⊥
+IsParseFault end fault.TooManyKeys read = ⊥
+IsParseFault end (fault.LimitRange at) read = ⊥
 
 abbrev pub Gives : {X Y : Type 0} → ℕ → (X → Y) → Result X ParseFault → Result Y (List Lexeme)
     → Type 0
 Gives end view (Ok x) read = read ≡ Ok (view x)
-Gives end view (Err e) read = Fails end e read
+Gives end view (Err e) read = IsParseFault end e read
 
 -- the token, if it is of this kind, and those after it
 unfoldable pub expect_at : Kind → List Lexeme → Read Lexeme
@@ -110,7 +110,7 @@ Follows after k tokens (Some rest) = (t : Lexeme) × (optional_at k tokens ≡ (
 abbrev pub Passes : {B : Type 0} → ℕ → (B → List Lexeme) → Kind → List Lexeme
     → Result B ParseFault → Type 0
 Passes end after k tokens (Ok rest) = (t : Lexeme) × (expect_at k tokens ≡ Ok (t, after rest))
-Passes end after k tokens (Err e) = Fails end e (expect_at k tokens)
+Passes end after k tokens (Err e) = IsParseFault end e (expect_at k tokens)
 
 -- one more after a separator
 abbrev pub behind : {A : Type 0} → (List Lexeme → Read A) → Option Lexeme × List Lexeme → Next A
@@ -122,7 +122,7 @@ abbrev pub Leads : {A B : Type 0} → ℕ → (B → List Lexeme) → (List Lexe
     → Result (Option B) ParseFault → Type 0
 Leads end after one next (Ok None) = next ≡ Ok None
 Leads end after one next (Ok (Some rest)) = next ≡ found (one (after rest))
-Leads end after one next (Err e) = Fails end e next
+Leads end after one next (Err e) = IsParseFault end e next
 
 -- a thing, and all further ones
 abbrev pub several_at : {A : Type 0} → (List Lexeme → Read A) → (List Lexeme → Next A)

@@ -19,7 +19,7 @@ pub use fault::ParseFault;
 pub use laws::{scans_are_longest, tokens_are_longest};
 pub use parsing::{MAX_BRANCHES, MAX_BYTES, MAX_ITEMS, MAX_KEYS, parse, parse_all};
 pub use query_select::{
-    Bytes, ColumnRef, Equality, ItemRef, KeyRef, Name, Select, SelectAll, SelectList, Sequence,
-    Side, Term, name_text,
+    Bytes, ColumnRef, Equality, Identifier, ItemRef, KeyRef, Select, SelectAll, SelectList,
+    Sequence, Side, Term, name_text,
 };
 pub use writing::text;

@@ -11,7 +11,7 @@ ghost use Rattle.query_select.specs.declared.select.Select.{Select};
 ghost use Rattle.query_select.specs.declared.select.SelectAll.{SelectAll};
 
 use crate::fault::ParseFault;
-use crate::reader::{Part, ended, several};
+use crate::reader::{ClauseReader, ended, several};
 use query_select::select::{Select, SelectAll};
 use query_select::sequence::Sequence;
 use query_select::{Token, tokens};

@@ -7,7 +7,7 @@ ghost use Rattle.query_parse.specs.Reading.{Gives, column_of, Added, Made, Follo
 ghost use Rattle.query_select.specs.declared.select.Side.TheVariants.{Constant};
 
 use crate::fault::ParseFault;
-use query_select::name::{Bytes, Name};
+use query_select::name::{Bytes, Identifier};
 use query_select::select::{ColumnRef, Equality, ItemRef, KeyRef, Select, SelectList, Side, Term};
 use query_select::sequence::Sequence;
 use query_select::{Kind, Token};
@@ -130,7 +130,7 @@ fn column_ref(
 {
     match alias {
         None => {
-            let column = Name::from_slice(alloc, name.body)?;
+            let column = Identifier::from_slice(alloc, name.body)?;
             Ok(ColumnRef {
                 alias: None,
                 column,
@@ -139,8 +139,8 @@ fn column_ref(
         }
         Some(alias) => {
             let at = alias.at;
-            let alias = Some(Name::from_slice(alloc, alias.body)?);
-            let column = Name::from_slice(alloc, name.body)?;
+            let alias = Some(Identifier::from_slice(alloc, alias.body)?);
+            let column = Identifier::from_slice(alloc, name.body)?;
             Ok(ColumnRef { alias, column, at })
         }
     }
@@ -157,7 +157,7 @@ fn found<T>(read: Result<T, ParseFault>) -> Result<Option<T>, ParseFault>
 }
 
 /// A part of a query that is read by itself.
-pub(crate) trait Part: Drop {
+pub(crate) trait ClauseReader: Drop {
     /// What reading one gives.
     ghost one_at: { List Lexeme → Read Self };
 
@@ -171,7 +171,7 @@ pub(crate) trait Part: Drop {
 }
 
 /// What a query has lists of, with a sign or a word before each except the first.
-pub(crate) trait Listed: Part {
+pub(crate) trait ListReader: ClauseReader {
     /// What looking for a further one gives.
     ghost next_at: { List Lexeme → Next Self };
 
@@ -185,7 +185,7 @@ pub(crate) trait Listed: Part {
 }
 
 /// Reads a thing and all further ones.
-pub(crate) fn several<'a, 't, T: Listed>(
+pub(crate) fn several<'a, 't, T: ListReader>(
     alloc: Global,
     tokens: &'t [Token<'a>],
     end: u32,
@@ -202,7 +202,7 @@ pub(crate) fn several<'a, 't, T: Listed>(
     Ok((list, rest))
 }
 
-impl Part for ColumnRef {
+impl ClauseReader for ColumnRef {
     ghost one_at = { column_at };
 
     #[tactic(auto, unfolding(crate::specs::Reading::column_at))]
@@ -221,7 +221,7 @@ impl Part for ColumnRef {
 }
 
 /// Column references with commas between them.
-impl Listed for ColumnRef {
+impl ListReader for ColumnRef {
     ghost next_at = { next_column_at };
 
     #[tactic(auto, unfolding(crate::specs::Reading::next_column_at))]
@@ -233,7 +233,7 @@ impl Listed for ColumnRef {
     }
 }
 
-impl Part for Equality {
+impl ClauseReader for Equality {
     ghost one_at = { condition_at };
 
     #[tactic(auto, unfolding(crate::specs::Reading::condition_at))]
@@ -261,7 +261,7 @@ impl Part for Equality {
 }
 
 /// Conditions with `and` between them.
-impl Listed for Equality {
+impl ListReader for Equality {
     ghost next_at = { next_condition_at };
 
     #[tactic(auto, unfolding(crate::specs::Reading::next_condition_at))]
@@ -273,7 +273,7 @@ impl Listed for Equality {
     }
 }
 
-impl Part for Term {
+impl ClauseReader for Term {
     ghost one_at = { first_term_at };
 
     #[tactic(auto, unfolding(crate::specs::Reading::term_at))]
@@ -290,7 +290,7 @@ impl Part for Term {
 }
 
 /// The columns of an order key, with their signs. The first may have none.
-impl Listed for Term {
+impl ListReader for Term {
     ghost next_at = { next_term_at };
 
     #[tactic(auto, unfolding(crate::specs::Reading::next_term_at))]
@@ -305,7 +305,7 @@ impl Listed for Term {
     }
 }
 
-impl Part for KeyRef {
+impl ClauseReader for KeyRef {
     ghost one_at = { key_at };
 
     #[tactic(auto, unfolding(crate::specs::Reading::key_at, crate::specs::Reading::terms_at, crate::specs::Reading::direction_at))]
@@ -327,7 +327,7 @@ impl Part for KeyRef {
 }
 
 /// Order keys with commas between them.
-impl Listed for KeyRef {
+impl ListReader for KeyRef {
     ghost next_at = { next_key_at };
 
     #[tactic(auto, unfolding(crate::specs::Reading::next_key_at))]
@@ -339,7 +339,7 @@ impl Listed for KeyRef {
     }
 }
 
-impl Part for Select {
+impl ClauseReader for Select {
     ghost one_at = { branch_at };
 
     #[tactic(auto, unfolding(crate::specs::Reading::branch_at))]
@@ -371,7 +371,7 @@ impl Part for Select {
 }
 
 /// Queries up to their order keys, without their limits, with `union all` between them.
-impl Listed for Select {
+impl ListReader for Select {
     ghost next_at = { next_branch_at true };
 
     #[tactic(auto, unfolding(crate::specs::Reading::next_branch_at))]
@@ -476,8 +476,8 @@ fn item<'a, 't>(
     let (table, rest) = expect(tokens, end, Kind::Name)?;
     let at = table.at;
     let (alias, rest) = alias(rest, end, table)?;
-    let table = Name::from_slice(alloc, table.body)?;
-    let alias = Name::from_slice(alloc, alias.body)?;
+    let table = Identifier::from_slice(alloc, table.body)?;
+    let alias = Identifier::from_slice(alloc, alias.body)?;
     Ok((ItemRef { table, alias, at }, rest))
 }
 

@@ -1,7 +1,7 @@
 pub mod Keywords
 pub mod Kinds
 pub mod Lexeme
-pub mod Same
+pub mod Placeless
 pub mod SameLaws
 pub mod Scans
 pub mod Text

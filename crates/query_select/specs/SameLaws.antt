@@ -18,7 +18,7 @@ use Rattle.query_select.specs.declared.select.Equality.{Equality}
 use Rattle.query_select.specs.declared.select.Term.{Term}
 use Rattle.query_select.specs.declared.select.KeyRef.{KeyRef}
 use Rattle.query_select.specs.declared.select.Select.{Select}
-use Rattle.query_select.specs.Same.{placeless_column, placeless_list, placeless_item, placeless_side, placeless_equality, placeless_term, placeless_key, placeless, AreOne, same_column, same_list, same_item, same_side, same_equality, same_term, same_key, same_select}
+use Rattle.query_select.specs.Placeless.{placeless_column, placeless_list, placeless_item, placeless_side, placeless_equality, placeless_term, placeless_key, placeless, AreOne, same_column, same_list, same_item, same_side, same_equality, same_term, same_key, same_select}
 
 -- a test of whether two values are equal as they are seen
 pub record Tells {K V : Type 0} (test : K → K → Bool) (view : K → V) : Type 0 where

@@ -3,20 +3,20 @@
 ghost use Rattle.std.specs.Prelude.{◌≡◌, ◌↔◌, IsTrue};
 ghost use Rattle.std.specs.Str.{bytes_eq};
 ghost use Rattle.std.specs.Cmp.Lexicographic.{lists_per, pointwise};
-ghost use Rattle.query_select.specs.Same.{AreOne, same_column, same_equality, same_item, same_key, same_list, same_select, same_side, same_term};
-ghost use Rattle.query_select.specs.Same.{placeless, placeless_column, placeless_equality, placeless_item, placeless_key, placeless_list, placeless_side, placeless_term};
+ghost use Rattle.query_select.specs.Placeless.{AreOne, same_column, same_equality, same_item, same_key, same_list, same_select, same_side, same_term};
+ghost use Rattle.query_select.specs.Placeless.{placeless, placeless_column, placeless_equality, placeless_item, placeless_key, placeless_list, placeless_side, placeless_term};
 ghost use Rattle.query_select.specs.SameLaws.{bytes_laws, laws_of, column_tells, equality_tells, item_tells, key_tells, list_tells, select_tells, side_tells, term_tells};
 
-use crate::name::{Bytes, Name};
+use crate::name::{Bytes, Identifier};
 use crate::select::{ColumnRef, Equality, ItemRef, KeyRef, Select, SelectList, Side, Term};
 use crate::sequence::Sequence;
 
-impl PartialEq for Name {
+impl PartialEq for Identifier {
     ghost eq = { bytes_eq };
 
     ghost laws = { bytes_laws };
 
-    fn eq(&self, other: &Name) -> bool {
+    fn eq(&self, other: &Identifier) -> bool {
         self.bytes() == other.bytes()
     }
 }

@@ -15,7 +15,7 @@ pub mod sequence;
 mod token;
 mod writing;
 
-pub use name::{Bytes, Name};
+pub use name::{Bytes, Identifier};
 pub use scanner::tokens;
 pub use select::{ColumnRef, Equality, ItemRef, KeyRef, Select, SelectAll, SelectList, Side, Term};
 pub use sequence::Sequence;

@@ -8,22 +8,22 @@ use step_counter::NoMemory;
 
 /// A name, without quotes. Names are compared byte by byte, with case.
 #[derive(Drop)]
-pub struct Name {
+pub struct Identifier {
     bytes: Vec<u8>,
 }
 
-impl Model for Name {
+impl Model for Identifier {
     ghost Value = { List ℕ };
 
     ghost view = { λ a. a.bytes.items };
 }
 
-impl Name {
+impl Identifier {
     /// A copy of these bytes. `NoMemory` if memory is refused.
-    pub fn from_slice(alloc: Global, bytes: &[u8]) -> Result<Name, NoMemory>
+    pub fn from_slice(alloc: Global, bytes: &[u8]) -> Result<Identifier, NoMemory>
         ensures { IfOk result (λ n. n ≡ bytes.now) }
     {
-        Ok(Name {
+        Ok(Identifier {
             bytes: Vec::from_slice(alloc, bytes)?,
         })
     }

@@ -1,15 +1,15 @@
 //! The parts of a query.
 
-use crate::name::{Bytes, Name};
+use crate::name::{Bytes, Identifier};
 use crate::sequence::Sequence;
 
 /// A column, with the alias before it if one was written.
 #[derive(Drop)]
 pub struct ColumnRef {
     /// The alias before it.
-    pub alias: Option<Name>,
+    pub alias: Option<Identifier>,
     /// The name of the column.
-    pub column: Name,
+    pub column: Identifier,
     /// The offset of its first token, in bytes, from 0.
     pub at: u32,
 }
@@ -27,9 +27,9 @@ pub enum SelectList {
 #[derive(Drop)]
 pub struct ItemRef {
     /// The name of the table.
-    pub table: Name,
+    pub table: Identifier,
     /// The alias, or the table's name if no alias was written.
-    pub alias: Name,
+    pub alias: Identifier,
     /// The offset of the table's name, in bytes, from 0.
     pub at: u32,
 }

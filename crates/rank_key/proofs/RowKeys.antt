@@ -11,7 +11,7 @@ use Rattle.tdp_model.specs.KeyTuple.{KeyOf, key_add}
 use Rattle.tdp_model.proofs.Subtrees.{cases_eq}
 use Rattle.tdp_model.proofs.KeyNumbers.{sum_of_add, sum_of_lists, slot_of_lists}
 use Rattle.tdp_model.proofs.KeyTuples.{slot_of_add}
-use Rattle.rank_key.specs.Keys.{IsHeld, IsInRange, IsWithin, row_key}
+use Rattle.rank_key.specs.Keys.{IsHeld, IsInRange, IsInLimits, row_key}
 
 small_at : (xs : List ℤ) (i : ℕ) → AllByRecursion (FitsSigned w64) xs → FitsSigned w64 (get_or xs i (pos 0))
 small_at [] i all = search rules
@@ -51,7 +51,7 @@ two_rows_fit d xs ys slot row other number all each few less = (
 )
 
 -- ranks that hold each key within some bounds hold that of a row within them
-pub row_held : {R : Type 0} {d items limit rows : ℕ} (key : R → KeyOf d 16) → ((k : KeyOf d 16) → IsWithin d items limit rows k → IsHeld d key k)
+pub row_held : {R : Type 0} {d items limit rows : ℕ} (key : R → KeyOf d 16) → ((k : KeyOf d 16) → IsInLimits d items limit rows k → IsHeld d key k)
     → (xs : List ℤ) (slot row : ℕ) → ((i : ℕ) → unsigned_abs (get_or xs i (pos 0)) < limit) → slot < 16 → slot < items → row < rows
     → IsHeld d key (row_key d xs slot row)
 row_held {d = d} {items = items} key holds xs slot row small few there low = holds (row_key d xs slot row) (record {

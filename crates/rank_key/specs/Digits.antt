@@ -7,7 +7,7 @@ use Rattle.std.proofs.lemmas.Int.{ints}
 use Rattle.tdp_model.specs.KeyTuple.{KeyOf, slot_of}
 use Rattle.tdp_model.specs.KeyNumbers.{key_of_lists, sum_of}
 use Rattle.tdp_model.proofs.KeyNumbers.{key_same, slot_of_lists}
-use Rattle.rank_key.specs.Keys.{IsWithin}
+use Rattle.rank_key.specs.Keys.{IsInLimits}
 use Rattle.rank_key.specs.Packed.{lifted, digits, packed_key, from_digits, number_of}
 
 -- a number of 128 bits with a sign, lifted
@@ -48,7 +48,7 @@ module _ (sum : ℤ) (rest : ℕ) (small : unsigned_abs sum < 2 ^ 43) (low : res
   pub made_rest : lifted made % 2 ^ 84 ≡ rest
   made_rest = let is = lifted_is made made_fits in omega (arith, ints, small, low, is)
 
-module _ (k : KeyOf 1 16) (within : IsWithin 1 4 (2 ^ 43) (2 ^ 21) k) where
+module _ (k : KeyOf 1 16) (within : IsInLimits 1 4 (2 ^ 43) (2 ^ 21) k) where
   abbrev sum : ℤ
   sum = sum_of 1 16 0 k
 

@@ -2,7 +2,7 @@
 ghost use Rattle.std.specs.Prelude.{◌≡◌, ℕ, ◌+◌, ◌^◌, ◌<◌, ◌≤◌, List, length};
 ghost use Rattle.tdp_model.specs.KeyTuple.{KeyOf, key_add, key_none, slot_of};
 ghost use Rattle.tdp_model.specs.KeyNumbers.{key_less};
-ghost use Rattle.rank_key.specs.Keys.{KeyFits, CanSwap, IsHeld, IsWithin, row_key};
+ghost use Rattle.rank_key.specs.Keys.{KeyFits, CanSwap, IsHeld, IsInLimits, row_key};
 
 use std::sync::ledger::Ledger;
 use step_counter::Steps;
@@ -59,7 +59,7 @@ pub trait Rank: Copy {
         ensures order { result ≡ key_less KEYS 16 (key a.now) (key b.now) }
         ensures counted { steps.new ≡ steps.old + 1 };
 
-    ghost holds: { (k : KeyOf KEYS 16) → IsWithin KEYS ITEMS LIMIT ROWS k → IsHeld KEYS key k };
+    ghost holds: { (k : KeyOf KEYS 16) → IsInLimits KEYS ITEMS LIMIT ROWS k → IsHeld KEYS key k };
 
     ghost some_limit: { 0 < LIMIT };
 

@@ -8,7 +8,7 @@ use Rattle.std.proofs.lemmas.List.FromFn.{get_or-range_with_len, length-range_wi
 use Rattle.hyper_graph.specs.Graph.{is_in}
 use Rattle.hyper_graph.specs.Items.{items_below}
 use Rattle.refusals.specs.Reason.{spaced}
-use Rattle.refusals.specs.Core.{item_text}
+use Rattle.refusals.specs.CycleText.{item_text}
 use Rattle.outer_io.specs.SinkText.{Sent}
 use Rattle.outer_io.specs.SinkState.{SinkState}
 use Rattle.refusals.proofs.Pieces.{Sent-cut}

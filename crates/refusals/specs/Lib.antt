@@ -1,4 +1,4 @@
-pub mod Core
+pub mod CycleText
 pub mod Forms
 pub mod Pieces
 pub mod Reason

@@ -3,7 +3,7 @@ ghost use Rattle.std.specs.Prelude.{◌≡◌, ◌<◌, ◌+◌, ◌++◌, None,
 ghost use Rattle.refusals.specs.Reason.{BadWeight, branch_text, line_of, on_file, on_table, spaced, text_of};
 ghost use Rattle.hyper_graph.specs.Graph.{is_in};
 ghost use Rattle.hyper_graph.specs.Items.{items_of};
-ghost use Rattle.refusals.specs.Core.{item_text};
+ghost use Rattle.refusals.specs.CycleText.{item_text};
 ghost use Rattle.refusals.specs.Forms.{in_table};
 ghost use Rattle.refusals.specs.RefusalReasons.{reason_of};
 ghost use Rattle.outer_io.specs.SinkText.{Sent};

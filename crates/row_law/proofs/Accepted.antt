@@ -6,7 +6,7 @@ use Rattle.query_parse.proofs.OneQuery.{one_branch}
 use Rattle.bound_query.specs.Steps.{calls_for, cost}
 use Rattle.bound_query.proofs.Rising.{calls_few, cost_rises}
 use Rattle.verdict.specs.Bound.{IsBounded}
-use Rattle.verdict.specs.AcceptedInput.{Found, found_of}
+use Rattle.verdict.specs.AcceptedInput.{AcceptedInput, found_of}
 use Rattle.verdict.specs.Loading.{Loaded, no_certificate, with_steps}
 use Rattle.verdict.specs.Output.{asked_list}
 use Rattle.verdict.specs.Stages.{followed}
@@ -18,7 +18,7 @@ use Rattle.row_law.proofs.Shaped.{row_shape, row_shaped}
 abbrev pub row_loaded : Loaded
 row_loaded = record { queries = row_query ∷ []; tables = row_tables; best = None; steps = []; proof = no_certificate }
 
-abbrev pub row_found : Found
+abbrev pub row_found : AcceptedInput
 row_found = found_of row_loaded (row_shape ∷ [])
 
 row_is_loaded : IsLoaded row_asked row_files (Ok row_loaded)

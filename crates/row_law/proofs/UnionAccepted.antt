@@ -7,7 +7,7 @@ use Rattle.bound_query.specs.Steps.{cost}
 use Rattle.anyk_model.specs.TaggedRows.{Tagged}
 use Rattle.anyk_model.specs.Union.{members_in}
 use Rattle.verdict.specs.Bound.{IsBounded}
-use Rattle.verdict.specs.AcceptedInput.{Found, found_of}
+use Rattle.verdict.specs.AcceptedInput.{AcceptedInput, found_of}
 use Rattle.verdict.specs.Loading.{Loaded, no_certificate, with_steps}
 use Rattle.verdict.specs.Output.{tagged_of}
 use Rattle.verdict.specs.Stages.{followed}
@@ -21,7 +21,7 @@ use Rattle.row_law.proofs.UnionLoaded.{by_weight, union_bound, union_parsed, uni
 abbrev union_loaded : Loaded
 union_loaded = record { queries = union_queries; tables = row_tables; best = None; steps = []; proof = no_certificate }
 
-abbrev pub union_found : Found
+abbrev pub union_found : AcceptedInput
 union_found = found_of union_loaded (single_shape ∷ single_shape ∷ [])
 
 union_is_loaded : IsLoaded row_asked union_files (Ok union_loaded)

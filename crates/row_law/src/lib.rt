@@ -7,12 +7,12 @@ ghost use Rattle.std.specs.Prelude.{◌≤◌, ◌+◌, ℕ, Some, Ok};
 ghost use Rattle.row_law.specs.Row.{row_asked, row_files};
 ghost use Rattle.row_law.specs.UnionRow.{union_files};
 ghost use Rattle.verdict.specs.Bound.{IsBounded};
-ghost use Rattle.verdict.specs.AcceptedInput.{Found};
+ghost use Rattle.verdict.specs.AcceptedInput.{AcceptedInput};
 ghost use Rattle.verdict.specs.Verdict.{IsVerdict};
 
 /// The row is accepted.
 pub fn row_accepted()
-    ensures { (found : Found) × IsVerdict row_asked row_files (Ok found) }
+    ensures { (found : AcceptedInput) × IsVerdict row_asked row_files (Ok found) }
 {}
 
 /// A call over the files of the row that keeps the bound on counted steps takes at most 7,936 of
@@ -24,7 +24,7 @@ pub fn row_steps()
 
 /// The second row is accepted.
 pub fn union_accepted()
-    ensures { (found : Found) × IsVerdict row_asked union_files (Ok found) }
+    ensures { (found : AcceptedInput) × IsVerdict row_asked union_files (Ok found) }
 {}
 
 /// A call over the files of the second row that keeps the bound on counted steps takes at most

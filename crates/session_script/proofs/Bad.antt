@@ -7,7 +7,7 @@ use Rattle.session_script.specs.declared.script_fault.ScriptFault.{ScriptFault}
 use Rattle.session_script.specs.declared.script_fault.ScriptFault.TheVariants.{BadLine, UnknownCursor, CursorExists, TooManyOpen}
 use Rattle.session_script.specs.Words.{is_skipped, step_of}
 use Rattle.session_script.specs.Forms.{Says, SayEach, IsBadLine, NamesBadLine, said_lines}
-use Rattle.session_script.specs.Script.{is_open, names_after, known_fault, new_fault, fault_of, unless, turn_by, turn, onto, then_onto, steps_from, Fails}
+use Rattle.session_script.specs.Script.{is_open, names_after, known_fault, new_fault, fault_of, unless, turn_by, turn, onto, then_onto, steps_from, IsScriptFault}
 use Rattle.session_script.proofs.Said.{said_by}
 use Rattle.session_script.proofs.Kept.{turn_said}
 
@@ -132,10 +132,10 @@ bad_line lines n b = rw (b.number) b.bad
 
 -- ---- what a fault names
 
-fails_bad : (lines : List (List ℕ)) (n : ℕ) → Fails (steps_from 1 [] lines) (BadLine n) → IsBadLine lines n
+fails_bad : (lines : List (List ℕ)) (n : ℕ) → IsScriptFault (steps_from 1 [] lines) (BadLine n) → IsBadLine lines n
 fails_bad lines n (inl no_memory) = absurd cc
 fails_bad lines n (inr h) = bad_line lines n (bad_from 1 [] lines n h)
 
-pub names_bad : (lines : List (List ℕ)) (e : ScriptFault) → Fails (steps_from 1 [] lines) e → NamesBadLine lines e
+pub names_bad : (lines : List (List ℕ)) (e : ScriptFault) → IsScriptFault (steps_from 1 [] lines) e → NamesBadLine lines e
 names_bad lines (BadLine n) h = fails_bad lines n h
 names_bad lines _ h = tt

@@ -10,7 +10,7 @@ use Rattle.session_script.specs.declared.script_fault.ScriptFault.TheVariants.{U
 use Rattle.session_script.specs.Words.{is_skipped, step_of}
 use Rattle.session_script.specs.Forms.{Says, SayEach, said_lines}
 use Rattle.session_script.proofs.Said.{sound}
-use Rattle.session_script.specs.Script.{is_open, names_without, names_after, known_fault, new_fault, fault_of, unless, turn_by, turn, onto, then_onto, steps_from, Fits, KeepsRules}
+use Rattle.session_script.specs.Script.{is_open, names_without, names_after, known_fault, new_fault, fault_of, unless, turn_by, turn, onto, then_onto, steps_from, IsAllowed, KeepsRules}
 
 known_by : (b : Bool) (e : ScriptFault) → cond b None (Some e) ≡ None → b ≡ true
 known_by true e h = refl
@@ -44,7 +44,7 @@ fewer name [] = omega arith
 fewer name (x ∷ names) = omega (arith, kept_or_not (not (bytes_eq x name)) x (names_without name names) (length names) (fewer name names))
 
 -- a step that breaks no rule fits, and leaves no more than 64 names open
-fit : (line : ℕ) (names : List (List ℕ)) (step : Step) → length names ≤ 64 → fault_of line names step ≡ None → Fits names step × (length (names_after step names) ≤ 64)
+fit : (line : ℕ) (names : List (List ℕ)) (step : Step) → length names ≤ 64 → fault_of line names step ≡ None → IsAllowed names step × (length (names_after step names) ≤ 64)
 unfolding fault_of
 fit line names (Open name) few h = let f = fresh line names name h in (f.0, omega (arith, length-append names (name ∷ [])))
 fit line names (Next name count) few h = (known line names name h, few)

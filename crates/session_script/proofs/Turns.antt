@@ -6,7 +6,7 @@ use Rattle.text_lines.specs.Parts.{parts}
 use Rattle.session_script.specs.declared.step.Step.{Step}
 use Rattle.session_script.specs.declared.script_fault.ScriptFault.{ScriptFault}
 use Rattle.session_script.specs.Words.{is_skipped, step_of_parts, step_of}
-use Rattle.session_script.specs.Script.{names_after, turn, onto, steps_from, Fails}
+use Rattle.session_script.specs.Script.{names_after, turn, onto, steps_from, IsScriptFault}
 
 pub skip_turn : (n : ℕ) (names : List (List ℕ)) (text : List ℕ) (more : List (List ℕ)) → is_skipped text ≡ true → steps_from n names (text ∷ more) ≡ steps_from (n + 1) names more
 unfolding steps_from
@@ -36,7 +36,7 @@ too_many_parts w a b rest = four_parts w a b (parts rest) (omega (arith, length-
 
 -- a line whose turn fails
 pub failing : (n : ℕ) (names : List (List ℕ)) (text : List ℕ) (more lines : List (List ℕ)) (steps : List Step) (all : Result (List Step) ScriptFault) (e : ScriptFault) → is_skipped text ≡ false → lines ≡ text ∷ more
-    → onto steps (steps_from n names lines) ≡ all → Fails (turn n names text) e → Fails all e
+    → onto steps (steps_from n names lines) ≡ all → IsScriptFault (turn n names text) e → IsScriptFault all e
 failing n names text more lines steps all e h v is (inl no_memory) = inl no_memory
 failing n names text more lines steps all e h v is (inr f) = inr (sym is ∙ ap (λ (ls : List (List ℕ)). onto steps (steps_from n names ls)) v ∙ fault_turn n names text more steps e h f)
 

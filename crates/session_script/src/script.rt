@@ -3,7 +3,7 @@
 ghost use Rattle.std.specs.Prelude.{◌≡◌, ◌≤◌, [], length, IfErr, IfOk, MatchResult, Ok};
 ghost use Rattle.std.specs.Str.Lines.{lines};
 ghost use Rattle.session_script.specs.Forms.{SayEach, said_lines, NamesBadLine};
-ghost use Rattle.session_script.specs.Script.{turn, steps_from, steps_of, names_after, Fails, KeepsRules};
+ghost use Rattle.session_script.specs.Script.{turn, steps_from, steps_of, names_after, IsScriptFault, KeepsRules};
 
 use crate::lines::{count_lines, is_skipped};
 use crate::name::Name;
@@ -21,7 +21,7 @@ pub const MAX_LINES: usize = 10000;
 #[tactic(auto, unfolding(crate::specs::Script::turn))]
 fn read_step(names: &mut Vec<Name>, line: &[u8], number: u32) -> Result<Step, ScriptFault>
     ensures value { MatchResult result (λ s. turn number names.old.items line.now ≡ Ok s)
-        (λ e. Fails (turn number names.old.items line.now) e) }
+        (λ e. IsScriptFault (turn number names.old.items line.now) e) }
     ensures after { IfOk result (λ s. names.new.items ≡ names_after s names.old.items) }
 {
     let Some(step) = read_line(line) else {
@@ -39,7 +39,7 @@ fn read_step(names: &mut Vec<Name>, line: &[u8], number: u32) -> Result<Step, Sc
 fn read_steps(alloc: Global, bytes: &[u8]) -> Result<Vec<Step>, ScriptFault>
     requires { length (lines bytes.now) ≤ 10000 }
     ensures { MatchResult result (λ v. steps_from 1 [] (lines bytes.now) ≡ Ok v.items)
-        (λ e. Fails (steps_from 1 [] (lines bytes.now)) e) }
+        (λ e. IsScriptFault (steps_from 1 [] (lines bytes.now)) e) }
 {
     let mut steps = Vec::new(alloc);
     let mut names = Vec::new(alloc);
@@ -64,7 +64,7 @@ fn read_steps(alloc: Global, bytes: &[u8]) -> Result<Vec<Step>, ScriptFault>
 pub fn read_script(alloc: Global, bytes: &[u8]) -> Result<Vec<Step>, ScriptFault>
     // The steps that the text says, or the reason why it says none.
     ensures value { MatchResult result (λ v. steps_of bytes.now ≡ Ok v.items)
-        (λ e. Fails (steps_of bytes.now) e) }
+        (λ e. IsScriptFault (steps_of bytes.now) e) }
     // Each line that is neither empty nor a comment says its step.
     ensures says { IfOk result (λ v. SayEach (said_lines (lines bytes.now)) v.items) }
     // A bad line is one that has no form of a step, and all lines before it say steps.

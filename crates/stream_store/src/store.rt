@@ -4,7 +4,7 @@ ghost use Rattle.stream_store.specs.declared.linked.Linked.{Linked};
 ghost use Rattle.stream_store.specs.Buckets.{joined, AreFilled, whole_room};
 
 use crate::linked::{EntryId, Linked};
-use crate::spot::{FIRST_ROOM, spot_of};
+use crate::location::{FIRST_ROOM, location_of};
 use std::alloc::Allocator;
 use std::marker::Model;
 use std::sync::ledger::Ledger;
@@ -94,7 +94,7 @@ impl<T, A: Allocator + Clone> Store<T, A> {
     {
         steps.tick();
         let place = self.len;
-        let spot = spot_of(place);
+        let spot = location_of(place);
         let bucket = &mut self.buckets[spot.bucket];
         bucket.push_reserved(Linked { value, next: None });
         self.len += 1;
@@ -132,7 +132,7 @@ impl<T, A: Allocator + Clone> Store<T, A> {
         requires { id < length self.now.entries }
         ensures { (d : Linked T) → slice_index_or self.now.entries id d ≡ result.now }
     {
-        let spot = spot_of(id.place as usize);
+        let spot = location_of(id.place as usize);
         let bucket = &self.buckets[spot.bucket];
         &bucket[spot.offset]
     }
@@ -169,7 +169,7 @@ impl<T, A: Allocator + Clone> Store<T, A> {
         ensures cost { steps.new ≡ steps.old + 1 }
     {
         steps.tick();
-        let spot = spot_of(id.place as usize);
+        let spot = location_of(id.place as usize);
         let bucket = &mut self.buckets[spot.bucket];
         bucket[spot.offset].next = Some(to);
     }

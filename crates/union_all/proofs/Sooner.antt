@@ -6,7 +6,7 @@ use Rattle.anyk_model.specs.Query.{Query}
 use Rattle.anyk_model.specs.Ranking.{IsBefore, is_before}
 use Rattle.anyk_model.specs.ListOrder.{Compared, before, same, after, before_trans, compare}
 use Rattle.anyk_model.specs.TaggedRows.{StandsBefore, sums_of}
-use Rattle.union_all.specs.Firsts.{HasFirst, IsFirst}
+use Rattle.union_all.specs.Firsts.{HasFirst, IsFirstBranch}
 
 -- of two lists the first one is before the other, or it is not
 tested : (xs ys : List ℤ) → Compared xs ys → (is_before xs ys ≡ true → IsBefore xs ys) × (is_before xs ys ≡ false → IsBefore ys xs ⊎ (ys ≡ xs))
@@ -26,7 +26,7 @@ not_empty l x xs e f = cc (e, f)
 
 module _ (queries : List Query) (tables : List Table) (lists : List (List (List ℕ))) (n : ℕ) where
   -- branch n has nothing left
-  pub none_here : (first : Option ℕ) → get_or lists n [] ≡ [] → IsFirst queries tables lists n first → IsFirst queries tables lists (n + 1) first
+  pub none_here : (first : Option ℕ) → get_or lists n [] ≡ [] → IsFirstBranch queries tables lists n first → IsFirstBranch queries tables lists (n + 1) first
   none_here None none was = λ c inside. elim (cases_eq c n) [
     | inl e ↦ subst (λ (k : ℕ). get_or lists k [] ≡ []) (sym e) none
     | inr d ↦ was c (omega (arith, inside, d))
@@ -44,7 +44,7 @@ module _ (queries : List Query) (tables : List Table) (lists : List (List (List 
 
   module _ (rows : List ℕ) (later : List (List ℕ)) (at : get_or lists n [] ≡ rows ∷ later) where
     -- it is the first branch that has something left
-    pub first_here : IsFirst queries tables lists n None → IsFirst queries tables lists (n + 1) (Some n)
+    pub first_here : IsFirstBranch queries tables lists n None → IsFirstBranch queries tables lists (n + 1) (Some n)
     first_here was = record {
       inside = omega arith;
       rows = rows;
@@ -99,9 +99,9 @@ module _ (queries : List Query) (tables : List Table) (lists : List (List (List 
       }
 
       pub compared_first : (b : Bool) (first_rows : List ℕ) → was.rows ≡ first_rows → b ≡ is_before (sums_of queries tables n rows) (sums_of queries tables f first_rows)
-          → IsFirst queries tables lists (n + 1) (if b then Some n else Some f)
+          → IsFirstBranch queries tables lists (n + 1) (if b then Some n else Some f)
       compared_first b first_rows here is = by b (is ∙ ap (λ (r : List ℕ). is_before (sums_of queries tables n rows) (sums_of queries tables f r)) (sym here))
         where
-          by : (t : Bool) → t ≡ less → IsFirst queries tables lists (n + 1) (if t then Some n else Some f)
+          by : (t : Bool) → t ≡ less → IsFirstBranch queries tables lists (n + 1) (if t then Some n else Some f)
           by true e = sooner (sym e)
           by false e = kept (sym e)

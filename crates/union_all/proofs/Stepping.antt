@@ -12,7 +12,7 @@ use Rattle.bound_query.specs.WeighedQuery.{BoundQuery, Fits}
 use Rattle.anyk_model.specs.TaggedRows.{Tagged, branch_at, tagged}
 use Rattle.anyk_model.specs.Union.{left_of}
 use Rattle.anyk_model.proofs.Merging.{merge_end, merge_step, some_list, tail_up}
-use Rattle.union_all.specs.Firsts.{HasFirst, IsFirst}
+use Rattle.union_all.specs.Firsts.{HasFirst, IsFirstBranch}
 use Rattle.union_all.specs.Merge.{AreBranches, AreLeft, BranchView, EngineView, HasCalled, IsCalled, MergeView, engine_at, engines_of, lists_of, queries_of}
 use Rattle.union_all.proofs.Branches.{list_at}
 
@@ -26,10 +26,10 @@ merged tables branches = record {
 
 -- the first branch, of those that a slice of them shows
 pub first_told : (tables : List Table) (slice branches : List BranchView) (o : Option ℕ) (first : ℕ) → slice ≡ branches → o ≡ Some first
-    → IsFirst (queries_of slice) tables (lists_of slice) (length slice) o → HasFirst (queries_of branches) tables (lists_of branches) (length branches) first
+    → IsFirstBranch (queries_of slice) tables (lists_of slice) (length slice) o → HasFirst (queries_of branches) tables (lists_of branches) (length branches) first
 first_told tables slice branches o first is at h =
     subst (λ (l : List BranchView). HasFirst (queries_of l) tables (lists_of l) (length l) first) is
-    (subst (λ (o : Option ℕ). IsFirst (queries_of slice) tables (lists_of slice) (length slice) o) at h)
+    (subst (λ (o : Option ℕ). IsFirstBranch (queries_of slice) tables (lists_of slice) (length slice) o) at h)
 
 -- what holds of any result
 pub on_error : {A X : Type 0} (result : Result A X) (P : Type 0) → P → OnErr result P

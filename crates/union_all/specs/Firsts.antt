@@ -21,6 +21,6 @@ module _ (queries : List Query) (tables : List Table) (lists : List (List (List 
         → get_or lists c [] ≡ other ∷ others → StandsBefore queries tables b rows c other
 
   -- this is that branch, or the first n branches have nothing left
-  abbrev pub IsFirst : ℕ → Option ℕ → Type 0
-  IsFirst n None = (c : ℕ) → c < n → get_or lists c [] ≡ []
-  IsFirst n (Some b) = HasFirst n b
+  abbrev pub IsFirstBranch : ℕ → Option ℕ → Type 0
+  IsFirstBranch n None = (c : ℕ) → c < n → get_or lists c [] ≡ []
+  IsFirstBranch n (Some b) = HasFirst n b

@@ -1,6 +1,6 @@
 //! The branch that has the first answer of all that are left.
 ghost use Rattle.std.specs.Prelude.{◌≡◌, ◌+◌, ◌<◌, Some, if◌then◌else◌, length};
-ghost use Rattle.union_all.specs.Firsts.{IsFirst};
+ghost use Rattle.union_all.specs.Firsts.{IsFirstBranch};
 ghost use Rattle.union_all.specs.Merge.{AreBranches, lists_of, queries_of};
 
 use crate::branch::Branch;
@@ -18,8 +18,8 @@ fn is_sooner<E: Ranked + Drop>(
 ) -> bool
     requires branches { AreBranches tables.now branches.now }
     requires inside { b < length branches.now }
-    requires first { IsFirst (queries_of branches.now) tables.now (lists_of branches.now) b first }
-    ensures { IsFirst (queries_of branches.now) tables.now (lists_of branches.now) (b + 1)
+    requires first { IsFirstBranch (queries_of branches.now) tables.now (lists_of branches.now) b first }
+    ensures { IsFirstBranch (queries_of branches.now) tables.now (lists_of branches.now) (b + 1)
         (if result then Some b else first) }
 {
     let branch = &branches[b];
@@ -43,7 +43,7 @@ pub(crate) fn first_branch<E: Ranked + Drop>(
     tables: &Tables,
 ) -> Option<usize>
     requires { AreBranches tables.now branches.now }
-    ensures { IsFirst (queries_of branches.now) tables.now (lists_of branches.now)
+    ensures { IsFirstBranch (queries_of branches.now) tables.now (lists_of branches.now)
         (length branches.now) result }
 {
     let mut first = None;

@@ -5,7 +5,7 @@ use Rattle.outer_io.specs.Files.{Files}
 use Rattle.refusals.specs.Reason as reason
 use Rattle.refusals.specs.Reason.{Reason, status_of}
 use Rattle.verdict.specs.Words.{Asked, no_command, a_command, run, plan, session, load, prove, verify}
-use Rattle.verdict.specs.AcceptedInput.{Found}
+use Rattle.verdict.specs.AcceptedInput.{AcceptedInput}
 use Rattle.verdict.specs.Outcome.{Outside, Ended, GotAccepted, GotNothing, IsComplete, IsReason, IsCaused, IsCut, IsCutShort, IsDoneWhereAccepted, IsRefusedWhereRefused, IsUnwrittenWhereRefused}
 use Rattle.verdict.specs.Verdict.{IsVerdict}
 use Rattle.verdict.proofs.One.{one_verdict, usage_verdict}
@@ -13,7 +13,7 @@ use Rattle.verdict.proofs.One.{one_verdict, usage_verdict}
 no_both : {A B : Type 0} {a : A} {b : Reason} → ◌≡◌ {A = Result A Reason} (Ok a) (Err b) → B
 no_both e = cc
 
-same_refusal : {a b : Reason} → ◌≡◌ {A = Result Found Reason} (Err a) (Err b) → a ≡ b
+same_refusal : {a b : Reason} → ◌≡◌ {A = Result AcceptedInput Reason} (Err a) (Err b) → a ≡ b
 same_refusal e = cc
 
 -- a complete output is written only if the input is accepted
@@ -26,7 +26,7 @@ complete_only (a_command command) (Some files) old new (found, accepted, text, i
 
 -- the refusal of a call that ended with it is the verdict's
 done_by : (asked : Asked) (files : Files) (old new : Outside) (a : Reason) → IsReason asked (Some files) a → IsCaused asked old new a
-    → (found : Found) → IsVerdict asked files (Ok found) → (Rose old.read_faults new.read_faults → ⊥) → (Rose old.write_faults new.write_faults → ⊥)
+    → (found : AcceptedInput) → IsVerdict asked files (Ok found) → (Rose old.read_faults new.read_faults → ⊥) → (Rose old.write_faults new.write_faults → ⊥)
     → (status_of a ≡ 0) ⊎ (status_of a ≡ 12)
 done_by asked files old new reason.Usage fits caused found accepted read write = no_both (usage_verdict files asked (Ok found) fits accepted)
 done_by asked files old new (reason.ReadFault name) fits caused found accepted read write = absurd (read caused.0)

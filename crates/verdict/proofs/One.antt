@@ -18,13 +18,13 @@ use Rattle.proof_model.specs.Faults.{fault_of}
 use Rattle.proof_model.specs.Valid.{Flaw as ProofFlaw}
 use Rattle.proof_model.proofs.OneFlaw.{one_flaw}
 use Rattle.proof_model.proofs.QueryLaws.{no_flaw}
-use Rattle.verdict.specs.Words.{Asked, Command, Sought, no_command, a_command, run, plan, session, load, prove, verify, sought_by}
+use Rattle.verdict.specs.Words.{Asked, Command, InputFiles, no_command, a_command, run, plan, session, load, prove, verify, input_files_of}
 use Rattle.verdict.specs.Faults.{of_parse, of_proof, of_shape}
 use Rattle.verdict.specs.Laws.{OneLoading, OneVerdict}
-use Rattle.verdict.specs.Loading.{Beside, IsParse, IsParseAll, IsReading, Loaded, are_several, branches_of, loaded_in, told_branch}
-use Rattle.verdict.specs.AcceptedInput.{Found, found_of, query_of, structure_of}
+use Rattle.verdict.specs.Loading.{SideInput, IsParse, IsParseAll, IsReading, Loaded, are_several, branches_of, loaded_in, told_branch}
+use Rattle.verdict.specs.AcceptedInput.{AcceptedInput, found_of, query_of, structure_of}
 use Rattle.verdict.specs.Stages.{Then, Is, refused, followed, AtMostOne}
-use Rattle.verdict.specs.Verdict.{AreStructures, IsAccompanied, IsBound, IsRead, IsSelected, IsShaped, IsStructure, IsStructured, IsTabled, IsVerdict, IsCertified, IsVerified}
+use Rattle.verdict.specs.Verdict.{AreStructures, IsAccompanied, IsBoundInput, IsRead, IsSelected, IsShaped, IsStructure, IsStructured, IsTabled, IsVerdict, IsCertified, IsVerified}
 
 -- a stage that computes
 pub one_computed : {A : Type 0} (r : Result A Reason) → AtMostOne (Is r)
@@ -138,24 +138,24 @@ one_shaped loaded =
     one_then _ _ (one_structures (are_several loaded.queries) 1 loaded.tables loaded.queries) (λ shapes. one_computed (Ok (found_of loaded shapes)))
 
 -- the stages of loading
-one_bound : (sought : Sought) (selects : List Select) (tables : List Table) (beside : Beside) → AtMostOne (IsBound sought selects tables beside)
+one_bound : (sought : InputFiles) (selects : List Select) (tables : List Table) (beside : SideInput) → AtMostOne (IsBoundInput sought selects tables beside)
 one_bound sought selects tables beside = one_then _ _ (one_computed _) (λ queries. one_computed (loaded_in sought.best_of queries tables beside))
 
-one_tabled : (sought : Sought) (files : Files) (selects : List Select) (beside : Beside) → AtMostOne (IsTabled sought files selects beside)
+one_tabled : (sought : InputFiles) (files : Files) (selects : List Select) (beside : SideInput) → AtMostOne (IsTabled sought files selects beside)
 one_tabled sought files selects beside = one_then _ _ (one_computed _) (λ tables. one_bound sought selects tables beside)
 
-one_selected : (sought : Sought) (files : Files) (selects : List Select) (beside : Beside) → AtMostOne (IsSelected sought files selects beside)
+one_selected : (sought : InputFiles) (files : Files) (selects : List Select) (beside : SideInput) → AtMostOne (IsSelected sought files selects beside)
 one_selected sought files selects beside = one_then _ _ (one_computed _) (λ known. one_tabled sought files known beside)
 
-one_accompanied : (sought : Sought) (files : Files) (selects : List Select) → AtMostOne (IsAccompanied sought files selects)
+one_accompanied : (sought : InputFiles) (files : Files) (selects : List Select) → AtMostOne (IsAccompanied sought files selects)
 one_accompanied sought files selects = one_then _ _ (one_computed _) (one_selected sought files selects)
 
-one_read : (sought : Sought) (files : Files) (bytes : List ℕ) → AtMostOne (IsRead sought files bytes)
+one_read : (sought : InputFiles) (files : Files) (bytes : List ℕ) → AtMostOne (IsRead sought files bytes)
 one_read sought files bytes = one_then _ _ (one_reading sought.several bytes) (one_accompanied sought files)
 
 pub one_loading : OneLoading
 one_loading no_command files = one_computed (Err Usage)
-one_loading (a_command command) files = one_then _ _ (one_computed _) (one_read (sought_by command) (files_of command files))
+one_loading (a_command command) files = one_then _ _ (one_computed _) (one_read (input_files_of command) (files_of command files))
 
 -- the certificate
 one_certified : (query : Query) (tables : List Table) (shape : Shape) (proof : Certificate)
@@ -170,7 +170,7 @@ one_certified query tables shape proof (Err a) (Err b) h k =
     ap Err (h.1 ∙ ap (λ (flaw : ProofFlaw). of_proof (fault_of (problem_of query tables shape.atoms shape.parents) proof flaw)) same
     ∙ sym k.1)
 
-one_verified : (found : Found) → AtMostOne (IsVerified found)
+one_verified : (found : AcceptedInput) → AtMostOne (IsVerified found)
 one_verified found =
     one_then _ _ (one_certified (query_of found) found.tables (structure_of found) found.proof) (λ done. one_computed (Ok found))
 
@@ -194,7 +194,7 @@ Same a b = a ≡ b
 differ_built_none : {A : Type 0} {k : Command} → Same (a_command k) no_command → A
 differ_built_none h = cc
 
-pub usage_verdict : (files : Files) (asked : Asked) (result : Result Found Reason) → asked ≡ no_command → IsVerdict asked files result → result ≡ Err Usage
+pub usage_verdict : (files : Files) (asked : Asked) (result : Result AcceptedInput Reason) → asked ≡ no_command → IsVerdict asked files result → result ≡ Err Usage
 usage_verdict files no_command _ e (refused h) = refused_same h
 usage_verdict files no_command result e (followed h k) = absurd (no_both (sym h))
 usage_verdict files (a_command command) result e v = differ_built_none e

@@ -8,7 +8,7 @@ use Rattle.outer_io.specs.Printing.{GotBeginning, IsBroken, IsPrintCause}
 use Rattle.refusals.specs.PrintRefusals.{refusal_of, refused}
 use Rattle.refusals.specs.RefusalReasons.{reason_of}
 use Rattle.outer_io.specs.SinkState.{SinkState}
-use Rattle.verdict.specs.AcceptedInput.{Found}
+use Rattle.verdict.specs.AcceptedInput.{AcceptedInput}
 use Rattle.verdict.specs.Outcome.{GotAccepted, GotNothing, IsCaused, IsComplete, IsCut, IsCutShort, IsReason, Outside}
 use Rattle.verdict.specs.Output.{HasOutput}
 use Rattle.verdict.specs.Verdict.{IsVerdict}
@@ -16,17 +16,17 @@ use Rattle.verdict.specs.Silence.{IsSilentFor}
 use Rattle.verdict.specs.Words.{Asked, Command, a_command, run, plan, session, load, prove, verify}
 
 -- if the files are known, this is the verdict
-abbrev pub Accepts : Command → Option Files → Found → Type 0
+abbrev pub Accepts : Command → Option Files → AcceptedInput → Type 0
 Accepts command told found = IfSome told (λ files. IsVerdict (a_command command) files (Ok found))
 
 -- the whole output was printed
-pub printed_complete : (command : Command) (told : Option Files) (old new : Outside) (found : Found) (r : Result (Unit {0}) PrintFault) → Accepts command told found
+pub printed_complete : (command : Command) (told : Option Files) (old new : Outside) (found : AcceptedInput) (r : Result (Unit {0}) PrintFault) → Accepts command told found
     → OnOk r ((text : List ℕ) × HasOutput command found text × Appends old.output new.output text) → OnOk (refused r) (IsComplete (a_command command) told old new)
 printed_complete command None old new found (Ok done) accepts whole = tt
 printed_complete command (Some files) old new found (Ok done) accepts (text, is_output, whole) = (found, accepts, text, is_output, whole)
 printed_complete command told old new found (Err e) accepts whole = tt
 
-reason_fits : (command : Command) (told : Option Files) (before now : ℕ) (found : Found) (a : PrintFault) → Accepts command told found → IsPrintCause before now a
+reason_fits : (command : Command) (told : Option Files) (before now : ℕ) (found : AcceptedInput) (a : PrintFault) → Accepts command told found → IsPrintCause before now a
     → IsReason (a_command command) told (reason_of (refusal_of a))
 reason_fits command None before now found fault.Write accepts cause = tt
 reason_fits command (Some files) before now found fault.Write accepts cause = (found, accepts)
@@ -40,7 +40,7 @@ reason_caused asked old new fault.NoMemory cause = tt
 abbrev output_of : Outside → SinkState
 output_of outside = record { written = outside.output; faults = outside.write_faults }
 
-got_accepted : (command : Command) (told : Option Files) (old new : Outside) (found : Found) → Accepts command told found
+got_accepted : (command : Command) (told : Option Files) (old new : Outside) (found : AcceptedInput) → Accepts command told found
     → GotBeginning (HasOutput command found) (output_of old) (output_of new) → GotAccepted (a_command command) told old new
 got_accepted command None old new found accepts got = tt
 got_accepted command (Some files) old new found accepts (text, is_output, prefix) = (found, accepts, text, is_output, prefix)
@@ -55,19 +55,19 @@ short_cut (load number rows) told old new got silent = silent
 short_cut (prove words) told old new got silent = silent
 short_cut (verify proof words) told old new got silent = got
 
-broken_got : (command : Command) (told : Option Files) (old new : Outside) (found : Found) → Accepts command told found
+broken_got : (command : Command) (told : Option Files) (old new : Outside) (found : AcceptedInput) → Accepts command told found
     → IsBroken (HasOutput command found) (output_of old) (output_of new) fault.NoMemory → GotNothing old new ⊎ GotAccepted (a_command command) told old new
 broken_got command told old new found accepts (inl nothing) = inl nothing
 broken_got command told old new found accepts (inr got) = inr (got_accepted command told old new found accepts got)
 
-reason_cut : (command : Command) (told : Option Files) (old new : Outside) (found : Found) (a : PrintFault) → Accepts command told found
+reason_cut : (command : Command) (told : Option Files) (old new : Outside) (found : AcceptedInput) (a : PrintFault) → Accepts command told found
     → IsBroken (HasOutput command found) (output_of old) (output_of new) a → IsSilentFor command (output_of old) (output_of new) (Err a)
     → IsCut (a_command command) told old new (reason_of (refusal_of a))
 reason_cut command told old new found fault.Write accepts got silent = got_accepted command told old new found accepts got
 reason_cut command told old new found fault.NoMemory accepts got silent =
     short_cut command told old new (broken_got command told old new found accepts got) silent
 
-module _ (command : Command) (told : Option Files) (old new : Outside) (found : Found) (accepts : Accepts command told found) where
+module _ (command : Command) (told : Option Files) (old new : Outside) (found : AcceptedInput) (accepts : Accepts command told found) where
   pub printed_fits : (r : Result (Unit {0}) PrintFault) → IfErr r (IsPrintCause old.write_faults new.write_faults)
       → IfErr (refused r) (λ refusal. IsReason (a_command command) told (reason_of refusal))
   printed_fits (Ok done) cause = tt

@@ -5,7 +5,7 @@ use Rattle.outer_io.specs.Files.{Files}
 use Rattle.outer_io.proofs.Counting.{Rose-after}
 use Rattle.refusals.specs.Reason as reason
 use Rattle.refusals.specs.Reason.{Reason}
-use Rattle.verdict.specs.StageResults.{Shelved, Fits, Causes, Pure, Staged, NoTurn, EitherTurn, first_turn, second_turn}
+use Rattle.verdict.specs.StageResults.{Shelved, IsStageOf, Causes, Pure, Staged, NoTurn, EitherTurn, first_turn, second_turn}
 use Rattle.verdict.specs.Loading.{most_bytes}
 use Rattle.verdict.specs.Stages.{Then, refused, followed}
 
@@ -14,7 +14,7 @@ pub wider_fits : {A B : Type 0} (G : Files → Result A Reason → Type 0) (T : 
     (told : Option Files) (e : Reason)
     → ((files : Files) → told ≡ Some files → G files (Err e) → H files (Err e))
     → ((files : Files) (name : List ℕ) → told ≡ Some files → T files name → U files name)
-    → Fits G T told (Err e) → Fits H U told (Err e)
+    → IsStageOf G T told (Err e) → IsStageOf H U told (Err e)
 wider_fits G T H U None reason.NoMemory gives turns h = tt
 wider_fits G T H U None (reason.ReadFault name) gives turns h = tt
 wider_fits G T H U None reason.WriteFault gives turns h = h
@@ -28,8 +28,8 @@ wider_fits G T H U (Some files) e gives turns h = gives files refl h
 
 -- what a stage found fits if the files are known
 found_fits : {A : Type 0} (G : Files → Result A Reason → Type 0) (T : Files → List ℕ → Type 0) (told : Option Files) (a : A)
-    → Fits G T told (Ok a) → (files : Files) → told ≡ Some files → G files (Ok a)
-found_fits G T told a h files e = let P : Option Files → Type 0 = λ t. Fits G T t (Ok a) in subst P e h
+    → IsStageOf G T told (Ok a) → (files : Files) → told ≡ Some files → G files (Ok a)
+found_fits G T told a h files e = let P : Option Files → Type 0 = λ t. IsStageOf G T t (Ok a) in subst P e h
 
 RoseAbove-after : (n a b c : ℕ) → a ≤ b → RoseAbove n b c → RoseAbove n a c
 RoseAbove-after n a b c h (inl more) = inl (omega (arith, h, more))
@@ -69,7 +69,7 @@ pub found_within : {A B : Type 0} (G : Files → Result A Reason → Type 0) (T 
     → ((files : Files) → G files (Ok a) → H files r → K files r) → ((files : Files) (name : List ℕ) → G files (Ok a) → U files name → V files name)
     → Staged G T old mid (Ok a) → Staged H U mid new r → Staged K V old new r
 found_within {A} {B} G T H U K V old mid new a r gives turns s t =
-    let P : Option Files → Type 0 = λ told. Fits H U told r in
+    let P : Option Files → Type 0 = λ told. IsStageOf H U told r in
     record {
       fits = by_result old.files r s.fits (subst P s.files t.fits) gives;
       caused = later_cause old mid new r s.misses s.faults s.taken t.caused;
@@ -79,8 +79,8 @@ found_within {A} {B} G T H U K V old mid new a r gives turns s t =
       taken = let first = s.taken in let second = t.taken in omega (arith, first, second);
     }
   where
-    by_result : (told : Option Files) (r : Result B Reason) → Fits G T told (Ok a) → Fits H U told r
-        → ((files : Files) → G files (Ok a) → H files r → K files r) → Fits K V told r
+    by_result : (told : Option Files) (r : Result B Reason) → IsStageOf G T told (Ok a) → IsStageOf H U told r
+        → ((files : Files) → G files (Ok a) → H files r → K files r) → IsStageOf K V told r
     by_result None (Ok b) g h more = tt
     by_result (Some files) (Ok b) g h more = more files g h
     by_result told (Err e) g h more =
@@ -103,7 +103,7 @@ found_then G T H U old mid new a r =
 
 -- ---- stages that read no file
 
-pure_fits : {A : Type 0} (G : Result A Reason → Type 0) (told : Option Files) (r : Result A Reason) → Pure G r → Fits (λ files. G) NoTurn told r
+pure_fits : {A : Type 0} (G : Result A Reason → Type 0) (told : Option Files) (r : Result A Reason) → Pure G r → IsStageOf (λ files. G) NoTurn told r
 pure_fits G None (Ok a) h = tt
 pure_fits G (Some files) (Ok a) h = h
 pure_fits G told (Err reason.NoMemory) h = tt
@@ -144,7 +144,7 @@ wider_staged {A} G K T V old new r gives turns s = record {
   taken = s.taken;
 }
   where
-    by_result : (told : Option Files) (r : Result A Reason) → Fits G T told r → ((files : Files) → G files r → K files r) → Fits K V told r
+    by_result : (told : Option Files) (r : Result A Reason) → IsStageOf G T told r → ((files : Files) → G files r → K files r) → IsStageOf K V told r
     by_result None (Ok a) h more = tt
     by_result (Some files) (Ok a) h more = more files h
     by_result told (Err e) h more = wider_fits G T K V told e (λ files is k. more files k) (λ files name is k. turns files name k) h

@@ -9,7 +9,7 @@ use Rattle.proof_model.specs.Certificate.{Certificate}
 use Rattle.anyk_model.specs.TaggedRows.{branch_at}
 use Rattle.verdict.specs.Loading.{Loaded}
 
-pub record Found : Type 0 where
+pub record AcceptedInput : Type 0 where
   -- the query of each branch, and one query if there are no branches
   pub queries : List Query
   pub tables : List Table
@@ -27,7 +27,7 @@ abbrev pub queries_in : List BoundQuery → List Query
 queries_in queries = map (λ (q : BoundQuery). q.query) queries
 
 -- what was loaded, with its structure
-abbrev pub found_of : Loaded → List Shape → Found
+abbrev pub found_of : Loaded → List Shape → AcceptedInput
 found_of loaded shapes = record {
   queries = loaded.queries;
   tables = loaded.tables;
@@ -38,12 +38,12 @@ found_of loaded shapes = record {
 }
 
 -- it has several branches
-abbrev pub is_union : Found → Bool
+abbrev pub is_union : AcceptedInput → Bool
 is_union found = nat_lt 1 (length found.queries)
 
 -- the first query, which is the only one if there are no branches, and its structure
-abbrev pub query_of : Found → Query
+abbrev pub query_of : AcceptedInput → Query
 query_of found = branch_at found.queries 0
 
-abbrev pub structure_of : Found → Shape
+abbrev pub structure_of : AcceptedInput → Shape
 structure_of found = get_or found.shapes 0 (record { atoms = []; parents = []; node_rows = [] })

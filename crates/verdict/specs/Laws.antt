@@ -1,6 +1,6 @@
 -- What holds for all inputs.
 use Rattle.outer_io.specs.Files.{Files}
-use Rattle.verdict.specs.AcceptedInput.{Found}
+use Rattle.verdict.specs.AcceptedInput.{AcceptedInput}
 use Rattle.verdict.specs.Output.{HasOutput}
 use Rattle.verdict.specs.Stages.{AtMostOne}
 use Rattle.verdict.specs.Verdict.{IsLoaded, IsVerdict}
@@ -16,4 +16,4 @@ OneVerdict = (asked : Asked) (files : Files) → AtMostOne (IsVerdict asked file
 
 -- an accepted input has at most one output
 abbrev pub OneOutput : Type 0
-OneOutput = (command : Command) (found : Found) → AtMostOne (HasOutput command found)
+OneOutput = (command : Command) (found : AcceptedInput) → AtMostOne (HasOutput command found)

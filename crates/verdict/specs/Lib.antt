@@ -10,7 +10,7 @@ pub mod SessionBound
 pub mod UnionBound
 pub mod Outcome
 pub mod Silence
-pub mod Sides
+pub mod OutsideOf
 pub mod Bound
 pub mod Execution
 pub mod Laws

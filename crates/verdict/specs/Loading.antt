@@ -25,7 +25,7 @@ use Rattle.proof_model.specs.Reading.{proof_of}
 use Rattle.verdict.specs.Faults.{of_parse, of_script, of_proof, of_bind, of_flaw}
 use Rattle.session_script.specs.Script.{unless}
 use Rattle.verdict.specs.Stages.{Then, Is, then_by}
-use Rattle.verdict.specs.Words.{Aside, nothing, script, certificate}
+use Rattle.verdict.specs.Words.{SideFile, nothing, script, certificate}
 
 -- ---- one file
 
@@ -75,7 +75,7 @@ all_items (select ∷ other ∷ selects) = select.items ++ all_items (other ∷ 
 -- ---- the script or the certificate
 
 -- what is read beside the query and the tables
-pub record Beside : Type 0 where
+pub record SideInput : Type 0 where
   -- the steps of the script, and none if there is no script
   pub steps : List Step
   -- the certificate, and the empty one if there is none
@@ -84,10 +84,10 @@ pub record Beside : Type 0 where
 abbrev pub no_certificate : Certificate
 no_certificate = record { bounds = []; answers = []; ended = false }
 
-abbrev pub with_steps : List Step → Beside
+abbrev pub with_steps : List Step → SideInput
 with_steps steps = record { steps = steps; proof = no_certificate }
 
-abbrev pub with_proof : Certificate → Beside
+abbrev pub with_proof : Certificate → SideInput
 with_proof proof = record { steps = []; proof = proof }
 
 abbrev pub told_steps : Result (List Step) ScriptFault → Result (List Step) Reason
@@ -107,7 +107,7 @@ abbrev pub proof_said : List ℕ → Result Certificate Reason
 proof_said bytes = told_proof (proof_of bytes)
 
 -- what the file beside the query and the tables has, if there is one
-abbrev pub beside_in : Files → Aside → Result Beside Reason
+abbrev pub beside_in : Files → SideFile → Result SideInput Reason
 beside_in files nothing = Ok (with_steps [])
 beside_in files (script name) = then_by (then_by (file_in files name) steps_said)
     (λ steps. Ok (with_steps steps))
@@ -263,7 +263,7 @@ pub record Loaded : Type 0 where
 
 -- the queries of one shape, the tables, and the script or the certificate, with the item that is
 -- named
-abbrev pub loaded_in : Option (List ℕ) → List Query → List Table → Beside → Result Loaded Reason
+abbrev pub loaded_in : Option (List ℕ) → List Query → List Table → SideInput → Result Loaded Reason
 loaded_in alias queries tables beside =
     then_by (unless (odd_branch queries) queries)
     (λ queries. then_by (best_in alias queries)

@@ -20,11 +20,11 @@ files_of (verify proof words) given = given
 files_of (load number rows) given = made_files number rows
 
 -- the files that are known to a call: `load` needs to know none, since it makes those that it reads
-abbrev pub known_to : Asked → Option Files → Option Files
-known_to no_command told = told
-known_to (a_command (run words)) told = told
-known_to (a_command (plan words)) told = told
-known_to (a_command (session script words)) told = told
-known_to (a_command (prove words)) told = told
-known_to (a_command (verify proof words)) told = told
-known_to (a_command (load number rows)) told = Some []
+abbrev pub files_of_call : Asked → Option Files → Option Files
+files_of_call no_command told = told
+files_of_call (a_command (run words)) told = told
+files_of_call (a_command (plan words)) told = told
+files_of_call (a_command (session script words)) told = told
+files_of_call (a_command (prove words)) told = told
+files_of_call (a_command (verify proof words)) told = told
+files_of_call (a_command (load number rows)) told = Some []

@@ -9,9 +9,9 @@ use Rattle.query_select.specs.declared.select.Select.{Select}
 use Rattle.rankings.specs.Order.{IsMember}
 use Rattle.refusals.specs.Reason as reason
 use Rattle.refusals.specs.Reason.{Reason, status_of, line_of}
-use Rattle.verdict.specs.Words.{Command, Asked, Sought, no_command, a_command, run, plan, session, load, prove, verify, IsNamedBy, aside_name, sought_by}
-use Rattle.verdict.specs.AcceptedInput.{Found}
-use Rattle.verdict.specs.Loading.{Beside, IsReading, all_items, most_bytes, beside_in, file_in, unknown_table, first_uses, files_read}
+use Rattle.verdict.specs.Words.{Command, Asked, InputFiles, no_command, a_command, run, plan, session, load, prove, verify, IsNamedBy, aside_name, input_files_of}
+use Rattle.verdict.specs.AcceptedInput.{AcceptedInput}
+use Rattle.verdict.specs.Loading.{SideInput, IsReading, all_items, most_bytes, beside_in, file_in, unknown_table, first_uses, files_read}
 use Rattle.verdict.specs.Output.{HasOutput}
 use Rattle.outer_io.specs.SinkText.{GotPrefix}
 use Rattle.verdict.specs.Verdict.{IsVerdict}
@@ -37,14 +37,14 @@ pub record HasLine (old new : Outside) (line : List ℕ) : Type 0 where
 -- if the files are known: the input is accepted, and its complete output was written
 abbrev pub IsComplete : Asked → Option Files → Outside → Outside → Type 0
 IsComplete (a_command command) told old new =
-    IfSome told (λ files. (found : Found) × IsVerdict (a_command command) files (Ok found)
+    IfSome told (λ files. (found : AcceptedInput) × IsVerdict (a_command command) files (Ok found)
     × (text : List ℕ) × HasOutput command found text × Appends old.output new.output text)
 IsComplete asked told old new = ⊥
 
 -- if the files are known: the input is accepted, and the output got a prefix of its complete output
 abbrev pub GotAccepted : Asked → Option Files → Outside → Outside → Type 0
 GotAccepted (a_command command) told old new =
-    IfSome told (λ files. (found : Found) × IsVerdict (a_command command) files (Ok found)
+    IfSome told (λ files. (found : AcceptedInput) × IsVerdict (a_command command) files (Ok found)
     × (text : List ℕ) × HasOutput command found text × GotPrefix old.output new.output text)
 GotAccepted asked told old new = ⊥
 
@@ -56,12 +56,12 @@ GotNothing old new = Appends old.output new.output []
 -- The file is read for this input. It is the file of the query; or of the script or the
 -- certificate, once the query is parsed; or of one of the tables up to the first refusal, once
 -- these are read.
-pub data IsTurnOf (sought : Sought) (files : Files) (name : List ℕ) : Type 0 where
+pub data IsTurnOf (sought : InputFiles) (files : Files) (name : List ℕ) : Type 0 where
   query_turn : name ≡ sought.query → IsTurnOf sought files name
   aside_turn : {bytes : List ℕ} (selects : List Select) → file_in files sought.query ≡ Ok bytes
       → IsReading sought.several bytes (Ok selects)
       → aside_name sought.aside ≡ Some name → IsTurnOf sought files name
-  table_turn : {bytes : List ℕ} (selects : List Select) {beside : Beside}
+  table_turn : {bytes : List ℕ} (selects : List Select) {beside : SideInput}
       → file_in files sought.query ≡ Ok bytes → IsReading sought.several bytes (Ok selects)
       → beside_in files sought.aside ≡ Ok beside
       → unknown_table sought.named (all_items selects) ≡ None
@@ -71,15 +71,15 @@ pub data IsTurnOf (sought : Sought) (files : Files) (name : List ℕ) : Type 0 w
 -- if the files are known, it is a file that the command reads; `load` reads none
 abbrev pub IsCommandTurn : Command → Option Files → List ℕ → Type 0
 IsCommandTurn (run words) told name = IfSome told
-    (λ files. IsTurnOf (sought_by (run words)) files name)
+    (λ files. IsTurnOf (input_files_of (run words)) files name)
 IsCommandTurn (plan words) told name = IfSome told
-    (λ files. IsTurnOf (sought_by (plan words)) files name)
+    (λ files. IsTurnOf (input_files_of (plan words)) files name)
 IsCommandTurn (session script words) told name = IfSome told
-    (λ files. IsTurnOf (sought_by (session script words)) files name)
+    (λ files. IsTurnOf (input_files_of (session script words)) files name)
 IsCommandTurn (prove words) told name = IfSome told
-    (λ files. IsTurnOf (sought_by (prove words)) files name)
+    (λ files. IsTurnOf (input_files_of (prove words)) files name)
 IsCommandTurn (verify proof words) told name = IfSome told
-    (λ files. IsTurnOf (sought_by (verify proof words)) files name)
+    (λ files. IsTurnOf (input_files_of (verify proof words)) files name)
 IsCommandTurn (load number rows) told name = ⊥
 
 abbrev pub IsTurn : Asked → Option Files → List ℕ → Type 0
@@ -92,7 +92,7 @@ abbrev pub IsReason : Asked → Option Files → Reason → Type 0
 IsReason asked told reason.Usage = asked ≡ no_command
 IsReason asked told (reason.ReadFault name) = IsTurn asked told name
 IsReason asked told reason.WriteFault = IfSome told
-    (λ files. (found : Found) × IsVerdict asked files (Ok found))
+    (λ files. (found : AcceptedInput) × IsVerdict asked files (Ok found))
 IsReason asked told reason.NoMemory = Unit {0}
 IsReason asked told refusal = IfSome told (λ files. IsVerdict asked files (Err refusal))
 
@@ -135,7 +135,7 @@ pub record Ended (asked : Asked) (told : Option Files) (old new : Outside)
 -- if the input is accepted and nothing failed, the call is done, or memory ran out
 abbrev pub IsDoneWhereAccepted : Asked → Option Files → Outside → Outside → ℕ → Type 0
 IsDoneWhereAccepted asked told old new status = IfSome told
-    (λ files. (found : Found) → IsVerdict asked files (Ok found)
+    (λ files. (found : AcceptedInput) → IsVerdict asked files (Ok found)
     → (Rose old.read_faults new.read_faults → ⊥) → (Rose old.write_faults new.write_faults → ⊥)
     → (status ≡ 0) ⊎ (status ≡ 12))
 

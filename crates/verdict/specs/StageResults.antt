@@ -26,13 +26,13 @@ shelved counts shelf =
 
 -- if the files are known: the result is the stage's, or, if a read failed, the file is one that the
 -- stage reads
-abbrev pub Fits : {A : Type 0} → (Files → Result A Reason → Type 0) → (Files → List ℕ → Type 0)
+abbrev pub IsStageOf : {A : Type 0} → (Files → Result A Reason → Type 0) → (Files → List ℕ → Type 0)
     → Option Files → Result A Reason → Type 0
-Fits Gives Turn told (Err reason.NoMemory) = Unit {0}
-Fits Gives Turn told (Err (reason.ReadFault name)) = IfSome told (λ files. Turn files name)
-Fits Gives Turn told (Err reason.WriteFault) = ⊥
-Fits Gives Turn told (Err reason.Usage) = ⊥
-Fits Gives Turn told result = IfSome told (λ files. Gives files result)
+IsStageOf Gives Turn told (Err reason.NoMemory) = Unit {0}
+IsStageOf Gives Turn told (Err (reason.ReadFault name)) = IfSome told (λ files. Turn files name)
+IsStageOf Gives Turn told (Err reason.WriteFault) = ⊥
+IsStageOf Gives Turn told (Err reason.Usage) = ⊥
+IsStageOf Gives Turn told result = IfSome told (λ files. Gives files result)
 
 -- a reason about the shelf is given only if its count rose: for a file that is too large, more
 -- bytes were read than a file may have
@@ -44,7 +44,7 @@ Causes old new result = Unit {0}
 
 pub record Staged {A : Type 0} (Gives : Files → Result A Reason → Type 0)
     (Turn : Files → List ℕ → Type 0) (old new : Shelved) (result : Result A Reason) : Type 0 where
-  pub fits : Fits Gives Turn old.files result
+  pub fits : IsStageOf Gives Turn old.files result
   pub caused : Causes old new result
   pub files : new.files ≡ old.files
   pub misses : old.misses ≤ new.misses

@@ -31,25 +31,25 @@ Named = List (List ℕ × List ℕ)
 
 -- the file that a command reads beside its query and its tables: none, that of a script, or that of
 -- a certificate
-pub data Aside : Type 0 where
-  nothing : Aside
-  script : List ℕ → Aside
-  certificate : List ℕ → Aside
+pub data SideFile : Type 0 where
+  nothing : SideFile
+  script : List ℕ → SideFile
+  certificate : List ℕ → SideFile
 
 -- its name, if there is one
-abbrev pub aside_name : Aside → Option (List ℕ)
+abbrev pub aside_name : SideFile → Option (List ℕ)
 aside_name nothing = None
 aside_name (script name) = Some name
 aside_name (certificate name) = Some name
 
 -- what a command reads
-pub record Sought : Type 0 where
+pub record InputFiles : Type 0 where
   -- the file of its query
   pub query : List ℕ
   -- whether the query may have several branches
   pub several : Bool
   -- the file of its script or of its certificate, if it has one
-  pub aside : Aside
+  pub aside : SideFile
   -- the files of the tables
   pub named : Named
   -- the alias of the item of which each row's best answer is asked for, if there is one
@@ -57,17 +57,17 @@ pub record Sought : Type 0 where
 
 -- Only `run` may have several branches, and only `run` and `session` an item. `load` reads the
 -- files that it makes.
-abbrev pub sought_by : Command → Sought
-sought_by (run words) = record {
+abbrev pub input_files_of : Command → InputFiles
+input_files_of (run words) = record {
   query = words.query;
   several = true;
   aside = nothing;
   named = words.tables;
   best_of = words.best_of;
 }
-sought_by (plan words) = record
+input_files_of (plan words) = record
     { query = words.query; several = false; aside = nothing; named = words.tables; best_of = None }
-sought_by (session name words) =
+input_files_of (session name words) =
     record {
       query = words.query;
       several = false;
@@ -75,11 +75,11 @@ sought_by (session name words) =
       named = words.tables;
       best_of = words.best_of;
     }
-sought_by (load number rows) = record
+input_files_of (load number rows) = record
     { query = query_file; several = false; aside = nothing; named = table_files; best_of = None }
-sought_by (prove words) = record
+input_files_of (prove words) = record
     { query = words.query; several = false; aside = nothing; named = words.tables; best_of = None }
-sought_by (verify name words) =
+input_files_of (verify name words) =
     record {
       query = words.query;
       several = false;
@@ -100,7 +100,7 @@ abbrev pub table_file_names : Named → List (List ℕ)
 table_file_names named = map (λ (table : List ℕ × List ℕ). table.1) named
 
 -- the file is that of the query, of the script or the certificate, or of one of the tables
-pub data IsNamed (sought : Sought) (name : List ℕ) : Type 0 where
+pub data IsNamed (sought : InputFiles) (name : List ℕ) : Type 0 where
   names_query : name ≡ sought.query → IsNamed sought name
   names_aside : aside_name sought.aside ≡ Some name → IsNamed sought name
   names_table : IsMember name (table_file_names sought.named) → IsNamed sought name
@@ -109,4 +109,4 @@ pub data IsNamed (sought : Sought) (name : List ℕ) : Type 0 where
 abbrev pub IsNamedBy : Asked → List ℕ → Type 0
 IsNamedBy no_command name = ⊥
 IsNamedBy (a_command (load number rows)) name = ⊥
-IsNamedBy (a_command command) name = IsNamed (sought_by command) name
+IsNamedBy (a_command command) name = IsNamed (input_files_of command) name

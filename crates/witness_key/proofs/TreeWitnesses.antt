@@ -10,7 +10,7 @@ use Rattle.anyk_model.specs.Table.{Table}
 use Rattle.anyk_model.specs.Query.{Column, IsCombination, IsWitness, Query, row_counts}
 use Rattle.bound_query.specs.Classes.{Agree, AreVariables, HasVariable, Passes, row_field, variable_at}
 use Rattle.bound_query.specs.Graph.{IsGraphOf}
-use Rattle.bound_query.specs.Inside.{IsWithin}
+use Rattle.bound_query.specs.NamedPlaces.{NamesExist}
 use Rattle.bound_query.proofs.Least.{at_member, least_iff, shared_along}
 use Rattle.bound_query.proofs.Witness.{linked_append, linked_back, witness_iff}
 use Rattle.witness_key.specs.WitnessKey.{witness_key}
@@ -55,7 +55,7 @@ module _ (query : Query) (tables : List Table) (graph : Hypergraph) (atoms paren
       }
 
   -- the keys of the nodes' rows add up
-  pub nodes_add : (rows : List ℕ) (d : ℕ) → IsWithin query tables → length rows ≡ length query.items
+  pub nodes_add : (rows : List ℕ) (d : ℕ) → NamesExist query tables → length rows ≡ length query.items
       → sum_from (key_add d 16) (key_none d 16) (λ q. item_key d query tables rows (slice_index atoms q)) (length atoms) 0
       ≡ witness_key d query tables rows
   nodes_add rows d within count =
@@ -124,7 +124,7 @@ module _ (query : Query) (tables : List Table) (graph : Hypergraph) (atoms paren
           subst (λ y. AgreeAtLeast i y) v.2 first number p q a b
 
       -- rows that pass are then a witness
-      pub links_witness : IsWithin query tables → IsCombination (row_counts query.items tables) rows
+      pub links_witness : NamesExist query tables → IsCombination (row_counts query.items tables) rows
           → ((i : ℕ) → i < length query.items → Passes query tables i (slice_index rows i))
           → IsWitness query tables rows
       links_witness within combination passes =
@@ -134,7 +134,7 @@ module _ (query : Query) (tables : List Table) (graph : Hypergraph) (atoms paren
           )
 
   -- a combination is a witness exactly if its rows pass, and agree along each link
-  pub links_iff : (rows : List ℕ) → IsWithin query tables → IsWitness query tables rows
+  pub links_iff : (rows : List ℕ) → NamesExist query tables → IsWitness query tables rows
       ↔ (IsCombination (row_counts query.items tables) rows
       × ((i : ℕ) → i < length query.items → Passes query tables i (slice_index rows i))
       × AgreeAlongLinks query tables atoms parents rows)

@@ -7,7 +7,7 @@ use Rattle.std.proofs.lemmas.Int.{ints}
 use Rattle.std.proofs.lemmas.List.{get_or-map, get_or-replicate, get_or-set_other, get_or_past, length-map}
 use Rattle.anyk_model.specs.Table.{Table}
 use Rattle.anyk_model.specs.Query.{OrderKey, Query, rank_of, total}
-use Rattle.bound_query.specs.Inside.{IsWithin, KeyInside}
+use Rattle.bound_query.specs.NamedPlaces.{NamesExist, KeyInside}
 use Rattle.bound_query.specs.Weights.{key_at, part_of}
 use Rattle.bound_query.proofs.Parts.{parts_add}
 use Rattle.bound_query.proofs.Lists.{all_at}
@@ -59,7 +59,7 @@ at_if b row = elim b as (λ b. pos (cond b row 0) ≡ cond b (pos row +ℤ pos 0
 pos_same : (a b : ℕ) → pos a ≡ pos b → a ≡ b
 pos_same a b e = omega (arith, ints)
 
-module _ (query : Query) (tables : List Table) (within : IsWithin query tables) (d : ℕ) (item : ℕ → ℕ) (rows : List ℕ) (f : ℕ → KeyOf d 16)
+module _ (query : Query) (tables : List Table) (within : NamesExist query tables) (d : ℕ) (item : ℕ → ℕ) (rows : List ℕ) (f : ℕ → KeyOf d 16)
     (few : length query.items ≤ 16) (order : IsOrderOf (length query.items) item) (same : length rows ≡ length query.items)
     (each : (v : ℕ) → v < length query.items → f v ≡ row_key d (map (part_of tables query.items (item v) (slice_index rows (item v))) query.order) (item v) (slice_index rows (item v))) where
   abbrev n : ℕ

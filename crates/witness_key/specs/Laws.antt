@@ -9,7 +9,7 @@ use Rattle.anyk_model.specs.Table.{Table}
 use Rattle.anyk_model.specs.Query.{IsCombination, IsWitness, Query, row_counts}
 use Rattle.bound_query.specs.Classes.{Agree, Passes}
 use Rattle.bound_query.specs.Graph.{IsGraphOf}
-use Rattle.bound_query.specs.Inside.{IsWithin}
+use Rattle.bound_query.specs.NamedPlaces.{NamesExist}
 use Rattle.bound_query.specs.Weights.{part_of}
 use Rattle.witness_key.specs.WitnessKey.{witness_key}
 
@@ -23,7 +23,7 @@ AgreeAlongLinks query tables atoms parents rows =
 abbrev pub LinksMakeWitnesses : Type 0
 LinksMakeWitnesses =
     (query : Query) (tables : List Table) (graph : Hypergraph) (atoms parents rows : List ℕ)
-    → IsWithin query tables → IsGraphOf query graph → IsJoinTree graph atoms parents
+    → NamesExist query tables → IsGraphOf query graph → IsJoinTree graph atoms parents
     → IsWitness query tables rows
     ↔ (IsCombination (row_counts query.items tables) rows
     × ((i : ℕ) → i < length query.items → Passes query tables i (slice_index rows i))
@@ -39,7 +39,7 @@ item_key d query tables rows i =
 abbrev pub KeysAddUp : Type 0
 KeysAddUp =
     (query : Query) (tables : List Table) (graph : Hypergraph) (atoms parents rows : List ℕ) (d : ℕ)
-    → IsWithin query tables → IsGraphOf query graph → IsJoinTree graph atoms parents
+    → NamesExist query tables → IsGraphOf query graph → IsJoinTree graph atoms parents
     → length rows ≡ length query.items
     → sum_from (key_add d 16) (key_none d 16)
     (λ q. item_key d query tables rows (slice_index atoms q)) (length atoms) 0

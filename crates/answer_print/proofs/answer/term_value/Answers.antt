@@ -5,7 +5,7 @@ use Rattle.std.proofs.lemmas.Int.{to_z-of_z}
 use Rattle.anyk_model.specs.Table.{Table, field_at, table_at}
 use Rattle.anyk_model.specs.Weight.{weight_of}
 use Rattle.anyk_model.specs.Query.{Query, value_of}
-use Rattle.bound_query.specs.Inside.{HasTable}
+use Rattle.bound_query.specs.NamedPlaces.{HasTable}
 use Rattle.bound_query.specs.Items.{item_at}
 use Rattle.bound_query.specs.StoredParts.{column_view, term_view}
 use Rattle.bound_query.proofs.Lists.{all_at}

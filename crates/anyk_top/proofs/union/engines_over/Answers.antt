@@ -1,6 +1,6 @@
 use Rattle.std.proofs.Common.{◌≡◌, length, length-take, take, arith}
 use Rattle.std.proofs.lemmas.Slice.Zip.{AllZip-long}
-use Rattle.anyk_top.specs.Begun.{IsStarted}
+use Rattle.anyk_top.specs.StartedEngines.{IsStarted}
 use Rattle.anyk_top.proofs.UnionRun.{all_spent, all_started, none_started, some_spent, started_more}
 use Rattle.std.proofs.lemmas.Result.{IfOk-from_err}
 use Rattle.anyk_top.proofs.union.engines_over.Given.{Over}

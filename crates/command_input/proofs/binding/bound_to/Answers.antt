@@ -5,10 +5,10 @@ use Rattle.verdict.specs.AcceptedInput.{queries_in}
 use Rattle.verdict.specs.Loading.{bound_in, loaded_in}
 use Rattle.verdict.specs.Stages.{Is, followed}
 use Rattle.verdict.proofs.Staging.{pure_found, pure_refused}
-use Rattle.command_input.specs.Sought.{sought_view}
+use Rattle.command_input.specs.InputFiles.{sought_view}
 use Rattle.verdict.specs.StageResults.{Pure}
-use Rattle.verdict.specs.Verdict.{IsBound}
-use Rattle.command_input.specs.Wholes.{bound_result_view}
+use Rattle.verdict.specs.Verdict.{IsBoundInput}
+use Rattle.command_input.specs.BoundInputs.{bound_result_view}
 use Rattle.command_input.proofs.Handing.{handed_with}
 use Rattle.command_input.proofs.Best.{found_shaped, item_found, item_refused}
 use Rattle.command_input.proofs.Shapes.{keys_none_odd}
@@ -19,7 +19,7 @@ returns-in_err-queries c = record {
   bound =
       λ beside.
       let sought = sought_view c.args.sought.now in
-      handed_with (λ r. Pure (IsBound sought c.args.selects.now c.args.tables beside) (bound_result_view beside r)) c.from_residual.result c.in_err-queries.field-0.0 c.from_residual.ensures.1
+      handed_with (λ r. Pure (IsBoundInput sought c.args.selects.now c.args.tables beside) (bound_result_view beside r)) c.from_residual.result c.in_err-queries.field-0.0 c.from_residual.ensures.1
       (pure_refused (Is (bound_in c.args.selects.now c.args.tables)) (λ queries. Is (loaded_in sought.best_of queries c.args.tables beside)) _ c.in_err-queries.ensures.bound);
   whole = IfOk-from_err c.from_residual.result _ c.from_residual.ensures.0;
   branches = IfOk-from_err c.from_residual.result _ c.from_residual.ensures.0;
@@ -33,7 +33,7 @@ returns-in_err-best c = record {
       let sought = sought_view c.args.sought.now in
       let queries = queries_in c.in_ok-queries.queries.items in
       let reason = reason_of c.in_err-best.field-0.0 in
-      handed_with (λ r. Pure (IsBound sought c.args.selects.now c.args.tables beside) (bound_result_view beside r)) c.from_residual-in_err-best.result c.in_err-best.field-0.0 c.from_residual-in_err-best.ensures.1
+      handed_with (λ r. Pure (IsBoundInput sought c.args.selects.now c.args.tables beside) (bound_result_view beside r)) c.from_residual-in_err-best.result c.in_err-best.field-0.0 c.from_residual-in_err-best.ensures.1
       (pure_found (Is (bound_in c.args.selects.now c.args.tables)) (λ queries. Is (loaded_in sought.best_of queries c.args.tables beside)) queries (Err reason) c.in_ok-queries.ensures.bound
       (item_refused queries c.args.tables beside sought.best_of reason (rw c.deref.ensures.value at c.in_err-best.ensures.best)));
   whole = IfOk-from_err c.from_residual-in_err-best.result _ c.from_residual-in_err-best.ensures.0;

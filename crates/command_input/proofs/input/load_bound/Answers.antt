@@ -8,11 +8,11 @@ use Rattle.verdict.specs.Loading.{all_items, unknown_table, with_steps}
 use Rattle.verdict.specs.Stages.{Is}
 use Rattle.session_script.specs.Script.{unless}
 use Rattle.verdict.specs.Words.{IsNamed, names_table, table_file_names}
-use Rattle.command_input.specs.Sought.{sought_view}
+use Rattle.command_input.specs.InputFiles.{sought_view}
 use Rattle.verdict.specs.StageResults.{Staged, TellsOne, shelved}
-use Rattle.verdict.specs.Verdict.{IsBound, IsSelected}
-use Rattle.command_input.specs.Turns.{IsSelectedTurn}
-use Rattle.command_input.specs.Wholes.{bound_result_view}
+use Rattle.verdict.specs.Verdict.{IsBoundInput, IsSelected}
+use Rattle.command_input.specs.FilesRead.{IsSelectedTurn}
+use Rattle.command_input.specs.BoundInputs.{bound_result_view}
 use Rattle.command_input.proofs.Handing.{handed_with}
 use Rattle.command_input.proofs.FirstUses.{few_firsts, numbers_known}
 use Rattle.command_input.proofs.Telling.{bound_tells, pure_tells, wider_told}
@@ -77,7 +77,7 @@ returns g c = record {
       let used = c.in_ok-uses.ensures.used in
       let read = (rw c.deref.ensures.value at c.in_ok-tables.ensures.staged) sought.named used.entries in
       tables_read sought c.args.selects.now beside _ _ c.in_ok-tables.tables _ c.in_ok-uses.ensures.known (rw used.tables at read) (c.bound_to.ensures.bound beside);
-  tells = bound_tells (IsNamed (sought_view c.args.sought.now)) (IsBound (sought_view c.args.sought.now) c.args.selects.now c.in_ok-tables.tables (with_steps [])) (with_steps []) c.bound_to.result (c.bound_to.ensures.bound (with_steps []));
+  tells = bound_tells (IsNamed (sought_view c.args.sought.now)) (IsBoundInput (sought_view c.args.sought.now) c.args.selects.now c.in_ok-tables.tables (with_steps [])) (with_steps []) c.bound_to.result (c.bound_to.ensures.bound (with_steps []));
   whole = c.bound_to.ensures.whole;
   branches = c.bound_to.ensures.branches;
   unnamed = c.bound_to.ensures.unnamed;

@@ -2,11 +2,11 @@ use Rattle.std.proofs.Common.{◌≡◌, ℕ, List, Some, Err, IfErr}
 use Rattle.std.proofs.lemmas.Result.{IfOk-from_err}
 use Rattle.refusals.specs.RefusalReasons.{reason_of}
 use Rattle.command_input.specs.StageViews.{beside_view, input_result_view}
-use Rattle.command_input.specs.Sought.{sought_view}
+use Rattle.command_input.specs.InputFiles.{sought_view}
 use Rattle.verdict.specs.StageResults.{Staged, TellsOne, shelved}
 use Rattle.verdict.specs.Verdict.{IsAccompanied}
 use Rattle.verdict.specs.Words.{IsNamed, aside_name, names_aside}
-use Rattle.command_input.specs.Turns.{IsAccompaniedTurn}
+use Rattle.command_input.specs.FilesRead.{IsAccompaniedTurn}
 use Rattle.command_input.proofs.Handing.{handed_with}
 use Rattle.command_input.proofs.Selected.{beside_read, beside_refused}
 use Rattle.command_input.proofs.Telling.{wider_told}
@@ -15,7 +15,7 @@ use Rattle.command_input.proofs.input.select_input.Goals as goal
 pub returns-in_err-beside : goal.returns-in_err-beside
 returns-in_err-beside g c = record {
   staged =
-      handed_with (λ r. Staged (λ files. IsAccompanied (sought_view c.args.sought.now) files c.args.selects.now) (λ files. IsAccompaniedTurn (sought_view c.args.sought.now) files c.args.selects.now) (shelved g.F.Shelf c.args.shelf.now) (shelved g.F.Shelf c.load_beside.new.shelf) (input_result_view r)) c.from_residual.result c.in_err-beside.field-0.0 c.from_residual.ensures.1
+      handed_with (λ r. Staged (λ files. IsAccompanied (sought_view c.args.sought.now) files c.args.selects.now) (λ files. IsAccompaniedTurn (sought_view c.args.sought.now) files c.args.selects.now) (shelved g.F.Shelf c.args.shelf.now) (shelved g.F.Shelf c.read_side_input.new.shelf) (input_result_view r)) c.from_residual.result c.in_err-beside.field-0.0 c.from_residual.ensures.1
       (beside_refused (sought_view c.args.sought.now) c.args.selects.now _ _ _ c.in_err-beside.ensures.staged);
   tells =
       let sought = sought_view c.args.sought.now in

@@ -8,7 +8,7 @@ use Rattle.output_model.specs.Session.{no_cursors, session_text}
 use Rattle.output_model.specs.SessionCalls.{calls_of_steps, ends_by_itself, reach_of_steps}
 use Rattle.output_model.specs.SessionPieces.{pieces_in}
 use Rattle.cursor_set.specs.CursorSet.{CursorSet, seen_of}
-use Rattle.command_output.specs.SessionCosts.{IsWithin, engine_steps}
+use Rattle.command_output.specs.SessionCosts.{KeepsSessionCost, engine_steps}
 use Rattle.answer_print.specs.StyleView.{style_view}
 use Rattle.command_output.proofs.SessionCosts.{new_steps, within_new}
 use Rattle.command_output.proofs.session.print_session.Goals as goal
@@ -31,7 +31,7 @@ returns g c =
       bounded =
           within_new g.E.Ranked.share g.met.E.Ranked.share_rises c.new-set.result (g.E.Ranked.size c.args.engine) (g.E.Ranked.calls c.args.engine) (reach rest) (calls rest) c.args.steps.now
           c.print_steps.new.steps (ap (λ (s : CursorSet). s.size) is) (ap (λ (s : CursorSet). s.calls) is) (ap seen_of is)
-          (subst (λ (l : List AnswerView). IsWithin g.E.Ranked.share c.new-set.result (reach l) (calls l) c.args.steps.now c.print_steps.new.steps) told c.print_steps.ensures.within);
+          (subst (λ (l : List AnswerView). KeepsSessionCost g.E.Ranked.share c.new-set.result (reach l) (calls l) c.args.steps.now c.print_steps.new.steps) told c.print_steps.ensures.within);
       prompt = λ start part is_old is_new.
           let whole : List AnswerView → ℕ = λ (l : List AnswerView). pieces_in query c.args.tables.now (style_view c.args.style.now) (cut query.limit (all l)) script part in
           new_steps g.E.Ranked.share g.met.E.Ranked.share_rises c.new-set.result (g.E.Ranked.size c.args.engine) (g.E.Ranked.calls c.args.engine) (whole rest + 1) (whole rest + 1)

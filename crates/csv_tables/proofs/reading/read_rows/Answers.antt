@@ -2,7 +2,7 @@ use Rattle.std.proofs.Common.{◌≡◌, ◌∙◌, ◌∷◌, [], Global, Vec, 
 use Rattle.std.proofs.lemmas.List.{length-map}
 use Rattle.std.specs.Result.{result_and}
 use Rattle.anyk_model.specs.Table.{rows_flaw, table_of}
-use Rattle.csv_tables.specs.Faults.{Tells}
+use Rattle.csv_tables.specs.Faults.{IsTableFault}
 use Rattle.table_store.specs.Values.{lists_of}
 use Rattle.csv_tables.proofs.reading.read_rows.Goals as goal
 
@@ -35,5 +35,5 @@ returns c =
       sound = handed c.and.result c.add_rows-read.result c.add_rows-read.new.table (λ _. rows_flaw (length names) 1 records ≡ None) e (subst (λ f. OnOk c.add_rows-read.result (f ≡ None)) flaw made.sound);
       table = handed c.and.result c.add_rows-read.result c.add_rows-read.new.table (λ t. t ≡ table_of (names ∷ records)) e
           (subst (λ t. OnOk c.add_rows-read.result (c.add_rows-read.new.table ≡ table_of (t.names ∷ records))) c.new-table.ensures made.table);
-      fault = handed_err c.and.result c.add_rows-read.result c.add_rows-read.new.table (Tells (rows_flaw (length names) 1 records)) e (subst (λ f. IfErr c.add_rows-read.result (Tells f)) flaw made.fault);
+      fault = handed_err c.and.result c.add_rows-read.result c.add_rows-read.new.table (IsTableFault (rows_flaw (length names) 1 records)) e (subst (λ f. IfErr c.add_rows-read.result (IsTableFault f)) flaw made.fault);
     }

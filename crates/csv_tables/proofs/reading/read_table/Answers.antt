@@ -2,7 +2,7 @@ use Rattle.std.proofs.Common.{◌≡◌, ◌∙◌, ap, sym, subst, IfErr, IfOk,
 use Rattle.std.proofs.lemmas.Result.{IfOk-from_err}
 use Rattle.std.specs.Option.{option_or}
 use Rattle.anyk_model.specs.Table.{flaw_of, rows_flaw, table_of}
-use Rattle.csv_tables.specs.Faults.{Tells}
+use Rattle.csv_tables.specs.Faults.{IsTableFault}
 use Rattle.table_store.specs.Values.{lists_of}
 use Rattle.csv_tables.proofs.Refusals.{none_on_ok, same_tells}
 use Rattle.csv_tables.proofs.reading.read_table.Goals as goal
@@ -29,5 +29,5 @@ returns c =
     record {
       sound = subst (λ f. OnOk r (f ≡ None)) (sym flaw) read.sound;
       table = subst (λ l. IfOk r (λ t. t ≡ table_of l)) (sym split) read.table;
-      fault = subst (λ f. IfErr r (Tells f)) (sym flaw) read.fault;
+      fault = subst (λ f. IfErr r (IsTableFault f)) (sym flaw) read.fault;
     }

@@ -1,7 +1,7 @@
 use Rattle.std.proofs.Common.{◌<◌, length, sym, subst, arith}
 use Rattle.anyk_model.specs.Query.{Item, row_counts}
 use Rattle.anyk_model.specs.Table.{table_at}
-use Rattle.bound_query.specs.Inside.{HasTable}
+use Rattle.bound_query.specs.NamedPlaces.{HasTable}
 use Rattle.bound_query.proofs.Lists.{all_at}
 use Rattle.plan_build.proofs.Sizes.{row_count_at, sum_one_more}
 use Rattle.std.proofs.lemmas.List.{length-map}

@@ -1,6 +1,6 @@
 use Rattle.std.proofs.Common.{◌≡◌, ◌≤◌, ◌*◌, take}
 use Rattle.anyk_model.specs.Query.{row_counts}
-use Rattle.bound_query.specs.Parts.{sum_of_all}
+use Rattle.bound_query.specs.KeyParts.{sum_of_all}
 use Rattle.plan_build.proofs.plan.rows_of_tables.Given as goal
 
 abbrev pub invariant-loop-item : goal.invariant-loop-item

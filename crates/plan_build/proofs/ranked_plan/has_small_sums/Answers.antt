@@ -1,6 +1,6 @@
 use Rattle.std.proofs.Common.{◌≡◌, ◌<◌, ◌≤◌, ◌+◌, ◌^◌, ℕ, true, nat_lt, length, refl, ap, ◌∙◌, arith}
 use Rattle.std.proofs.lemmas.Bool.{lt-ltb}
-use Rattle.bound_query.specs.Parts.{sum_of_all}
+use Rattle.bound_query.specs.KeyParts.{sum_of_all}
 use Rattle.std.proofs.lemmas.List.{take_all}
 use Rattle.plan_build.proofs.SmallSums.{caps_count, caps_decide, caps_more, first_fit, first_caps, none_below}
 use Rattle.plan_build.proofs.ranked_plan.has_small_sums.Goals as goal

@@ -1,6 +1,6 @@
 use Rattle.std.proofs.Common.{◌≡◌, List, take}
 use Rattle.anyk_model.specs.Table.{Table}
-use Rattle.bound_query.specs.Parts.{sum_of_all}
+use Rattle.bound_query.specs.KeyParts.{sum_of_all}
 use Rattle.bound_query.specs.WeighedQuery.{Fits}
 use Rattle.plan_build.proofs.SmallSums.{first_caps}
 use Rattle.plan_build.proofs.ranked_plan.has_small_sums.Given as goal

@@ -13,7 +13,7 @@ use Rattle.proof_model.specs.Certificate.{AnswerLine, Certificate}
 use Rattle.proof_model.specs.ProofView.{listed_view, proof_view}
 use Rattle.proof_model.specs.Faults.{TellsFlaw}
 use Rattle.proof_model.specs.QueryProblem.{problem_in}
-use Rattle.proof_model.specs.Valid.{IsFirst, IsValid, missed}
+use Rattle.proof_model.specs.Valid.{IsFirstFlaw, IsValid, missed}
 use Rattle.proof_check.specs.Choices.{IsMissed, TellsMissed}
 use Rattle.proof_check.specs.RowLists.{item_rows, list_at}
 use Rattle.proof_check.proofs.Counts.{at_list}
@@ -24,7 +24,7 @@ use Rattle.proof_check.proofs.checking.verify.Goals as goal
 
 -- a missed answer is told as the first flaw
 told_first : (query : Query) (tables : List Table) (join : JoinTree) (c : Certificate) (shape : Shape)
-    → IsShape query tables (Ok shape) → (IsMissed query tables join c → IsFirst (problem_in query tables join) c query.limit missed)
+    → IsShape query tables (Ok shape) → (IsMissed query tables join c → IsFirstFlaw (problem_in query tables join) c query.limit missed)
     → (told : ProofFault) → TellsMissed query tables join c told → TellsFlaw query tables join c told
 told_first query tables join c shape is first told (inl e) = subst (TellsFlaw query tables join c) (sym e) tt
 told_first query tables join c shape is first told (inr e) =

@@ -1,7 +1,7 @@
 use Rattle.std.proofs.Common.{ℕ, ◌<◌}
 use Rattle.proof_model.specs.QueryProblem.{problem_in}
 use Rattle.proof_check.specs.Coverage.{AllCovered}
-use Rattle.proof_check.specs.Lows.{OfEach}
+use Rattle.proof_check.specs.LowBounds.{OfEach}
 use Rattle.proof_check.proofs.covering.first_weak.Given as goal
 
 abbrev pub invariant-loop-node : goal.invariant-loop-node

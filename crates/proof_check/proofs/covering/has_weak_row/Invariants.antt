@@ -2,7 +2,7 @@ use Rattle.std.proofs.Common.{ℕ, ◌<◌}
 use Rattle.tdp_core.specs.RawView.{raw_number}
 use Rattle.proof_model.specs.QueryProblem.{problem_in}
 use Rattle.proof_model.specs.Valid.{IsCovered}
-use Rattle.proof_check.specs.Lows.{OfEach}
+use Rattle.proof_check.specs.LowBounds.{OfEach}
 use Rattle.proof_check.proofs.covering.has_weak_row.Given as goal
 
 abbrev pub invariant-loop-row : goal.invariant-loop-row

@@ -7,7 +7,7 @@ use Rattle.rank_key.specs.Keys.{KeyFits}
 use Rattle.tdp_core.specs.RawView.{IsRawFormed, raw_len, raw_number, raw_rank}
 use Rattle.proof_model.specs.QueryProblem.{problem_in}
 use Rattle.proof_check.specs.BoundedRows.{named_bound, rank_of_bound}
-use Rattle.proof_check.specs.Lows.{IsLow}
+use Rattle.proof_check.specs.LowBounds.{IsLow}
 use Rattle.proof_check.proofs.LowKeys.{low_none, low_some}
 use Rattle.proof_check.proofs.LowParts.{AreNamed, low_part, part_none, part_child, part_other}
 use Rattle.proof_check.proofs.LowParts.{named_found, named_more, low_fits}

@@ -4,7 +4,7 @@ use Rattle.std.specs.Str.Lines.{lines}
 use Rattle.std.proofs.lemmas.Result.{err_from_is_err_and}
 use Rattle.proof_model.specs.declared.fault.ProofFault.{ProofFault}
 use Rattle.proof_model.specs.Certificate.{Certificate}
-use Rattle.proof_model.specs.Reading.{Lines, Fails, read_from}
+use Rattle.proof_model.specs.Reading.{Lines, IsProofFault, read_from}
 use Rattle.proof_model.specs.ProofView.{lines_of, proof_view}
 use Rattle.proof_model.proofs.Turns.{turn, no_turn, fails_so}
 use Rattle.proof_model.proofs.reading.read_lines.Goals as goal
@@ -28,7 +28,7 @@ returns-then-branch c =
     (lines c.lines.rest.now) c.in-Some.text.now more c.in-Some.ensures.value in
     let last = rw (c.if-branch.true) at (c.in_ok-put_line.ensures more later) in
     subst (λ (all : Result Certificate ProofFault). MatchResult c.finished.result
-    (λ proof. all ≡ Ok (proof_view proof)) (λ e. Fails all e))
+    (λ proof. all ≡ Ok (proof_view proof)) (λ e. IsProofFault all e))
     (sym last ∙ sym turned ∙ c.lines.invariant) c.finished.ensures
 
 pub lines-preserved : goal.lines-preserved

@@ -7,7 +7,7 @@ use Rattle.anyk_model.specs.Table.{Table}
 use Rattle.bound_query.specs.WeighedQuery.{BoundQuery, Fits}
 use Rattle.query_select.specs.declared.select.Select.{Select}
 use Rattle.query_select.specs.TextOrder.{AreInTextOrder, columns_of}
-use Rattle.query_bind.specs.Answers.{Tells}
+use Rattle.query_bind.specs.Answers.{IsBindFault}
 use Rattle.query_bind.specs.Bind.{bind_fault, HasBinding}
 use Rattle.query_bind.specs.Binding.{bound_query}
 use Rattle.query_bind.specs.Names.{items_of, names_fault}
@@ -24,7 +24,7 @@ record Says (select : Select) (tables : List Table) (which : List ℕ) (r : Resu
   query : IfOk r (λ q. q.query ≡ bound_query select tables which)
   fits : IfOk r (λ q. Fits q tables)
   sound : OnOk r (bind_fault select tables which ≡ None)
-  fault : IfErr r (Tells (bind_fault select tables which))
+  fault : IfErr r (IsBindFault (bind_fault select tables which))
   first : IfErr r (λ e. IsReferenceFault e → AreInTextOrder (columns_of select) → IsFirstFailing tables (items_of select.items which) (columns_of select) e)
 
 says : (select : Select) (tables : List Table) (which : List ℕ) (r : Result BoundQuery BindFault) → HasBinding select tables which r → Says select tables which r
@@ -54,9 +54,9 @@ returns-in_err-weighed c =
     let which = c.args.which.now in
     let e = c.in_err-weighed.field-0.0 in
     let names = c.in_ok-selection.ensures in
-    let told = subst (λ (q : Query). Tells (weights_faults tables q) e) names.query c.in_err-weighed.ensures in
+    let told = subst (λ (q : Query). IsBindFault (weights_faults tables q) e) names.query c.in_err-weighed.ensures in
     let h : HasBinding select tables which c.from_residual-in_err-weighed.result =
-    rw (p.1, p.2) (subst (λ (o : Option BindFault). Tells (option_or o (weights_faults tables (bound_query select tables which))) e) (sym names.sound) told) in
+    rw (p.1, p.2) (subst (λ (o : Option BindFault). IsBindFault (option_or o (weights_faults tables (bound_query select tables which))) e) (sym names.sound) told) in
     let s = says select tables which c.from_residual-in_err-weighed.result h in
     record { query = s.query; fits = s.fits; sound = s.sound; fault = s.fault; earliest = s.first }
 

@@ -5,7 +5,7 @@ use Rattle.query_parse.proofs.Loops.{with_front}
 use Rattle.query_parse.proofs.reader.several.Given as goal
 
 abbrev pub invariant-loop-list : goal.invariant-loop-list
-invariant-loop-list g l = with_front l.list.items (all_at g.T.Listed.next_at (lexemes l.rest)) ≡ several_at g.T.Part.one_at g.T.Listed.next_at (lexemes l.tokens)
+invariant-loop-list g l = with_front l.list.items (all_at g.T.ListReader.next_at (lexemes l.rest)) ≡ several_at g.T.ClauseReader.one_at g.T.ListReader.next_at (lexemes l.tokens)
 
 abbrev pub decreases-loop-list : goal.decreases-loop-list
 decreases-loop-list g l = length l.rest

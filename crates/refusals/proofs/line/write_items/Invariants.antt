@@ -1,7 +1,7 @@
 use Rattle.std.proofs.Common.{◌≤◌, flat_map}
 use Rattle.std.specs.Io.KnownBytes.{Appends}
 use Rattle.std.specs.List.{range_with_len}
-use Rattle.refusals.specs.Core.{item_text}
+use Rattle.refusals.specs.CycleText.{item_text}
 use Rattle.refusals.proofs.line.write_items.Given as goal
 
 abbrev pub invariant-loop-place : goal.invariant-loop-place

@@ -1,5 +1,5 @@
 use Rattle.std.proofs.Common.{◌≡◌, ◌+◌, ℕ, Option, length, sym, subst, arith}
-use Rattle.union_all.specs.Firsts.{IsFirst}
+use Rattle.union_all.specs.Firsts.{IsFirstBranch}
 use Rattle.union_all.specs.Merge.{lists_of, queries_of}
 use Rattle.union_all.proofs.firsts.first_branch.Goals.{then-is_sooner, else-is_sooner}
 use Rattle.union_all.proofs.firsts.first_branch.Goals as goal
@@ -16,13 +16,13 @@ loop-b-preserved g c =
     let tables = c.args.tables.now in
     elim c.if-is_sooner.branch [
       | then-is_sooner w ↦
-          subst (λ (o : Option ℕ). IsFirst (queries_of branches) tables (lists_of branches) (c.loop-b.b + 1) o) (sym w.first-is) (rw w.if-is_sooner.true at c.is_sooner.ensures)
+          subst (λ (o : Option ℕ). IsFirstBranch (queries_of branches) tables (lists_of branches) (c.loop-b.b + 1) o) (sym w.first-is) (rw w.if-is_sooner.true at c.is_sooner.ensures)
       | else-is_sooner w ↦
-          subst (λ (o : Option ℕ). IsFirst (queries_of branches) tables (lists_of branches) (c.loop-b.b + 1) o) (sym w.first-is) (rw w.if-is_sooner.false at c.is_sooner.ensures)
+          subst (λ (o : Option ℕ). IsFirstBranch (queries_of branches) tables (lists_of branches) (c.loop-b.b + 1) o) (sym w.first-is) (rw w.if-is_sooner.false at c.is_sooner.ensures)
     ]
 
 pub returns : goal.returns
 returns g c =
     let branches = c.args.branches.now in
     let all : c.loop-b.b ≡ length branches = omega arith in
-    subst (λ (n : ℕ). IsFirst (queries_of branches) c.args.tables.now (lists_of branches) n c.loop-b.first) all c.loop-b.invariant
+    subst (λ (n : ℕ). IsFirstBranch (queries_of branches) c.args.tables.now (lists_of branches) n c.loop-b.first) all c.loop-b.invariant

@@ -1,6 +1,6 @@
 use Rattle.std.proofs.Common.{◌≡◌, ◌<◌, ◌+◌, ◌∙◌, ℕ, Option, Some, if◌then◌else◌, length, sym, ap, subst, arith}
 use Rattle.anyk_model.specs.TaggedRows.{branch_at}
-use Rattle.union_all.specs.Firsts.{IsFirst}
+use Rattle.union_all.specs.Firsts.{IsFirstBranch}
 use Rattle.union_all.specs.Merge.{lists_of, queries_of}
 use Rattle.bound_query.specs.WeighedQuery.{BoundQuery}
 use Rattle.union_all.proofs.Branches.{head_at, head_fits, less_told, list_at, query_at, query_fits}
@@ -25,19 +25,19 @@ returns-in_default-first g c =
 
 pub offset_bounds-branches-first : goal.offset_bounds-branches-first
 offset_bounds-branches-first g c =
-    let was = subst (λ (o : Option ℕ). IsFirst (queries_of c.args.branches.now) c.args.tables.now (lists_of c.args.branches.now) c.args.b o) c.in-Some-first.is c.requires.first in
+    let was = subst (λ (o : Option ℕ). IsFirstBranch (queries_of c.args.branches.now) c.args.tables.now (lists_of c.args.branches.now) c.args.b o) c.in-Some-first.is c.requires.first in
     omega (arith, was.inside, c.requires.inside)
 
 pub bounds-branches-first : goal.bounds-branches-first
 bounds-branches-first g c =
-    let was = subst (λ (o : Option ℕ). IsFirst (queries_of c.args.branches.now) c.args.tables.now (lists_of c.args.branches.now) c.args.b o) c.in-Some-first.is c.requires.first in
+    let was = subst (λ (o : Option ℕ). IsFirstBranch (queries_of c.args.branches.now) c.args.tables.now (lists_of c.args.branches.now) c.args.b o) c.in-Some-first.is c.requires.first in
     omega (arith, was.inside, c.requires.inside)
 
 pub returns-in_default-head : goal.returns-in_default-head
 returns-in_default-head g c =
     let branches = c.args.branches.now in
     let f = c.in-Some-first.first in
-    let was = subst (λ (o : Option ℕ). IsFirst (queries_of branches) c.args.tables.now (lists_of branches) c.args.b o) c.in-Some-first.is c.requires.first in
+    let was = subst (λ (o : Option ℕ). IsFirstBranch (queries_of branches) c.args.tables.now (lists_of branches) c.args.b o) c.in-Some-first.is c.requires.first in
     let none = list_at branches f (earlier _ _ _ was.inside c.requires.inside) c.index-branches-first.result c.index-branches-first.is ∙ (rw c.in_default-head.is at c.head-2.ensures) in
     absurd (not_empty _ _ _ was.is_first none)
 
@@ -48,14 +48,14 @@ has_less_sums-requires-clause-fits g c =
 pub has_less_sums-requires-clause-other_fits : goal.has_less_sums-requires-clause-other_fits
 has_less_sums-requires-clause-other_fits g c =
     let branches = c.args.branches.now in
-    let was = subst (λ (o : Option ℕ). IsFirst (queries_of branches) c.args.tables.now (lists_of branches) c.args.b o) c.in-Some-first.is c.requires.first in
+    let was = subst (λ (o : Option ℕ). IsFirstBranch (queries_of branches) c.args.tables.now (lists_of branches) c.args.b o) c.in-Some-first.is c.requires.first in
     query_fits branches c.in-Some-first.first (earlier _ _ _ was.inside c.requires.inside) c.index-branches-first.result c.index-branches-first.is
     c.args.tables.now c.requires.branches c.query-2.result.now c.query-2.ensures
 
 pub has_less_sums-requires-clause-other_rows : goal.has_less_sums-requires-clause-other_rows
 has_less_sums-requires-clause-other_rows g c =
     let branches = c.args.branches.now in
-    let was = subst (λ (o : Option ℕ). IsFirst (queries_of branches) c.args.tables.now (lists_of branches) c.args.b o) c.in-Some-first.is c.requires.first in
+    let was = subst (λ (o : Option ℕ). IsFirstBranch (queries_of branches) c.args.tables.now (lists_of branches) c.args.b o) c.in-Some-first.is c.requires.first in
     let there = rw c.in-Some-head.is at c.head-2.ensures in
     head_fits branches c.in-Some-first.first (earlier _ _ _ was.inside c.requires.inside) c.index-branches-first.result c.index-branches-first.is c.args.tables.now c.requires.branches
     c.in-Some-head.other_rows there.0 there.1 c.query-2.result.now c.query-2.ensures
@@ -73,7 +73,7 @@ returns g c =
     let tables = c.args.tables.now in
     let lists = lists_of branches in
     let f = c.in-Some-first.first in
-    let was = subst (λ (o : Option ℕ). IsFirst queries tables lists c.args.b o) c.in-Some-first.is c.requires.first in
+    let was = subst (λ (o : Option ℕ). IsFirstBranch queries tables lists c.args.b o) c.in-Some-first.is c.requires.first in
     let inside : f < length branches = earlier _ _ _ was.inside c.requires.inside in
     let here = rw c.in-Some.is at c.head.ensures in
     let there = rw c.in-Some-head.is at c.head-2.ensures in
@@ -84,5 +84,5 @@ returns g c =
     let two : c.query-2.result.now.query ≡ branch_at queries f =
     ap (λ (q : BoundQuery). q.query) c.query-2.ensures ∙ sym (query_at branches f inside c.index-branches-first.result c.index-branches-first.is) in
     let less = less_told tables c.in-Some.rows c.in-Some-head.other_rows _ _ (branch_at queries c.args.b) (branch_at queries f) c.has_less_sums.result c.has_less_sums.ensures one two in
-    subst (λ (o : Option ℕ). IsFirst queries tables lists (c.args.b + 1) (if c.has_less_sums.result then Some c.args.b else o)) (sym c.in-Some-first.is)
+    subst (λ (o : Option ℕ). IsFirstBranch queries tables lists (c.args.b + 1) (if c.has_less_sums.result then Some c.args.b else o)) (sym c.in-Some-first.is)
     (compared_first queries tables lists c.args.b _ here.0 own f was c.has_less_sums.result _ (first_of _ _ _ _ _ was.is_first other) less)

@@ -7,7 +7,7 @@ use Rattle.stream_store.specs.Entries.{Entries}
 use Rattle.tdp_model.specs.Regions.{in_region}
 use Rattle.tdp_core.specs.TreeView.{members}
 use Rattle.anyk_part.specs.declared.candidate.Link.{Link}
-use Rattle.anyk_part.specs.declared.candidate.Site.{Site}
+use Rattle.anyk_part.specs.declared.candidate.Deviation.{Deviation}
 use Rattle.anyk_part.specs.Chains.{chain}
 use Rattle.anyk_part.specs.Regions.{followers, region_at, held_by, IsEntry}
 use Rattle.anyk_part.specs.Walks.{IsSite}
@@ -74,7 +74,7 @@ offer-requires-clause-room g c = omega (arith, c.requires.room)
 
 pub offer-requires-then-place-size-2-clause-site : goal.offer-requires-then-place-size-2-clause-site
 offer-requires-then-place-size-2-clause-site g c =
-    let s : Site g.row.R.Denot = record { total = c.args.total.now; best = c.best-best.result; node = c.args.walk.now.node; group = c.group_at-group.result; row = c.member-row.result; before = c.args.walk.now.before } in
+    let s : Deviation g.row.R.Denot = record { total = c.args.total.now; best = c.best-best.result; node = c.args.walk.now.node; group = c.group_at-group.result; row = c.member-row.result; before = c.args.walk.now.before } in
     subst (λ (l : Entries Link). IsSite g.R.Rank.KEYS g.R.Rank.key c.args.tree.now l.entries s) (sym c.offer.ensures.links)
     (site_of g.R.Rank.KEYS g.R.Rank.key c.args.tree.now c.args.total.now c.args.walk.now c.args.chosen.now c.args.self.now.links.entries c.requires.ready.at c.requires.ready.node c.group_at-group.result c.member-row.result c.best-best.result c.group_at-group.ensures.group c.member-row.ensures.member c.best-best.ensures.best)
 

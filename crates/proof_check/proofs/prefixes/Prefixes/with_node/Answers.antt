@@ -1,6 +1,6 @@
 use Rattle.std.proofs.Common.{◌≡◌, [], length, sym, subst, ◌∙◌, arith}
 use Rattle.std.proofs.lemmas.List.{get_or_default}
-use Rattle.proof_check.specs.Adding.{IsAdding}
+use Rattle.proof_check.specs.PrefixNumbers.{IsAdding}
 use Rattle.proof_check.specs.Levels.{list_at}
 use Rattle.proof_check.proofs.Beginnings.{AreAdded, next_prefixes, none_added, one_added, taken_pairs}
 use Rattle.proof_check.proofs.prefixes.Prefixes.with_node.Goals as goal

@@ -2,7 +2,7 @@ use Rattle.std.proofs.Common.{◌∙◌, Option, ap, sym, subst}
 use Rattle.std.specs.Option.{option_or}
 use Rattle.std.proofs.lemmas.Result.{err_from_is_err_and}
 use Rattle.bound_query.specs.StoredParts.{items_view}
-use Rattle.query_bind.specs.Answers.{Tells, side_fault}
+use Rattle.query_bind.specs.Answers.{IsBindFault, side_fault}
 use Rattle.query_bind.specs.Names.{ref_fault}
 use Rattle.query_bind.specs.declared.fault.BindFault.{BindFault}
 use Rattle.query_bind.proofs.Collect.{tells_before}
@@ -19,7 +19,7 @@ pub returns-in_err-right : goal.returns-in_err-right
 returns-in_err-right c =
     let p = err_from_is_err_and c.from_residual-in_err-right.result c.from_residual-in_err-right.ensures.1 in
     let right = side_fault c.args.tables.now (items_view c.args.items.now) c.args.self.now.right in
-    rw (p.1, p.2) (subst (λ (o : Option BindFault). Tells (option_or o right) c.in_err-right.field-0.0) (sym c.in_ok-left.ensures.1) c.in_err-right.ensures)
+    rw (p.1, p.2) (subst (λ (o : Option BindFault). IsBindFault (option_or o right) c.in_err-right.field-0.0) (sym c.in_ok-left.ensures.1) c.in_err-right.ensures)
 
 pub returns : goal.returns
 returns c =

@@ -3,7 +3,7 @@ use Rattle.std.proofs.lemmas.Result.{err_from_is_err_and}
 use Rattle.anyk_model.specs.Query.{Term}
 use Rattle.query_select.specs.declared.select.Term.{Term as TermRef}
 use Rattle.bound_query.specs.StoredParts.{items_view}
-use Rattle.query_bind.specs.Answers.{Tells, term_fault}
+use Rattle.query_bind.specs.Answers.{IsBindFault, term_fault}
 use Rattle.query_bind.specs.Binding.{bound_term}
 use Rattle.query_bind.specs.Names.{first_of}
 use Rattle.query_bind.proofs.binding.KeyRefBinds.bind.Goals as goal
@@ -13,7 +13,7 @@ returns-in_err-terms c =
     let p = err_from_is_err_and c.from_residual.result c.from_residual.ensures.1 in
     let tables = c.args.tables.now in
     let items = items_view c.args.items.now in
-    rw (p.1, p.2) (subst (λ (ts : List TermRef). Tells (first_of (term_fault tables items) ts) c.in_err-terms.field-0.0) c.as_slice.ensures c.in_err-terms.ensures)
+    rw (p.1, p.2) (subst (λ (ts : List TermRef). IsBindFault (first_of (term_fault tables items) ts) c.in_err-terms.field-0.0) c.as_slice.ensures c.in_err-terms.ensures)
 
 pub returns : goal.returns
 returns c =

@@ -8,8 +8,8 @@ use Rattle.stream_store.proofs.store.Store.push_reserved.Goals as goal
 pub index_mut-bucket-requires : goal.index_mut-bucket-requires
 index_mut-bucket-requires g c =
     let inside = c.self.inside in
-    let spot = c.spot_of-spot.result in
-    let told = c.spot_of-spot.ensures in
+    let spot = c.location_of-spot.result in
+    let told = c.location_of-spot.ensures in
     let was = ap (λ (s : Entries g.row.T.Denot). s.spare) c.self.view_is in
     let total = c.self.invariant.1 in
     let long = inside.buckets.ok.0 in
@@ -20,8 +20,8 @@ index_mut-bucket-requires g c =
 pub push_reserved-requires : goal.push_reserved-requires
 push_reserved-requires g c =
     let inside = c.self.inside in
-    let spot = c.spot_of-spot.result in
-    let told = c.spot_of-spot.ensures in
+    let spot = c.location_of-spot.result in
+    let told = c.location_of-spot.ensures in
     let was = ap (λ (s : Entries g.row.T.Denot). s.spare) c.self.view_is in
     let total = c.self.invariant.1 in
     let place = stands inside.len spot.bucket spot.offset told.at told.within in
@@ -36,8 +36,8 @@ pub invariant_of-self : goal.invariant_of-self
 invariant_of-self g c =
     let inside = c.self.inside in
     let bs = inside.buckets.items in
-    let spot = c.spot_of-spot.result in
-    let told = c.spot_of-spot.ensures in
+    let spot = c.location_of-spot.result in
+    let told = c.location_of-spot.ensures in
     let was = ap (λ (s : Entries g.row.T.Denot). s.spare) c.self.view_is in
     let total = c.self.invariant.1 in
     let place = stands inside.len spot.bucket spot.offset told.at told.within in
@@ -62,8 +62,8 @@ pub returns-clause-entries : goal.returns-clause-entries
 returns-clause-entries g c =
     let inside = c.self.inside in
     let bs = inside.buckets.items in
-    let spot = c.spot_of-spot.result in
-    let told = c.spot_of-spot.ensures in
+    let spot = c.location_of-spot.result in
+    let told = c.location_of-spot.ensures in
     let was = ap (λ (s : Entries g.row.T.Denot). s.spare) c.self.view_is in
     let total = c.self.invariant.1 in
     let place = stands inside.len spot.bucket spot.offset told.at told.within in

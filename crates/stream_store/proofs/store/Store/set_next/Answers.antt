@@ -11,8 +11,8 @@ use Rattle.stream_store.proofs.store.Store.set_next.Goals as goal
 pub index_mut-bucket-requires : goal.index_mut-bucket-requires
 index_mut-bucket-requires g c =
     let inside = c.self.inside in
-    let spot = c.spot_of-spot.result in
-    let told = c.spot_of-spot.ensures in
+    let spot = c.location_of-spot.result in
+    let told = c.location_of-spot.ensures in
     let was = ap (λ (s : Entries g.row.T.Denot). length s.entries) c.self.view_is in
     let all = length_joined 16 inside.len inside.buckets.items c.self.invariant.0 in
     let id = c.id.view_is in
@@ -24,8 +24,8 @@ index_mut-bucket-requires g c =
 pub index_mut-requires : goal.index_mut-requires
 index_mut-requires g c =
     let inside = c.self.inside in
-    let spot = c.spot_of-spot.result in
-    let told = c.spot_of-spot.ensures in
+    let spot = c.location_of-spot.result in
+    let told = c.location_of-spot.ensures in
     let was = ap (λ (s : Entries g.row.T.Denot). length s.entries) c.self.view_is in
     let all = length_joined 16 inside.len inside.buckets.items c.self.invariant.0 in
     let id = c.id.view_is in
@@ -37,8 +37,8 @@ pub invariant_of-self : goal.invariant_of-self
 invariant_of-self g c =
     let inside = c.self.inside in
     let bs = inside.buckets.items in
-    let spot = c.spot_of-spot.result in
-    let told = c.spot_of-spot.ensures in
+    let spot = c.location_of-spot.result in
+    let told = c.location_of-spot.ensures in
     let was = ap (λ (s : Entries g.row.T.Denot). length s.entries) c.self.view_is in
     let all = length_joined 16 inside.len bs c.self.invariant.0 in
     let id = c.id.view_is in
@@ -59,8 +59,8 @@ pub returns-clause-entries : goal.returns-clause-entries
 returns-clause-entries g c = λ d.
     let inside = c.self.inside in
     let bs = inside.buckets.items in
-    let spot = c.spot_of-spot.result in
-    let told = c.spot_of-spot.ensures in
+    let spot = c.location_of-spot.result in
+    let told = c.location_of-spot.ensures in
     let was = ap (λ (s : Entries g.row.T.Denot). length s.entries) c.self.view_is in
     let all = length_joined 16 inside.len bs c.self.invariant.0 in
     let id = c.id.view_is in

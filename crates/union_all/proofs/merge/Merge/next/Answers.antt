@@ -4,7 +4,7 @@ use Rattle.std.proofs.lemmas.Result.{IfOk-from_err}
 use Rattle.anyk_model.specs.Query.{Query}
 use Rattle.anyk_model.specs.TaggedRows as union
 use Rattle.anyk_model.specs.Union.{left_of}
-use Rattle.union_all.specs.Firsts.{IsFirst, tagged_view}
+use Rattle.union_all.specs.Firsts.{IsFirstBranch, tagged_view}
 use Rattle.union_all.specs.Merge.{AreBranches, BranchView, IsCalled, MergeView, lists_of, queries_of}
 use Rattle.union_all.proofs.Branches.{list_at, query_at}
 use Rattle.tdp_core.proofs.OptionFacts.{at_none, at_some}
@@ -19,7 +19,7 @@ pub returns-in_default : goal.returns-in_default
 returns-in_default g c =
     let branches = c.self.inside.branches.items in
     let tables = c.self.inside.tables.now in
-    let none = subst (λ (l : List BranchView). IsFirst (queries_of l) tables (lists_of l) (length l) None) c.as_slice.ensures.value (rw c.in_default.is at c.first_branch.ensures) in
+    let none = subst (λ (l : List BranchView). IsFirstBranch (queries_of l) tables (lists_of l) (length l) None) c.as_slice.ensures.value (rw c.in_default.is at c.first_branch.ensures) in
     let nothing : (merged tables branches).rest ≡ [] = none_left (queries_of branches) tables (lists_of branches) (length branches) (sym (length-map branches (λ (s : BranchView). s.left))) none in
     record {
       found = tt;

@@ -1,9 +1,0 @@
-use Rattle.std.proofs.Common.{◌≡◌, ℕ, ◌<◌, None, Some, map, option_map, slice_index_or}
-use Rattle.proof_check.specs.declared.branches.Branch.{Branch}
-use Rattle.proof_check.specs.Levels.{IsFirstPast}
-use Rattle.proof_check.proofs.leaving.branches_leave_after.Given as goal
-
-abbrev pub invariant-loop-number : goal.invariant-loop-number
-invariant-loop-number g l =
-    (n : ℕ) (b : Branch g.row.R.Denot) → n < l.number → slice_index_or l.branches n None ≡ Some b
-    → IsFirstPast g.R.Rank.KEYS g.R.Rank.key l.taken n (option_map g.R.Rank.key l.last) b (map (λ v. v.items) l.lists)

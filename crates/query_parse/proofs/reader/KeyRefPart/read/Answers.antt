@@ -1,5 +1,0 @@
-use Rattle.query_parse.proofs.Stepping.{term_steps}
-use Rattle.query_parse.proofs.reader.KeyRefPart.read.Goals as goal
-
-pub several-requires : goal.several-requires
-several-requires c = term_steps
