@@ -1,10 +1,11 @@
 -- What one more field changes, and many.
-use Rattle.std.proofs.Common.{◌≡◌, ◌+◌, ℕ, List, [], ◌∷◌, ◌++◌, drop, length, refl, sym, ap, ◌∙◌, arith, length-append, append-nil, append_assoc}
+use Rattle.std.proofs.Common.{◌≡◌, ◌+◌, ℕ, List, [], ◌∷◌, ◌++◌, drop, length, refl, sym, ap, subst, ◌∙◌, arith, length-append, append-nil, append_assoc}
 use Rattle.std.proofs.Math.Seq.{drop-append_seam}
 use Rattle.std.specs.List.{concat}
 use Rattle.csv.specs.Records.{Rising, cut_from, last_end}
 use Rattle.csv.proofs.RecordFacts.{cut-end, cut-more, last-append, rising-end, rising-more}
 use Rattle.anyk_model.specs.Table.{Fields}
+use Rattle.table_store.specs.Fields.{ArePacked}
 use Rattle.csv_tables.specs.Fields.{ends_from}
 
 pub none_cut : (bytes : List ℕ) → cut_from 0 [] bytes ≡ []
@@ -23,18 +24,21 @@ module _ (ends bytes field : List ℕ) (rising : Rising 0 ends (length bytes)) (
   rising_grown : Rising 0 ends (length (bytes ++ field))
   rising_grown = rising-more 0 ends (length bytes) (length (bytes ++ field)) rising (omega (arith, length-append bytes field))
 
-  -- the bytes of one more field, and its end
-  pub push_cut : cut_from 0 (ends ++ length (bytes ++ field) ∷ []) (bytes ++ field) ≡ cut_from 0 ends bytes ++ field ∷ []
+  push_cut : cut_from 0 (ends ++ length (bytes ++ field) ∷ []) (bytes ++ field) ≡ cut_from 0 ends bytes ++ field ∷ []
   push_cut =
       let last : drop (last_end 0 ends) (bytes ++ field) ≡ field = ap (λ (n : ℕ). drop n (bytes ++ field)) whole ∙ drop-append_seam bytes field in
       let front = cut-more 0 ends bytes field rising in
       cut-end 0 ends (bytes ++ field) rising_grown ∙ (λ i. front i ++ last i ∷ [])
 
-  pub push_rising : Rising 0 (ends ++ length (bytes ++ field) ∷ []) (length (bytes ++ field))
+  push_rising : Rising 0 (ends ++ length (bytes ++ field) ∷ []) (length (bytes ++ field))
   push_rising = rising-end 0 ends (length (bytes ++ field)) rising_grown
 
-  pub push_whole : last_end 0 (ends ++ length (bytes ++ field) ∷ []) ≡ length (bytes ++ field)
+  push_whole : last_end 0 (ends ++ length (bytes ++ field) ∷ []) ≡ length (bytes ++ field)
   push_whole = last-append 0 ends (length (bytes ++ field))
+
+-- places and bytes that are the same are packed as before
+pub same_packed : (a b ends bytes : List ℕ) → a ≡ ends → b ≡ bytes → ArePacked ends bytes → ArePacked a b
+same_packed a b ends bytes same kept packed = subst (λ (l : List ℕ). ArePacked l b) (sym same) (subst (ArePacked ends) (sym kept) packed)
 
 -- places and bytes that show these fields
 pub record Shows (ends bytes : List ℕ) (fields : Fields) : Type 0 where
@@ -42,7 +46,8 @@ pub record Shows (ends bytes : List ℕ) (fields : Fields) : Type 0 where
   pub whole : last_end 0 ends ≡ length bytes
   pub cut : cut_from 0 ends bytes ≡ fields
 
-shows_push : (ends bytes : List ℕ) (fields : Fields) (f : List ℕ) → Shows ends bytes fields
+-- the bytes of one more field, and its end
+pub shows_push : (ends bytes : List ℕ) (fields : Fields) (f : List ℕ) → Shows ends bytes fields
     → Shows (ends ++ (length bytes + length f) ∷ []) (bytes ++ f) (fields ++ f ∷ [])
 shows_push ends bytes fields f shows =
     rw (sym (length-append bytes f)) (record {

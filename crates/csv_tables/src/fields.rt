@@ -51,6 +51,19 @@ impl FieldWriter {
         FieldList::new(bytes, ends)
     }
 
+    /// Makes room for the fields of a file of `size` bytes whose records are all as long as this one,
+    /// so that the vectors need not grow, row by row. No file has more bytes of fields than its own,
+    /// nor more fields.
+    pub(crate) fn reserve(&mut self, size: usize, row: &ByteRecord) -> Result<(), NoMemory>
+        ensures { self.new ≡ self.old }
+    {
+        self.bytes.reserve(size)?;
+        let row_size = row.as_slice().len().saturating_add(row.len());
+        let rows = size / row_size.max(1);
+        self.ends.reserve(rows.saturating_mul(row.len()))?;
+        Ok(())
+    }
+
     /// Adds a field at the end. After a refusal of memory the fields are as before.
     pub(crate) fn push(&mut self, field: &[u8]) -> Result<(), NoMemory>
         ensures added { OnOk result (self.new ≡ self.old ++ field.now ∷ []) }

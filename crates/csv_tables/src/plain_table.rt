@@ -19,6 +19,8 @@ use table_store::{StoredRows, StoredTable};
 pub(crate) struct PlainTable {
     names: Vec<Vec<u8>>,
     count: usize,
+    // The bytes of the file.
+    size: usize,
     fields: FieldWriter,
 }
 
@@ -34,13 +36,15 @@ impl Model for PlainTable {
 }
 
 impl PlainTable {
-    /// A table of columns with these names, without rows. Takes no memory.
-    pub(crate) fn new(alloc: Global, names: Vec<Vec<u8>>) -> PlainTable
+    /// A table of columns with these names, without rows, from a file of `size` bytes. Takes no
+    /// memory.
+    pub(crate) fn new(alloc: Global, names: Vec<Vec<u8>>, size: usize) -> PlainTable
         ensures { result ≡ table_of (lists_of names.items ∷ []) }
     {
         PlainTable {
             names,
             count: 0,
+            size,
             fields: FieldWriter::new(alloc),
         }
     }
@@ -52,9 +56,20 @@ impl PlainTable {
         ensures added { OnOk result (self.new ≡ with_row self.old (fields_of row.now)) }
         ensures err { OnErr result (self.new ≡ self.old) }
     {
+        self.make_room(row)?;
         self.fields.push_record(row)?;
         self.count += 1;
         Ok(())
+    }
+
+    /// Before the first row is added, makes room for all rows of the file, as if each were as long.
+    fn make_room(&mut self, first: &ByteRecord) -> Result<(), NoMemory>
+        ensures { self.new ≡ self.old }
+    {
+        if self.count > 0 {
+            return Ok(());
+        }
+        self.fields.reserve(self.size, first)
     }
 
     /// The table as it is stored, with the numbers of its fields. Its new texts are added after the
@@ -68,6 +83,7 @@ impl PlainTable {
         let PlainTable {
             names,
             count,
+            size: _,
             fields,
         } = self;
         let fields = fields.into_list();

@@ -22,6 +22,12 @@ const MAX_COLUMNS: usize = 64;
 /// The greatest number of rows of a table.
 const MAX_ROWS: usize = 1_048_576;
 
+/// For how many bytes and fields a record has room from the start. `csv` reads no more of a record at
+/// a time than there is room for, so a record that has to grow is read in several parts.
+const RECORD_BYTES: usize = 8_192;
+
+const RECORD_FIELDS: usize = 64;
+
 /// The tables of a query, numbered from 0 in the order in which they are read, with the set of
 /// their texts. They are read back by the calls of `table_store::Tables`, to which these tables
 /// dereference.
@@ -188,12 +194,14 @@ fn read_names(
     Ok(names)
 }
 
-/// The table of columns with these names, and of the records that are left as rows.
+/// The table of columns with these names, and of the records that are left as rows. The file has
+/// `size` bytes.
 fn read_rows(
     alloc: Global,
     records: &mut Records<'_>,
     row: &mut ByteRecord,
     names: Vec<Vec<u8>>,
+    size: usize,
 ) -> Result<PlainTable, TableFault>
     ensures sound { OnOk result
         (rows_flaw (length (lists_of names.items)) 1 records.old ≡ None) }
@@ -202,7 +210,7 @@ fn read_rows(
         (IsTableFault (rows_flaw (length (lists_of names.items)) 1 records.old)) }
 {
     let width = names.len();
-    let mut table = PlainTable::new(alloc, names);
+    let mut table = PlainTable::new(alloc, names, size);
     let read = add_rows(records, width, row, &mut table);
     read.and(Ok(table))
 }
@@ -231,19 +239,21 @@ fn add_rows(
     Err(TableFault::NoMemory)
 }
 
-/// The table of the records that are left, each read into `row`. The function and those that it
-/// calls are lent what they read with, so that a fault leaves little to drop.
+/// The table of the records that are left of a file of `size` bytes, each read into `row`. The
+/// function and those that it calls are lent what they read with, so that a fault leaves little to
+/// drop.
 fn read_table(
     alloc: Global,
     records: &mut Records<'_>,
     row: &mut ByteRecord,
+    size: usize,
 ) -> Result<PlainTable, TableFault>
     ensures sound { OnOk result (flaw_of records.old ≡ None) }
     ensures table { IfOk result (λ t. t ≡ table_of records.old) }
     ensures fault { IfErr result (IsTableFault (flaw_of records.old)) }
 {
     let names = read_names(alloc, records, row)?;
-    read_rows(alloc, records, row, names)
+    read_rows(alloc, records, row, names, size)
 }
 
 /// The table of the bytes of a file. The fault is that of `read_table`.
@@ -252,7 +262,7 @@ fn parse_table(alloc: Global, bytes: &[u8]) -> Result<PlainTable, TableFault>
     ensures table { IfOk result (λ t. t ≡ table_of (records_of bytes.now)) }
     ensures fault { IfErr result (IsTableFault (flaw_of (records_of bytes.now))) }
 {
+    let mut row = ByteRecord::with_capacity(alloc, RECORD_BYTES, RECORD_FIELDS)?;
     let mut records = Records::new(alloc, bytes);
-    let mut row = ByteRecord::new(alloc);
-    read_table(alloc, &mut records, &mut row)
+    read_table(alloc, &mut records, &mut row, bytes.len())
 }

@@ -1,5 +1,5 @@
 //! The distinct fields of tables that are not their own numbers, each with a place.
-ghost use Rattle.std.specs.Prelude.{◌≡◌, ◌<◌, [], IfOk, OnErr, OnOk, length, take};
+ghost use Rattle.std.specs.Prelude.{◌≡◌, ◌<◌, [], IfOk, OnErr, OnOk, get_or, length, take};
 ghost use Rattle.table_store.specs.Values.{Extends, IsNumber, StandsFor, text_at, with_field, with_fields, with_text};
 
 use crate::text::Text;
@@ -8,7 +8,7 @@ use indexmap::IndexSet;
 use std::alloc::Global;
 use std::marker::Model;
 use step_counter::NoMemory;
-use table_store::{FIRST_TEXT, FieldList, own_number};
+use table_store::{FIRST_TEXT, FieldList};
 
 /// The texts of tables: their distinct fields that are not their own numbers, in the order in which
 /// they were first read.
@@ -45,16 +45,18 @@ impl Texts {
         self.set.len()
     }
 
-    /// The number of a field. A new text is added after the others.
-    pub(crate) fn number(&mut self, field: &[u8]) -> Result<u32, NoMemory>
-        ensures texts { OnOk result (self.new ≡ with_field self.old field.now) }
-        ensures number { IfOk result (IsNumber self.new field.now) }
+    /// The number of the field at a place of these, from 0. A new text is added after the others.
+    #[inline(always)]
+    fn number(&mut self, fields: &FieldList, at: usize) -> Result<u32, NoMemory>
+        requires { at < length fields.now }
+        ensures texts { OnOk result (self.new ≡ with_field self.old (get_or fields.now at [])) }
+        ensures number { IfOk result (IsNumber self.new (get_or fields.now at [])) }
         ensures err { OnErr result (Extends self.old self.new) }
     {
-        if let Some(number) = own_number(field) {
+        if let Some(number) = fields.own_number(at) {
             return Ok(number);
         }
-        let place = self.put(field)?;
+        let place = self.put(fields.get(at))?;
         if place >= FIRST_TEXT as usize {
             return Err(NoMemory);
         }
@@ -62,6 +64,7 @@ impl Texts {
     }
 
     /// The place of a text, from 0. A new text is added after the others.
+    #[inline(never)]
     fn put(&mut self, text: &[u8]) -> Result<usize, NoMemory>
         ensures texts { OnOk result (self.new ≡ with_text self.old text.now) }
         ensures within { IfOk result (λ n. n < length self.new) }
@@ -74,7 +77,9 @@ impl Texts {
     }
 
     /// The numbers of these fields, in their order. New texts are added after the others, and some
-    /// of them may be if memory is refused.
+    /// of them may be if memory is refused. A function of its own, so that what its loop reads stays in
+    /// registers.
+    #[inline(never)]
     pub(crate) fn numbers(&mut self, fields: &FieldList) -> Result<Vec<u32>, NoMemory>
         ensures texts { OnOk result (self.new ≡ with_fields self.old fields.now) }
         ensures numbers { IfOk result (λ cells. StandsFor self.new cells.items fields.now) }
@@ -83,7 +88,7 @@ impl Texts {
         let mut cells = Vec::new(self.alloc);
         cells.reserve(fields.len())?;
         for place in 0..fields.len() {
-            cells.push_reserved(self.number(fields.get(place))?);
+            cells.push_reserved(self.number(fields, place)?);
         }
         Ok(cells)
     }

@@ -1,5 +1,6 @@
 pub mod Cuts
 pub mod Digits
+pub mod Eights
 pub mod Kept
 pub mod Numbers
 pub mod Own

@@ -3,6 +3,7 @@ use Rattle.std.proofs.Common.{Result, Ok, Err, OnErr, arith, length-append, ◌�
 use Rattle.std.specs.List.{AllByRecursion, AllZip, list_any}
 use Rattle.std.specs.Str.{bytes_eq}
 use Rattle.std.proofs.lemmas.List.{append-nil, get_or_append_left}
+use Rattle.std.proofs.lemmas.Slice.Zip.{AllZip-long, all_zipped_more}
 use Rattle.anyk_model.specs.Table.{Fields}
 use Rattle.table_store.specs.Values.{Extends, HasNumber, IsNumber, StandsFor, own_number, text_at, with_field, with_fields, with_rows, with_text}
 
@@ -67,18 +68,6 @@ zip_more R S f [] (y ∷ ys) all = absurd all
 zip_more R S f (x ∷ xs) [] all = absurd all
 zip_more R S f (x ∷ xs) (y ∷ ys) all = (f x y all.0, zip_more R S f xs ys all.1)
 
-zip_append : {A B : Type 0} (R : A → B → Type 0) (xs more : List A) (ys others : List B) → AllZip R xs ys → AllZip R more others → AllZip R (xs ++ more) (ys ++ others)
-zip_append R [] more [] others all rest = rest
-zip_append R [] more (y ∷ ys) others all rest = absurd all
-zip_append R (x ∷ xs) more [] others all rest = absurd all
-zip_append R (x ∷ xs) more (y ∷ ys) others all rest = (all.0, zip_append R xs more ys others all.1 rest)
-
-zip_length : {A B : Type 0} (R : A → B → Type 0) (xs : List A) (ys : List B) → AllZip R xs ys → length xs ≡ length ys
-zip_length R [] [] all = refl
-zip_length R [] (y ∷ ys) all = absurd all
-zip_length R (x ∷ xs) [] all = absurd all
-zip_length R (x ∷ xs) (y ∷ ys) all = ap suc (zip_length R xs ys all.1)
-
 zip_at : {A B : Type 0} (R : A → B → Type 0) (xs : List A) (ys : List B) (i : ℕ) (a : A) (b : B) → AllZip R xs ys → i < length xs → R (get_or xs i a) (get_or ys i b)
 zip_at R [] ys i a b all inside = absurd (omega arith)
 zip_at R (x ∷ xs) [] i a b all inside = absurd all
@@ -102,16 +91,12 @@ stands_more old new numbers fields more stands = record {
   each = zip_more (λ n f. IsNumber old f n) (λ n f. IsNumber new f n) (λ n f has. number_more old new more (own_number f) f n has) numbers fields stands.each;
 }
 
-pub stands_append : (texts : List (List ℕ)) (numbers more : List ℕ) (fields others : Fields) → StandsFor texts numbers fields → StandsFor texts more others
-    → StandsFor texts (numbers ++ more) (fields ++ others)
-stands_append texts numbers more fields others a b = record { each = zip_append (λ n f. IsNumber texts f n) numbers more fields others a.each b.each }
-
 pub stands_push : (texts : List (List ℕ)) (numbers : List ℕ) (fields : Fields) (n : ℕ) (f : List ℕ) → StandsFor texts numbers fields
     → IsNumber texts f n → StandsFor texts (numbers ++ n ∷ []) (fields ++ f ∷ [])
-stands_push texts numbers fields n f stands is = stands_append texts numbers (n ∷ []) fields (f ∷ []) stands (record { each = (is, tt) })
+stands_push texts numbers fields n f stands is = record { each = all_zipped_more (λ m g. IsNumber texts g m) numbers fields n f stands.each is }
 
 pub stands_length : (texts : List (List ℕ)) (numbers : List ℕ) (fields : Fields) → StandsFor texts numbers fields → length numbers ≡ length fields
-stands_length texts numbers fields stands = zip_length (λ n f. IsNumber texts f n) numbers fields stands.each
+stands_length texts numbers fields stands = sym (AllZip-long (λ n f. IsNumber texts f n) numbers fields stands.each)
 
 pub stands_at : (texts : List (List ℕ)) (numbers : List ℕ) (fields : Fields) (i d : ℕ) → StandsFor texts numbers fields → i < length numbers
     → IsNumber texts (get_or fields i []) (get_or numbers i d)

@@ -2,7 +2,9 @@
 ghost use Rattle.std.specs.Prelude.{◌≡◌, ◌<◌, [], get_or, length};
 ghost use Rattle.csv.specs.Records.{cut_from, prev};
 ghost use Rattle.table_store.specs.Fields.{ArePacked};
+ghost use Rattle.table_store.specs.Values.{own_number};
 
+use crate::number::own_number_at;
 use std::marker::Model;
 
 /// Fields one after another; each is found by the place where it ends.
@@ -46,6 +48,17 @@ impl FieldList {
     {
         let start = start_of(&self.ends, place);
         &self.bytes.as_slice()[start..self.ends[place] as usize]
+    }
+
+    /// The number that the field at a place writes as a decimal without a sign and without leading
+    /// zeros, if it is below `FIRST_TEXT`. Places count from 0.
+    #[inline(always)]
+    pub fn own_number(&self, place: usize) -> Option<u32>
+        requires { place < length self.now }
+        ensures { result ≡ own_number (get_or self.now place []) }
+    {
+        let start = start_of(&self.ends, place);
+        own_number_at(self.bytes.as_slice(), start, self.ends[place] as usize)
     }
 }
 

@@ -127,6 +127,7 @@ impl Tables {
     /// The number that a field writes as a decimal without a sign and without leading zeros, if it
     /// is below `FIRST_TEXT`, and `None` for any other field. It is read without the bytes of the
     /// field. Tables and columns count from 0, and rows from 1.
+    #[inline(always)]
     pub fn own_number(&self, table: u32, row: u32, col: u32) -> Option<u32>
         requires table { table < length self.now }
         requires first { 1 ≤ row }
@@ -160,7 +161,9 @@ impl Tables {
 
     /// The weight that a field writes: 0 if it is empty, else an optional `+` or `-` and 1 to 39
     /// digits, if the number fits an `i128`. `None` for any other field. Tables and columns count
-    /// from 0, and rows from 1.
+    /// from 0, and rows from 1. Put in place where it is called, so that an own number is no longer
+    /// than it is.
+    #[inline(always)]
     pub fn weight(&self, table: u32, row: u32, col: u32) -> Option<i128>
         requires table { table < length self.now }
         requires first { 1 ≤ row }

@@ -1,11 +1,10 @@
-use Rattle.std.proofs.Common.{◌≡◌, ◌≤◌, ◌+◌, ◌++◌, ◌∙◌, ℕ, List, take, length, ap, subst, sym, arith}
+use Rattle.std.proofs.Common.{◌≡◌, ◌≤◌, ◌+◌, ◌++◌, ◌∙◌, ℕ, List, take, length, refl, ap, subst, arith}
 use Rattle.std.proofs.Math.Seq.{take-append-add}
 use Rattle.std.proofs.lemmas.Result.{IfOk-from_err}
 use Rattle.std.specs.List.{concat}
-use Rattle.csv.specs.Records.{Rising, cut_from, last_end}
-use Rattle.csv.specs.Records.{fields_of}
+use Rattle.csv.specs.Records.{cut_from, fields_of}
 use Rattle.csv_tables.specs.Fields.{ends_from}
-use Rattle.csv_tables.proofs.Copied.{Shows, shows_more}
+use Rattle.csv_tables.proofs.Copied.{Shows, same_packed, shows_more}
 use Rattle.table_store.proofs.Stands.{on_err}
 use Rattle.csv_tables.proofs.fields.FieldWriter.push_front.Goals as goal
 use Rattle.csv_tables.proofs.fields.FieldWriter.push_front.Goals.{After-truncate}
@@ -44,12 +43,7 @@ pub push_ends-count-requires-clause-size : goal.push_ends-count-requires-clause-
 push_ends-count-requires-clause-size c = subst (λ (l : List ℕ). c.len-start.result + length l ≤ 4294967295) c.as_slice-text.ensures c.if-start-text-gt-MAX_BYTES.false
 
 pub invariant_of-self : goal.invariant_of-self
-invariant_of-self c =
-    let bytes = c.self.inside.bytes.items in
-    record {
-      rising = subst (λ (l : List ℕ). Rising 0 l (length bytes)) (sym c.in_err-reserve.ensures.items) c.self.invariant.rising;
-      whole = subst (λ (l : List ℕ). last_end 0 l ≡ length bytes) (sym c.in_err-reserve.ensures.items) c.self.invariant.whole;
-    }
+invariant_of-self c = same_packed _ _ c.self.inside.ends.items c.self.inside.bytes.items c.in_err-reserve.ensures.items refl c.self.invariant
 
 pub returns-in_err-reserve : goal.returns-in_err-reserve
 returns-in_err-reserve c =
@@ -58,13 +52,7 @@ returns-in_err-reserve c =
     record { added = IfOk-from_err r _ e; within = IfOk-from_err r _ e; err = on_err r (ap (λ (l : List ℕ). cut_from 0 l c.self.inside.bytes.items) c.in_err-reserve.ensures.items ∙ c.self.view_is) }
 
 pub invariant_of-self-in_err-extend_from_slice : goal.invariant_of-self-in_err-extend_from_slice
-invariant_of-self-in_err-extend_from_slice c =
-    let ends = c.in_ok-reserve.ensures.items in
-    let bytes = c.in_err-extend_from_slice.ensures.items in
-    record {
-      rising = rw (ends, bytes) c.self.invariant.rising;
-      whole = rw (ends, bytes) c.self.invariant.whole;
-    }
+invariant_of-self-in_err-extend_from_slice c = same_packed _ _ c.self.inside.ends.items c.self.inside.bytes.items c.in_ok-reserve.ensures.items c.in_err-extend_from_slice.ensures.items c.self.invariant
 
 pub returns-in_err-extend_from_slice : goal.returns-in_err-extend_from_slice
 returns-in_err-extend_from_slice c =

@@ -1,6 +1,6 @@
-use Rattle.std.proofs.Common.{◌≡◌, ◌<◌, ◌+◌, ℕ, List, Option, Some, None, length, refl, ◌∙◌, subst, sym}
+use Rattle.std.proofs.Common.{◌≡◌, ◌<◌, ◌+◌, ℕ, List, Option, Some, None, [], get_or, length, refl, ◌∙◌, ap, subst, sym}
 use Rattle.std.proofs.lemmas.Result.{IfOk-from_err}
-use Rattle.table_store.specs.Values.{Extends, HasNumber, IsNumber, own_number, text_at}
+use Rattle.table_store.specs.Values.{Extends, HasNumber, IsNumber, own_number, text_at, with_text}
 use Rattle.table_store.proofs.Stands.{extends_same, on_err, with_field_own, with_field_text, with_text_extends}
 use Rattle.csv_tables.proofs.Refusals.{none_on_ok}
 use Rattle.csv_tables.proofs.texts.Texts.number.Goals as goal
@@ -27,24 +27,25 @@ returns-in_err-place c =
 
 pub returns-then-place : goal.returns-then-place
 returns-then-place c =
-    let more = with_text_extends c.args.self.now c.args.field.now in
+    let more = with_text_extends c.args.self.now c.get.result.now in
     record { texts = tt; number = tt; err = (more.0, c.in_ok-place.ensures.texts ∙ more.1) }
 
 pub returns-in-Some : goal.returns-in-Some
 returns-in-Some c =
     let own = sym c.own_number.ensures ∙ c.in-Some.is in
     record {
-      texts = sym (with_field_own c.args.self.now c.args.field.now c.in-Some.number own);
-      number = own_is c.args.self.now c.args.field.now c.in-Some.number own;
+      texts = sym (with_field_own c.args.self.now (get_or c.args.fields.now c.args.at []) c.in-Some.number own);
+      number = own_is c.args.self.now (get_or c.args.fields.now c.args.at []) c.in-Some.number own;
       err = tt;
     }
 
 pub returns : goal.returns
 returns c =
-    let none = text_is c.own_number.result c.args.field.now c.own_number.ensures c.in_default.not-Some in
+    let field = get_or c.args.fields.now c.args.at [] in
+    let none = text_is c.own_number.result field c.own_number.ensures c.in_default.not-Some in
     let put = c.in_ok-place.ensures in
     record {
-      texts = put.texts ∙ sym (with_field_text c.args.self.now c.args.field.now none);
-      number = placed_is c.put.new.self c.args.field.now c.in_ok-place.place none put.within put.shown;
+      texts = put.texts ∙ ap (with_text c.args.self.now) c.get.ensures ∙ sym (with_field_text c.args.self.now field none);
+      number = placed_is c.put.new.self field c.in_ok-place.place none put.within (put.shown ∙ c.get.ensures);
       err = tt;
     }

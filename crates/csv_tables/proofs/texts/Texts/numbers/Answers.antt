@@ -1,4 +1,4 @@
-use Rattle.std.proofs.Common.{◌≡◌, ◌<◌, ◌+◌, ◌∷◌, ◌++◌, [], ◌∙◌, sym, ap, subst, take, length, arith, List, ℕ}
+use Rattle.std.proofs.Common.{◌≡◌, ◌<◌, ◌+◌, ◌∷◌, ◌++◌, [], ◌∙◌, sym, ap, subst, take, length, get_or, arith, List, ℕ}
 use Rattle.std.proofs.lemmas.List.{take_all, take_more}
 use Rattle.std.proofs.lemmas.Result.{IfOk-from_err}
 use Rattle.table_store.specs.Values.{Extends, StandsFor, with_field, with_fields}
@@ -42,10 +42,9 @@ loop-place-preserved c =
     let new = c.number.new.self in
     let place = c.loop-place.place in
     let fields = take place c.args.fields.now in
-    let field = c.get.result.now in
+    let field = get_or c.args.fields.now place [] in
     let inside : place < length c.args.fields.now = omega (arith, c.loop-place-test.true, c.len-place-end.ensures) in
-    let step : take (place + 1) c.args.fields.now ≡ fields ++ field ∷ [] =
-    take_more c.args.fields.now place [] inside ∙ ap (λ (f : List ℕ). fields ++ f ∷ []) (sym c.get.ensures) in
+    let step : take (place + 1) c.args.fields.now ≡ fields ++ field ∷ [] = take_more c.args.fields.now place [] inside in
     let here = with_field_extends before field in
     let more : Extends before new = (here.0, c.in_ok-number.ensures.texts ∙ here.1) in
     rw (step, c.push_reserved.ensures.items) (

@@ -1,17 +1,13 @@
-use Rattle.std.proofs.Common.{◌<◌, length, ap, arith}
-use Rattle.std.proofs.lemmas.List.{length-map}
-use Rattle.table_store.specs.StoredTables.{stored_view}
-use Rattle.table_store.proofs.Places.{few_columns}
+use Rattle.std.proofs.Common.{arith}
+use Rattle.table_store.proofs.Places.{is_read}
 use Rattle.table_store.proofs.tables.Tables.width.Goals as goal
-
-pub returns-clause-limit : goal.returns-clause-limit
-returns-clause-limit c =
-    let stored = c.self.inside.tables.items in
-    let inside : c.args.table < length stored = omega (arith, c.requires, ap length c.self.view_is, length-map stored stored_view) in
-    omega (arith, c.index.result.now.names.ok.0, few_columns stored c.args.table c.index.result.now inside c.index.ensures c.self.invariant.sound)
 
 pub overflow_cast-result : goal.overflow_cast-result
 overflow_cast-result c =
-    let stored = c.self.inside.tables.items in
-    let inside : c.args.table < length stored = omega (arith, c.requires, ap length c.self.view_is, length-map stored stored_view) in
-    omega (arith, c.index.result.now.names.ok.0, few_columns stored c.args.table c.index.result.now inside c.index.ensures c.self.invariant.sound)
+    let r = is_read c.self.inside.tables.items c.args.table c.index.result.now c.args.self.now c.self.invariant c.self.view_is c.requires c.index.ensures in
+    omega (arith, c.index.result.now.names.ok.0, r.few_columns)
+
+pub returns : goal.returns
+returns c =
+    let r = is_read c.self.inside.tables.items c.args.table c.index.result.now c.args.self.now c.self.invariant c.self.view_is c.requires c.index.ensures in
+    record { columns = omega (arith, c.index.result.now.names.ok.0, r.columns); limit = omega (arith, c.index.result.now.names.ok.0, r.few_columns) }
