@@ -21,6 +21,7 @@ pub fn push_optional(records: &mut RecordWriter, field: Option<&[u8]>) -> Result
 }
 
 /// Writes a number that is not negative, in decimal. `NoMemory` if memory is refused.
+#[inline(always)]
 pub fn push_number(records: &mut RecordWriter, number: u32) -> Result<(), NoMemory>
     ensures { (fields : List (List ℕ)) → HasFields fields records.old.begun → OnOk result
         (HasFields (fields ++ decimal number ∷ []) records.new.begun) }

@@ -18,26 +18,11 @@ bounds-rows-item c =
     let row = row_there c.args.tables.now c.args.query.now.query.items c.args.rows.now (get_or c.columns-item-items.result.now c.loop-item.item-index (0, 0)).0 c.requires.rows there.item in
     omega (arith, row.place)
 
-pub push_value-requires-clause-table : goal.push_value-requires-clause-table
-push_value-requires-clause-table c =
+pub push_value-requires : goal.push_value-requires
+push_value-requires c =
     let there = column_there c.args.query.now.query c.args.tables.now c.columns-item-items.result.now c.loop-item.item-index (0, 0) c.requires.fits.within c.columns-item-items.ensures c.loop-item-test.true in
-    rw c.table_of-table.ensures there.table
-
-pub push_value-requires-clause-first : goal.push_value-requires-clause-first
-push_value-requires-clause-first c =
-    let there = column_there c.args.query.now.query c.args.tables.now c.columns-item-items.result.now c.loop-item.item-index (0, 0) c.requires.fits.within c.columns-item-items.ensures c.loop-item-test.true in
-    (row_there c.args.tables.now c.args.query.now.query.items c.args.rows.now (get_or c.columns-item-items.result.now c.loop-item.item-index (0, 0)).0 c.requires.rows there.item).first
-
-pub push_value-requires-clause-row : goal.push_value-requires-clause-row
-push_value-requires-clause-row c =
-    let there = column_there c.args.query.now.query c.args.tables.now c.columns-item-items.result.now c.loop-item.item-index (0, 0) c.requires.fits.within c.columns-item-items.ensures c.loop-item-test.true in
-    rw c.table_of-table.ensures
-    (row_there c.args.tables.now c.args.query.now.query.items c.args.rows.now (get_or c.columns-item-items.result.now c.loop-item.item-index (0, 0)).0 c.requires.rows there.item).last
-
-pub push_value-requires-clause-column : goal.push_value-requires-clause-column
-push_value-requires-clause-column c =
-    let there = column_there c.args.query.now.query c.args.tables.now c.columns-item-items.result.now c.loop-item.item-index (0, 0) c.requires.fits.within c.columns-item-items.ensures c.loop-item-test.true in
-    rw c.table_of-table.ensures there.column
+    let row = row_there c.args.tables.now c.args.query.now.query.items c.args.rows.now (get_or c.columns-item-items.result.now c.loop-item.item-index (0, 0)).0 c.requires.rows there.item in
+    rw c.table_of-table.ensures (record { table = there.table; first = row.first; row = row.last; column = there.column })
 
 pub loop-item-preserved : goal.loop-item-preserved
 loop-item-preserved c = λ fields has.

@@ -12,15 +12,10 @@ pub table_of-requires : goal.table_of-requires
 table_of-requires c =
     (column_there c.args.query.now.query c.args.tables.now c.columns-item-items.result.now c.loop-item.item-index (0, 0) c.requires.within c.columns-item-items.ensures c.loop-item-test.true).item
 
-pub name-requires-clause-table : goal.name-requires-clause-table
-name-requires-clause-table c =
+pub name-requires : goal.name-requires
+name-requires c =
     let there = column_there c.args.query.now.query c.args.tables.now c.columns-item-items.result.now c.loop-item.item-index (0, 0) c.requires.within c.columns-item-items.ensures c.loop-item-test.true in
-    rw c.table_of.ensures there.table
-
-pub name-requires-clause-column : goal.name-requires-clause-column
-name-requires-clause-column c =
-    let there = column_there c.args.query.now.query c.args.tables.now c.columns-item-items.result.now c.loop-item.item-index (0, 0) c.requires.within c.columns-item-items.ensures c.loop-item-test.true in
-    rw c.table_of.ensures there.column
+    rw c.table_of.ensures (record { table = there.table; column = there.column })
 
 pub loop-item-preserved : goal.loop-item-preserved
 loop-item-preserved c = λ fields has.
