@@ -63,6 +63,7 @@ impl DirectIndex {
 
     /// The number of a link. A new link is added after the others, and a table that is too short
     /// for it grows. It counts one step. `NoMemory` if memory is refused.
+    #[inline(always)]
     pub fn insert<L: Ledger>(&mut self, link: u32, steps: &mut Steps<L>) -> Result<u32, NoMemory>
         requires { length self.old ≤ most_links }
         ensures links { OnOk result (self.new ≡ insert_key nat_eq self.old link) }

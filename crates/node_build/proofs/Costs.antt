@@ -1,7 +1,9 @@
 -- The nodes have no more rows than the tables of all items.
 use Rattle.std.proofs.Common.{◌≡◌, ◌<◌, ◌≤◌, ◌+◌, ◌*◌, ℕ, suc, List, [], ◌∷◌, map, length, sum, get_or, refl, sym, ap, ◌∙◌, inr, arith, Vec, Global}
 use Rattle.std.specs.List.{range_with_len, sum_by}
-use Rattle.std.proofs.Math.Nat.{mul-le-mul_right}
+use Rattle.std.proofs.Math.Nat.{mul-le-mul_left, mul-le-mul_right}
+use Rattle.tdp_core.specs.TreeView.{kids_below}
+use Rattle.tdp_core.proofs.Children.{kids_below_child}
 use Rattle.std.proofs.lemmas.List.Sums.{sum-map}
 use Rattle.tdp_model.specs.TreeProblem.{sum_from}
 use Rattle.join_tree.specs.declared.tree.JoinTree.{JoinTree}
@@ -13,6 +15,7 @@ use Rattle.bound_query.proofs.NodeSums.{fewer_nodes, lengths_fewer, over}
 use Rattle.node_build.specs.Nodes.{IsJoinTreeOf, TellsFault, item_of}
 use Rattle.node_build.specs.Rows.{HaveRows, lists_of, table_rows}
 use Rattle.node_build.specs.declared.built.BuildFault.TheVariants as fault
+use Rattle.node_build.proofs.Naming.{kids_rise}
 use Rattle.node_build.proofs.Shaped.{apart, few_nodes_lem}
 
 -- a sum over the numbers of a list's elements
@@ -69,19 +72,31 @@ past_budget bound tables join rows of_nodes budget past =
 
 -- ---- the steps of loops over rows, over lists of rows and over children
 
-pub one_row : (old before after i n : ℕ) → before ≤ old + i * n → after ≤ before + n → after ≤ old + (i + 1) * n
-one_row old before after i n so_far more = omega arith
-
-pub rows_within : (old before after i n size : ℕ) → i < size → before ≤ old + i * n → after ≤ before + n → after ≤ old + size * n
-rows_within old before after i n size inside so_far more =
-    let less : i + 1 ≤ size = omega arith in
-    omega (arith, mul-le-mul_right n less)
-
 pub one_list : (old before after s l x t n : ℕ) → l ≡ x → t ≡ s + x → before ≤ old + s * n → after ≤ before + l * n → after ≤ old + t * n
 one_list old before after s l x t n same sum so_far more = omega (arith, ap (λ (k : ℕ). k * n) same, ap (λ (k : ℕ). k * n) sum)
 
 pub lists_within : (old before after s l x total n : ℕ) → l ≡ x → s + x ≤ total → before ≤ old + s * n → after ≤ before + l * n → after ≤ old + total * n
 lists_within old before after s l x total n same sum so_far more = omega (arith, ap (λ (k : ℕ). k * n) same, mul-le-mul_right n sum)
 
-pub one_child : (old before after k more : ℕ) → more ≡ k + 1 → before ≤ old + k → after ≡ before + 1 → after ≤ old + more
-one_child old before after k more sum so_far one = omega arith
+pub one_column : (old before after n k more : ℕ) → more ≡ k + 1 → before ≤ old + n * k → after ≤ before + n → after ≤ old + n * more
+one_column old before after n k more sum so_far one = omega (arith, ap (λ (m : ℕ). n * m) sum)
+
+pub columns_within : (parent : ℕ → ℕ) (v q nodes n old before after : ℕ) → 0 < q → q < nodes → parent q ≡ v → before ≤ old + n * kids_below parent v q → after ≤ before + n
+    → after ≤ old + n * kids_below parent v nodes
+columns_within parent v q nodes n old before after some inside below so_far one =
+    let more = kids_below_child parent v q some below in
+    let rise = kids_rise parent v (q + 1) nodes (omega (arith, inside)) in
+    let most = mul-le-mul_left n rise in
+    omega (arith, most, one_column old before after n (kids_below parent v q) (kids_below parent v (q + 1)) more so_far one)
+
+-- the steps of the own links of a node's rows, and those of all its links
+pub own_cost : (old now n nodes : ℕ) → 0 < nodes → now ≤ old + n → now ≤ old + n * nodes
+own_cost old now n nodes some h =
+    let one : 1 ≤ nodes = omega (arith, some) in
+    let most = mul-le-mul_left n one in
+    omega (arith, h, most)
+
+pub node_cost : (old mid now n kids nodes : ℕ) → kids + 1 ≤ nodes → mid ≤ old + n → now ≤ mid + n * kids → now ≤ old + n * nodes
+node_cost old mid now n kids nodes few own h =
+    let most = mul-le-mul_left n few in
+    omega (arith, own, h, most)

@@ -16,3 +16,6 @@ pub mod Results
 pub mod ShapeOf
 pub mod Shaped
 pub mod Sharing
+pub mod LinkLists
+pub mod ChildColumns
+pub mod ColumnRows

@@ -58,14 +58,6 @@ kids_rise parent v n m l =
     let all : m - n + n ≡ m = omega (arith, l) in
     omega (arith, kids_more parent v n (m - n), ap (kids_below parent v) all)
 
--- one step more for a child stays within one step for each child
-pub links_cost : (parent : ℕ → ℕ) (v q n start before now : ℕ) → 0 < q → q < n → parent q ≡ v → before ≤ start + kids_below parent v q → now ≡ before + 1
-    → now ≤ start + kids_below parent v n
-links_cost parent v q n start before now some inside below cost step =
-    let one = kids_below_child parent v q some below in
-    let rise = kids_rise parent v (q + 1) n (omega (arith, inside)) in
-    omega (arith, rise, one, cost, step)
-
 -- ---- names
 
 module _ (bound : BoundQuery) (tables : List Table) (join : JoinTree) (own above : List (List ℕ)) where

@@ -1,5 +1,5 @@
 -- Facts of a result.
-use Rattle.std.proofs.Common.{◌≡◌, Result, Ok, Err, OnOk, sym, subst}
+use Rattle.std.proofs.Common.{◌≡◌, Result, Ok, Err, IfOk, OnOk, sym, subst}
 use Rattle.std.specs.Result.{IfErr, IsErr, IsErrAnd}
 use Rattle.std.proofs.lemmas.Result.{IfOk-from_err}
 
@@ -10,6 +10,10 @@ on_ok (Err e) p = tt
 pub on_ok_map : {T E P Q : Type 0} (r : Result T E) → (P → Q) → OnOk r P → OnOk r Q
 on_ok_map (Ok x) f p = f p
 on_ok_map (Err e) f p = tt
+
+pub if_ok_map : {T E : Type 0} {P Q : T → Type 0} (r : Result T E) → ((x : T) → P x → Q x) → IfOk r P → IfOk r Q
+if_ok_map (Ok x) f p = f x p
+if_ok_map (Err e) f p = tt
 
 -- nothing is asked after an error
 pub failed : {T E : Type 0} (r : Result T E) (P : Type 0) → IsErr r → OnOk r P

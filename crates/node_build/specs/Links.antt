@@ -24,6 +24,14 @@ IsLink lists q n [] = n ≡ 0
 IsLink lists q n (value ∷ []) = n ≡ value
 IsLink lists q n (first ∷ second ∷ rest) = IsNumbered lists q n (first ∷ second ∷ rest)
 
+-- the links at node q of the values that each of some rows has in some columns
+pub record AreLinks (lists : List (List (List ℕ))) (q : ℕ) (tables : List Table) (table : Table)
+    (rows columns numbers : List ℕ) : Type 0 where
+  pub count : length numbers ≡ length rows
+  pub each : (r : ℕ) → r < length rows
+      → IsLink lists q (slice_index numbers r)
+      (values_in tables table (slice_index rows r) columns)
+
 module _ (bound : BoundQuery) (tables : List Table) (join : JoinTree)
     (own above : List (List ℕ)) where
   -- the values that a row of node v has in some columns

@@ -1,12 +1,13 @@
 -- What the nodes are filled from: a query over its tables, its join tree, and columns.
-use Rattle.std.specs.Prelude.{ℕ, List, length}
+use Rattle.std.specs.Prelude.{ℕ, ◌<◌, List, [], length, slice_index, slice_index_or}
 use Rattle.tdp_model.specs.KeyTuple.{KeyOf}
 use Rattle.tdp_core.specs.RawView.{RawRowView}
 use Rattle.tdp_core.specs.TreeView.{kids_below}
 use Rattle.tdp_core.specs.declared.parts.NodeShape.{NodeShape}
 use Rattle.node_build.specs.Columns.{HaveColumns}
 use Rattle.node_build.specs.Links.{HasRowsOf, IsRowOf, NamesLinks}
-use Rattle.node_build.specs.Nodes.{AreReady, IsRowAt, parent_of}
+use Rattle.rank_key.specs.Keys.{row_key}
+use Rattle.node_build.specs.Nodes.{AreReady, IsRowAt, item_of, parent_of, row_parts}
 use Rattle.node_build.specs.Rows.{lists_of}
 use Rattle.node_build.specs.Shapes.{AreShapesOf}
 use Rattle.node_build.specs.declared.source.NodeSource.{NodeSource}
@@ -41,6 +42,12 @@ module _ (source : NodeSource) where
   abbrev pub HasRow : ℕ → ℕ → Type 0
   HasRow v row = IsRowAt source.query.now.query source.tables.now source.join.now v row
 
+  -- the key of the rank of a row of node v
+  abbrev pub rank_key_at : (d : ℕ) → ℕ → ℕ → KeyOf d 16
+  rank_key_at d v row = row_key d
+      (row_parts source.query.now source.tables.now (item_of source.join.now v) row)
+      (item_of source.join.now v) row
+
   -- the shapes are those of all nodes
   abbrev pub HasShapes : List NodeShape → Type 0
   HasShapes shapes = AreShapesOf source.query.now source.tables.now source.join.now node_count
@@ -50,6 +57,11 @@ module _ (source : NodeSource) where
   abbrev pub NamesChildren : List (List (List ℕ)) → ℕ → ℕ → List ℕ → Type 0
   NamesChildren lists v row children = NamesLinks source.query.now source.tables.now
       source.join.now own_columns above_columns lists v row node_count children
+
+  -- the same of each of some rows
+  abbrev pub NameChildren : List (List (List ℕ)) → ℕ → List ℕ → List (List ℕ) → Type 0
+  NameChildren lists v rows named = (r : ℕ) → r < length rows
+      → NamesChildren lists v (slice_index rows r) (slice_index_or named r [])
 
   -- the raw tree's row for a row of node v
   abbrev pub IsNodeRow : {R : Type 0} (d : ℕ) (key : R → KeyOf d 16) → List (List (List ℕ))

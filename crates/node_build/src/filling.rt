@@ -11,7 +11,7 @@ ghost use Rattle.node_build.specs.Sources.{HasColumns, HasShapes, IsReady, above
 use crate::columns::columns_of;
 use crate::node::add_rows;
 use crate::shapes::shapes_of;
-use crate::source::{NodeLinks, NodeSource};
+use crate::source::NodeSource;
 use bound_query::Query;
 use join_tree::JoinTree;
 use link_index::ListIndex;
@@ -45,9 +45,7 @@ pub(crate) fn filled_tree<R: Rank, L: Ledger>(
     let keys = tables.keys();
     let mut tree = RawTree::with_keys(alloc, shapes.as_slice(), keys)?;
     let columns = columns_of(alloc, query, join)?;
-    let lists = ListIndex::new(alloc, join.count, keys)?;
-    let named = Vec::new(alloc);
-    let mut links = NodeLinks { lists, named };
+    let mut links = ListIndex::new(alloc, join.count, keys)?;
     let source = NodeSource {
         query,
         tables,
@@ -64,7 +62,7 @@ fn add_nodes<R: Rank, L: Ledger>(
     alloc: Global,
     source: &NodeSource<'_>,
     rows: &[Vec<u32>],
-    links: &mut NodeLinks,
+    links: &mut ListIndex,
     tree: &mut RawTree<R>,
     steps: &mut Steps<L>,
 ) -> Result<(), NoMemory>
@@ -73,10 +71,10 @@ fn add_nodes<R: Rank, L: Ledger>(
     requires rows { HaveRows source.now.query.now.query source.now.tables.now source.now.join.now
         (node_count source.now) (lists_of rows.now) }
     requires room { sum_by length (lists_of rows.now) ≤ most_node_rows }
-    requires links { length links.old.lists ≡ node_count source.now }
+    requires links { length links.old ≡ node_count source.now }
     requires shapes { HasShapes source.now tree.old.shapes }
     requires none { AreFilled source.now.query.now source.now.tables.now source.now.join.now
-        (own_columns source.now) (above_columns source.now) R.KEYS R.key links.old.lists 0
+        (own_columns source.now) (above_columns source.now) R.KEYS R.key links.old 0
         (lists_of rows.now) tree.old }
     ensures shapes { OnOk result (HasShapes source.now tree.new.shapes) }
     ensures filled { OnOk result

@@ -1,12 +1,14 @@
 //! The shapes of the nodes, and the ranks of their rows.
-ghost use Rattle.std.specs.Prelude.{◌≡◌, ◌<◌, ◌≤◌, ℕ, List, length, take, IfOk, slice_index};
+ghost use Rattle.std.specs.Prelude.{◌≡◌, ◌<◌, ◌≤◌, ℕ, List, length, take, IfOk, map, slice_index};
 ghost use Rattle.anyk_model.specs.Table.{Table};
 ghost use Rattle.rank_key.specs.Keys.{row_key};
 ghost use Rattle.bound_query.specs.WeighedQuery.{Fits};
 ghost use Rattle.bound_query.specs.Weights.{table_in};
 ghost use Rattle.node_build.specs.Nodes.{AreReady, IsJoinTreeOf, IsRowAt, item_of, cap_at, row_parts};
 ghost use Rattle.node_build.specs.Shapes.{AreShapesOf};
+ghost use Rattle.node_build.specs.Sources.{HasRow, IsReady, rank_key_at};
 
+use crate::source::NodeSource;
 use bound_query::Query;
 use join_tree::JoinTree;
 use rank_key::Rank;
@@ -95,4 +97,31 @@ pub(crate) fn rank_of<R: Rank>(
     }
     let parts = parts_of(query, tables, item, row);
     R::of_row(&parts[..query.keys() as usize], item, row)
+}
+
+/// The ranks of some rows of a node, in their order.
+pub(crate) fn ranks_of<R: Rank>(
+    alloc: Global,
+    source: &NodeSource<'_>,
+    node: u32,
+    rows: &[u32],
+) -> Result<Vec<R>, NoMemory>
+    requires ready { IsReady source.now R.KEYS R.ITEMS R.LIMIT }
+    requires rows { (k : ℕ) → k < length rows.now
+        → HasRow source.now node (slice_index rows.now k) }
+    ensures { IfOk result
+        (λ ranks. map R.key ranks.items
+        ≡ map (rank_key_at source.now R.KEYS node) rows.now) }
+{
+    let NodeSource {
+        query,
+        tables,
+        join,
+        ..
+    } = *source;
+    let mut ranks = Vec::with_capacity(alloc, rows.len())?;
+    for row in rows {
+        ranks.push_reserved(rank_of(query, tables, join, node, *row));
+    }
+    Ok(ranks)
 }

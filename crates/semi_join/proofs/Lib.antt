@@ -23,3 +23,5 @@ pub mod SameShapes
 pub mod SoFar
 pub mod Totals
 pub mod WholeReduction
+pub mod InPlace
+pub mod Sources

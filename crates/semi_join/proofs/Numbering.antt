@@ -75,3 +75,11 @@ module _ {X Y : Type 0} (f : X → Y) where
   pub map_snoc : (xs : List X) (x : X) → map f (xs ++ (x ∷ [])) ≡ map f xs ++ (f x ∷ [])
   map_snoc [] x = refl
   map_snoc (y ∷ ys) x = ap (λ l. f y ∷ l) (map_snoc ys x)
+
+-- one link more at most
+pub inserted_few : (links now : List ℕ) (link n : ℕ) → now ≡ insert_key nat_eq links link → length links ≤ n → length now ≤ suc n
+inserted_few links now link n is few = by (list_any (nat_eq link) links) (ap length is)
+  where
+    by : (b : Bool) → length now ≡ length (if b then links else links ++ (link ∷ [])) → length now ≤ suc n
+    by true e = omega (arith, e, few)
+    by false e = omega (arith, e, few, length-append links (link ∷ []))

@@ -6,10 +6,9 @@ use Rattle.std.proofs.lemmas.List.Elements.{All-from_get_or}
 use Rattle.std.proofs.lemmas.List.Folds.{list_any_at, list_any_none}
 use Rattle.std.proofs.lemmas.List.Quantifiers.{position-Some}
 use Rattle.std.proofs.lemmas.List.Sums.{fails_before_first}
-use Rattle.tdp_core.specs.RawView.{RawView, child_link}
 use Rattle.semi_join.specs.declared.group_links.GroupLinks.{GroupLinks}
-use Rattle.semi_join.specs.Reduction.{links_of, AreFew, child_nodes, child_links}
-use Rattle.semi_join.proofs.FirstOnes.{has_first, has_more, named_first, named_last}
+use Rattle.semi_join.specs.Reduction.{links_of, AreFew, are_met, groups_met, links_below}
+use Rattle.semi_join.proofs.FirstOnes.{groups_more, met_more}
 
 pub links_read : (ls : List GroupLinks) (k : ℕ) (s : GroupLinks) → k < length ls → s ≡ get_or ls k s → get_or (map links_of ls) k [] ≡ links_of s
 links_read [] k s h e = absurd (omega arith)
@@ -43,29 +42,32 @@ found_place p xs i e = by (nat_lt (position_or_len p xs) (length xs)) e
     by true q = cc
     by false q = cc
 
-module _ {R : Type 0} (raw : RawView R) (v : ℕ) (later : List (List ℕ)) where
+module _ (children : List ℕ) (v : ℕ) (later : List (List ℕ)) (links : List ℕ) where
   -- the links of the groups of a child, as they are read
-  pub child_links_at : (ls : List GroupLinks) (children : List ℕ) (c : ℕ) (s : GroupLinks) → later ≡ map links_of ls → children ≡ child_nodes raw v → get_or children c 0 - v - 1 < length ls
-      → s ≡ get_or ls (get_or children c 0 - v - 1) s → child_links raw v later c ≡ links_of s
-  child_links_at ls children c s l e within read =
-      ap (λ ks. get_or later (get_or ks c 0 - v - 1) []) (sym e) ∙ ap (λ xs. get_or xs (get_or children c 0 - v - 1) []) l ∙ links_read ls (get_or children c 0 - v - 1) s within read
+  pub links_below_at : (ls : List GroupLinks) (c : ℕ) (s : GroupLinks) → later ≡ map links_of ls → get_or children c 0 - v - 1 < length ls → s ≡ get_or ls (get_or children c 0 - v - 1) s
+      → links_below children v later links c ≡ links_of s
+  links_below_at ls c s l within read = ap (λ xs. get_or xs (get_or children c 0 - v - 1) []) l ∙ links_read ls (get_or children c 0 - v - 1) s within read
 
-  pub met_more : (n i : ℕ) (keys : List ℕ) → child_links raw v later n ≡ keys → has_first raw v later n i ≡ true → list_any (nat_eq (child_link raw v i n)) keys ≡ true → has_first raw v later (n + 1) i ≡ true
-  met_more n i keys e m h = ap (λ j. has_first raw v later j i) (add-one n) ∙ has_more raw v later n i ∙ and_from _ _ m (ap (list_any (nat_eq (child_link raw v i n))) e ∙ h)
+  pub one_met : (n : ℕ) (keys : List ℕ) → links_below children v later links n ≡ keys → are_met children v later links n ≡ true → list_any (nat_eq (get_or links n 0)) keys ≡ true
+      → are_met children v later links (n + 1) ≡ true
+  one_met n keys e m h = ap (are_met children v later links) (add-one n) ∙ met_more children v later links n ∙ and_from _ _ m (ap (list_any (nat_eq (get_or links n 0))) e ∙ h)
 
-  pub named_more : (n i number : ℕ) (keys numbers : List ℕ) → child_links raw v later n ≡ keys → numbers ≡ named_first raw v later n i → Some number ≡ position (nat_eq (child_link raw v i n)) keys
-      → numbers ++ (number ∷ []) ≡ named_first raw v later (n + 1) i
-  named_more n i number keys numbers e m h =
+  pub one_named : (n number : ℕ) (keys numbers : List ℕ) → links_below children v later links n ≡ keys → numbers ≡ groups_met children v later links n → Some number ≡ position (nat_eq (get_or links n 0)) keys
+      → numbers ++ (number ∷ []) ≡ groups_met children v later links (n + 1)
+  one_named n number keys numbers e m h =
       ap (λ xs. xs ++ (number ∷ [])) m
-      ∙ ap (λ k. named_first raw v later n i ++ (k ∷ [])) (sym (found_place (nat_eq (child_link raw v i n)) keys number h) ∙ ap (position_or_len (nat_eq (child_link raw v i n))) (sym e))
-      ∙ sym (named_last raw v later n i)
+      ∙ ap (λ k. groups_met children v later links n ++ (k ∷ [])) (sym (found_place (nat_eq (get_or links n 0)) keys number h) ∙ ap (position_or_len (nat_eq (get_or links n 0))) (sym e))
+      ∙ sym (groups_more children v later links n)
 
   -- one child whose groups the row does not name is enough
-  pub not_met : (k n i : ℕ) → has_first raw v later (n + 1) i ≡ false → has_first raw v later (k + (n + 1)) i ≡ false
-  not_met zero n i h = let same : n + 1 ≡ 0 + (n + 1) = omega arith in subst (λ j. has_first raw v later j i ≡ false) same h
-  not_met (suc k) n i h = let more : suc k + (n + 1) ≡ suc (k + (n + 1)) = omega arith in ap (λ j. has_first raw v later j i) more ∙ has_more raw v later (k + (n + 1)) i ∙ falls _ _ (not_met k n i h)
+  not_met : (k n : ℕ) → are_met children v later links (n + 1) ≡ false → are_met children v later links (k + (n + 1)) ≡ false
+  not_met zero n h = let same : n + 1 ≡ 0 + (n + 1) = omega arith in subst (λ j. are_met children v later links j ≡ false) same h
+  not_met (suc k) n h =
+      let more : suc k + (n + 1) ≡ suc (k + (n + 1)) = omega arith in
+      ap (are_met children v later links) more ∙ met_more children v later links (k + (n + 1)) ∙ falls _ _ (not_met k n h)
 
-  pub missed : (n all i : ℕ) (keys : List ℕ) → n < all → child_links raw v later n ≡ keys → list_any (nat_eq (child_link raw v i n)) keys ≡ false → has_first raw v later all i ≡ false
-  missed n all i keys less e h =
+  pub one_missed : (n all : ℕ) (keys : List ℕ) → n < all → links_below children v later links n ≡ keys → list_any (nat_eq (get_or links n 0)) keys ≡ false → are_met children v later links all ≡ false
+  one_missed n all keys less e h =
       let whole : (all - (n + 1)) + (n + 1) ≡ all = omega arith in
-      subst (λ j. has_first raw v later j i ≡ false) whole (not_met (all - (n + 1)) n i (ap (λ j. has_first raw v later j i) (add-one n) ∙ has_more raw v later n i ∙ and_right _ _ (ap (list_any (nat_eq (child_link raw v i n))) e ∙ h)))
+      subst (λ j. are_met children v later links j ≡ false) whole
+      (not_met (all - (n + 1)) n (ap (are_met children v later links) (add-one n) ∙ met_more children v later links n ∙ and_right _ _ (ap (list_any (nat_eq (get_or links n 0))) e ∙ h)))

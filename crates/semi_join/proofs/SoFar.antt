@@ -1,5 +1,5 @@
 -- What stays of the first rows of a node.
-use Rattle.std.proofs.Common.{◌≡◌, ℕ, suc, ◌+◌, ◌-◌, ◌*◌, ◌<◌, ◌≤◌, true, false, cond, nat_eq, List, [], ◌∷◌, ◌++◌, map, length, get_or, refl, sym, ap, subst, ◌∙◌, arith, add-one, length-append, Some, None, Option, IfNone}
+use Rattle.std.proofs.Common.{◌≡◌, ℕ, suc, ◌+◌, ◌-◌, ◌*◌, ◌<◌, ◌≤◌, true, false, cond, nat_eq, List, [], ◌∷◌, ◌++◌, map, length, get_or, refl, sym, ap, subst, ◌∙◌, arith, add-one, length-append, Some}
 use Rattle.std.proofs.Math.Nat.{mul-le-mul_left}
 use Rattle.indexmap.specs.IndexSet.{insert_key, insert_all}
 use Rattle.tdp_model.specs.NodeRows.{most_node_rows}
@@ -119,9 +119,6 @@ module _ {R : Type 0} (raw : RawView R) (v : ℕ) (later : List (List ℕ)) wher
 
   pub few_links : (i : ℕ) (kept : List (NodeRow R)) (named : List (List ℕ)) (links numbers : List ℕ) → IsSoFar i kept named links numbers → length links ≤ i
   few_links i kept named links numbers s = omega (arith, s.few, s.numbering.few, length-map (group_link raw v) (kept_first raw v later i))
-
-  pub missing_row : {X : Type 0} (o : Option X) (i : ℕ) → o ≡ None → IfNone o (has_partners raw v later i ≡ false) → has_partners raw v later i ≡ false
-  missing_row o i e h = subst (λ x. IfNone x (has_partners raw v later i ≡ false)) e h
 
   -- all rows that stay, after the last one
   pub all_kept : (i : ℕ) (rows : List (NodeRow R)) (named : List (List ℕ)) (links numbers : List ℕ) → i ≡ raw_len raw v → i ≤ most_node_rows

@@ -60,6 +60,7 @@ impl GroupLinks {
     }
 
     /// The number of a link. A new link is added after the others. It counts one step.
+    #[inline(always)]
     pub(crate) fn insert<L: Ledger>(
         &mut self,
         link: u32,

@@ -22,8 +22,8 @@ pub struct Reduced<R> {
 /// Drops the rows that extend to no solution of their subtree, from the last node up to the root,
 /// and puts those that are left into groups. Each look-up of a link that a row names and each
 /// insertion of a link counts one step, whether links are found by a table or by hashing; laying
-/// out the tables and the groups counts none. The raw rows of a node are freed as soon as it is
-/// done. `NoMemory` if memory is refused.
+/// out the tables and the groups counts none. The rows that are left stay in the memory of the
+/// raw rows. `NoMemory` if memory is refused.
 pub fn reduce<R: Rank, L: Ledger>(
     alloc: Global,
     raw: RawTree<R>,
@@ -40,7 +40,7 @@ pub fn reduce<R: Rank, L: Ledger>(
     reduced.and(Ok(Reduced { nodes }))
 }
 
-/// Reduces the nodes of a raw tree, from the last one up to the root, and clears each one there.
+/// Reduces the nodes of a raw tree, from the last one up to the root, and takes each one out of it.
 /// `later` gets the links of the groups of each. It owns nothing that it fills, so that an error
 /// leaves little to drop.
 fn reduce_nodes<R: Rank, L: Ledger>(
@@ -58,7 +58,6 @@ fn reduce_nodes<R: Rank, L: Ledger>(
 {
     for node in (0..tree.nodes()).rev() {
         let grouped = reduce_node(alloc, tree, node, later, steps)?;
-        tree.clear(node);
         nodes.insert(0, grouped.parts)?;
         later.insert(0, grouped.links)?;
     }

@@ -1,5 +1,6 @@
 -- Rows whose ranks and whose numbers lie in two lists.
-use Rattle.std.proofs.Common.{◌≡◌, ℕ, zero, suc, ◌<◌, List, [], ◌∷◌, ◌++◌, length, get_or, slice_get, Some, refl, ap, ◌∙◌, sym, arith}
+use Rattle.std.proofs.Common.{◌≡◌, ℕ, zero, suc, ◌<◌, List, [], ◌∷◌, ◌++◌, length, map, take, get_or, slice_get, Some, refl, ap, ◌∙◌, sym, arith}
+use Rattle.std.proofs.Math.ListN.{set}
 use Rattle.tdp_core.specs.declared.parts.NodeRow.{NodeRow}
 use Rattle.tdp_core.specs.RankedRows.{ranked_rows}
 
@@ -23,3 +24,25 @@ module _ {R : Type 0} where
   row_more row [] (n ∷ numbers) e = absurd (omega (arith, e))
   row_more row (r ∷ ranks) [] e = absurd (omega (arith, e))
   row_more row (r ∷ ranks) (n ∷ numbers) e = ap (λ l. record { rank = r; row = n } ∷ l) (row_more row ranks numbers (omega (arith, e)))
+
+  -- the ranks alone
+  pub ranks_are : (ranks : List R) (numbers : List ℕ) → length numbers ≡ length ranks → map (λ x. x.rank) (ranked_rows ranks numbers) ≡ ranks
+  ranks_are [] numbers e = refl
+  ranks_are (rank ∷ ranks) [] e = absurd (omega (arith, e))
+  ranks_are (rank ∷ ranks) (number ∷ numbers) e = ap (λ l. rank ∷ l) (ranks_are ranks numbers (omega (arith, e)))
+
+  -- another row in the place of one
+  pub row_set : (row : NodeRow R) (ranks : List R) (numbers : List ℕ) (i : ℕ) → length numbers ≡ length ranks
+      → ranked_rows (set ranks i row.rank) (set numbers i row.row) ≡ set (ranked_rows ranks numbers) i row
+  row_set row [] [] i e = refl
+  row_set row [] (n ∷ numbers) i e = absurd (omega (arith, e))
+  row_set row (r ∷ ranks) [] i e = absurd (omega (arith, e))
+  row_set row (r ∷ ranks) (n ∷ numbers) zero e = refl
+  row_set row (r ∷ ranks) (n ∷ numbers) (suc i) e = ap (λ l. record { rank = r; row = n } ∷ l) (row_set row ranks numbers i (omega (arith, e)))
+
+  -- the first rows
+  pub rows_take : (ranks : List R) (numbers : List ℕ) (n : ℕ) → ranked_rows (take n ranks) (take n numbers) ≡ take n (ranked_rows ranks numbers)
+  rows_take ranks numbers zero = refl
+  rows_take [] numbers (suc n) = refl
+  rows_take (rank ∷ ranks) [] (suc n) = refl
+  rows_take (rank ∷ ranks) (number ∷ numbers) (suc n) = ap (λ l. record { rank = rank; row = number } ∷ l) (rows_take ranks numbers n)

@@ -58,9 +58,9 @@ row_total t = sum_by length t.rows
 abbrev pub with_row : {R : Type 0} → RawView R → ℕ → RawRowView R → RawView R
 with_row t v x = record { shapes = t.shapes; rows = slice_set t.rows v (rows_at t v ++ x ∷ []) }
 
--- the tree without the rows of node v
-abbrev pub without_rows : {R : Type 0} → RawView R → ℕ → RawView R
-without_rows t v = record { shapes = t.shapes; rows = slice_set t.rows v [] }
+-- the tree with these rows at node v in place of those there
+abbrev pub with_rows : {R : Type 0} → RawView R → ℕ → List (RawRowView R) → RawView R
+with_rows t v xs = record { shapes = t.shapes; rows = slice_set t.rows v xs }
 
 module _ {R : Type 0} (t : RawView R) where
   -- how many rows node v has

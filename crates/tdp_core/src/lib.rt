@@ -19,5 +19,6 @@ pub use named_groups::NamedGroups;
 pub use node_rows::NodeRows;
 pub use parts::{NodeParts, NodeRow, NodeShape};
 pub use ranked::{Answer, Ranked};
+pub use raw_rows::RawColumns;
 pub use raw_tree::RawTree;
 pub use tree::Tree;

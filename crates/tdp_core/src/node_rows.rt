@@ -1,5 +1,6 @@
 //! The rows of a node, ranks and numbers apart.
-ghost use Rattle.std.specs.Prelude.{◌≡◌, ◌==◌, ◌<◌, Some, [], ◌∷◌, ◌++◌, length, slice_get, IfOk, OnOk, OnErr};
+ghost use Rattle.std.specs.Prelude.{◌≡◌, ◌==◌, ◌<◌, Some, [], ◌∷◌, ◌++◌, length, map, slice_get, slice_set, take, IfOk, OnOk, OnErr};
+ghost use Rattle.tdp_core.specs.RankedRows.{ranked_rows};
 
 use crate::parts::NodeRow;
 use std::alloc::Global;
@@ -28,6 +29,14 @@ impl<R> Model for NodeRows<R> {
 }
 
 impl<R: Copy> NodeRows<R> {
+    /// The rows with these ranks and these numbers, of which there are as many. Takes no memory.
+    pub fn of(ranks: Vec<R>, numbers: Vec<u32>) -> NodeRows<R>
+        requires { length numbers.items ≡ length ranks.items }
+        ensures { result ≡ ranked_rows ranks.items numbers.items }
+    {
+        NodeRows { ranks, numbers }
+    }
+
     /// No rows, with room for so many. `NoMemory` if memory is refused.
     pub fn with_capacity(alloc: Global, room: usize) -> Result<NodeRows<R>, NoMemory>
         ensures { IfOk result (λ rows. rows ≡ []) }
@@ -72,5 +81,29 @@ impl<R: Copy> NodeRows<R> {
             rank: self.ranks[i],
             row: self.numbers[i],
         }
+    }
+
+    /// The ranks of the rows.
+    pub fn ranks(&self) -> &[R]
+        ensures { result.now ≡ map (λ x. x.rank) self.now }
+    {
+        &self.ranks
+    }
+
+    /// Replaces row `i`, from 0.
+    pub fn set(&mut self, i: usize, row: NodeRow<R>)
+        requires { i < length self.old }
+        ensures { self.new ≡ slice_set self.old i row }
+    {
+        self.ranks[i] = row.rank;
+        self.numbers[i] = row.row;
+    }
+
+    /// Removes all rows but the first `count`.
+    pub fn truncate(&mut self, count: usize)
+        ensures { self.new ≡ take count self.old }
+    {
+        self.ranks.truncate(count);
+        self.numbers.truncate(count);
     }
 }

@@ -1,37 +1,44 @@
 //! The rows of a node before they are put into groups.
-ghost use Rattle.std.specs.Prelude.{◌≡◌, ◌+◌, ◌<◌, ◌≤◌, Some, [], ◌∷◌, ◌++◌, length, map, slice_get, slice_index, slice_index_or, OnOk, OnErr};
+ghost use Rattle.std.specs.Prelude.{◌≡◌, ◌<◌, ◌≤◌, Some, [], ◌∷◌, ◌++◌, length, map, slice_get, slice_index, slice_index_or, OnOk, OnErr};
+ghost use Rattle.tdp_model.specs.NodeRows.{most_node_rows};
 ghost use Rattle.std.specs.List.{All};
-ghost use Rattle.std.specs.Vec.{vec_capacity, vec_len};
-ghost use Rattle.tdp_core.specs.RawRows.{RawRowView};
+ghost use Rattle.tdp_core.specs.RawRows.{AreWhole, RawRowView, rows_of};
 
+use crate::named_groups::NamedGroups;
+use crate::node_rows::NodeRows;
 use crate::parts::NodeRow;
 use rank_key::Rank;
 use std::alloc::Global;
 use std::marker::Model;
 use step_counter::NoMemory;
 
-/// The rows of a node. Each has its own link, by which rows of the parent name it, and the link
-/// that it names for each child of its node, children in ascending order. Links are beside the
-/// rows, in lists of their own.
+/// The rows of a node and their links as columns. Each row has its own link, by which rows of the
+/// parent name it, and the link that it names for each child of its node, children in ascending
+/// order.
+#[derive(Drop)]
+pub struct RawColumns<R> {
+    pub rows: NodeRows<R>,
+    /// For each row its own link.
+    pub owns: Vec<u32>,
+    /// For each row the links that it names.
+    pub named: NamedGroups,
+}
+
+/// The rows of a node with their links.
 #[derive(Drop)]
 pub(crate) struct RawRows<R: Rank> {
-    rows: Vec<NodeRow<R>>,
-    owns: Vec<u32>,
-    /// The links that the rows name, row by row.
-    named: Vec<u32>,
-    /// The number of links that each row names.
-    width: usize,
+    columns: RawColumns<R>,
 }
 
 impl<R: Rank> Model for RawRows<R> {
     ghost use Rattle.std.specs.Prelude.{List};
-    ghost use Rattle.tdp_core.specs.RawRows.{RawRowView, raw_rows, AreRawRows};
+    ghost use Rattle.tdp_core.specs.RawRows.{AreWhole, RawRowView, rows_of};
 
     ghost Value = { List (RawRowView R) };
 
-    ghost view = { λ t. raw_rows t.width t.rows.items t.owns.items t.named.items };
+    ghost view = { λ t. rows_of t.columns };
 
-    ghost invariant = { λ t. AreRawRows t.width t.rows.items t.owns.items t.named.items };
+    ghost invariant = { λ t. AreWhole t.columns };
 }
 
 impl<R: Rank> RawRows<R> {
@@ -39,21 +46,28 @@ impl<R: Rank> RawRows<R> {
     pub(crate) fn new(alloc: Global) -> RawRows<R>
         ensures { result ≡ [] }
     {
+        let rows = NodeRows::of(Vec::new(alloc), Vec::new(alloc));
+        let owns = Vec::new(alloc);
+        let named = NamedGroups::none(alloc);
         RawRows {
-            rows: Vec::new(alloc),
-            owns: Vec::new(alloc),
-            named: Vec::new(alloc),
-            width: 0,
+            columns: RawColumns { rows, owns, named },
         }
     }
 
-    /// Reserves room for this many more rows. The rows stay as they are, even if memory is refused.
-    pub(crate) fn reserve(&mut self, more: usize) -> Result<(), NoMemory>
-        ensures { self.new ≡ self.old }
+    /// The rows of these columns. Takes no memory.
+    pub(crate) fn of(columns: RawColumns<R>) -> RawRows<R>
+        requires { AreWhole columns }
+        ensures { result ≡ rows_of columns }
     {
-        self.rows.reserve(more)?;
-        self.owns.reserve(more)?;
-        Ok(())
+        RawRows { columns }
+    }
+
+    /// Their columns. Takes no memory.
+    pub(crate) fn into_columns(self) -> RawColumns<R>
+        ensures whole { AreWhole result }
+        ensures rows { rows_of result ≡ self }
+    {
+        self.columns
     }
 
     /// Appends a row, which names as many links as those before it. After `NoMemory` the rows are
@@ -64,18 +78,21 @@ impl<R: Rank> RawRows<R> {
         own: u32,
         children: &[u32],
     ) -> Result<(), NoMemory>
-        requires { All (λ r. length r.children ≡ length children.now) self.old }
+        requires same { All (λ r. length r.children ≡ length children.now) self.old }
+        requires few { length self.old ≤ most_node_rows }
         ensures ok { OnOk result
             (self.new ≡ self.old ++ record { row = row; own = own; children = children.now } ∷ []) }
         ensures err { OnErr result (self.new ≡ self.old) }
     {
-        self.rows.reserve(1)?;
-        self.owns.reserve(1)?;
-        self.named.reserve(children.len())?;
-        self.rows.push_reserved(row);
-        self.owns.push_reserved(own);
-        push_each(&mut self.named, children);
-        self.width = children.len();
+        let columns = &mut self.columns;
+        let count = columns.rows.len();
+        columns.owns.reserve(1)?;
+        columns.named.push_first_or_next(children)?;
+        if let Err(refused) = columns.rows.push(row) {
+            columns.named.truncate(count);
+            return Err(refused);
+        }
+        columns.owns.push_reserved(own);
         Ok(())
     }
 
@@ -83,7 +100,7 @@ impl<R: Rank> RawRows<R> {
     pub(crate) fn len(&self) -> usize
         ensures { result ≡ length self.now }
     {
-        self.rows.len()
+        self.columns.rows.len()
     }
 
     /// Row `i`, from 0.
@@ -91,7 +108,7 @@ impl<R: Rank> RawRows<R> {
         requires { i < length self.now }
         ensures { slice_get (map (λ r. r.row) self.now) i ≡ Some result }
     {
-        self.rows[i]
+        self.columns.rows.get(i)
     }
 
     /// The own link of row `i`, from 0.
@@ -99,7 +116,7 @@ impl<R: Rank> RawRows<R> {
         requires { i < length self.now }
         ensures { result ≡ slice_index (map (λ r. r.own) self.now) i }
     {
-        self.owns[i]
+        self.columns.owns[i]
     }
 
     /// The link that row `i` names for one of the children. Both count from 0.
@@ -109,17 +126,6 @@ impl<R: Rank> RawRows<R> {
         ensures { result ≡ slice_index
             (slice_index_or (map (λ r. r.children) self.now) i []) child }
     {
-        self.named[i * self.width + child]
-    }
-}
-
-/// Appends numbers to a list that has room for them, one by one: for the few links of a row a call
-/// that copies memory takes longer.
-pub(crate) fn push_each(list: &mut Vec<u32>, numbers: &[u32])
-    requires { vec_len list.old + length numbers.now ≤ vec_capacity list.old }
-    ensures { list.new.items ≡ list.old.items ++ numbers.now }
-{
-    for number in numbers {
-        list.push_reserved(*number);
+        self.columns.named.get(i, child)
     }
 }

@@ -1,10 +1,12 @@
 //! Trees whose rows are not in groups yet.
-ghost use Rattle.std.specs.Prelude.{◌≡◌, ℕ, ◌+◌, ◌<◌, Some, [], length, replicate, IfOk, OnOk, OnErr};
+ghost use Rattle.std.specs.Prelude.{◌≡◌, ℕ, ◌+◌, ◌<◌, ◌≤◌, Some, [], length, replicate, IfOk, OnOk, OnErr};
+ghost use Rattle.std.specs.List.{All};
 ghost use Rattle.tdp_model.specs.NodeRows.{most_node_rows};
-ghost use Rattle.tdp_core.specs.RawView.{AreShapes, AreShapesHeld, IsRawFormed, RawRowFits, row_total, with_row, without_rows, shape_at, shape_children, raw_len, raw_row_at, raw_rank, raw_number, own_link, child_link};
+ghost use Rattle.tdp_core.specs.RawRows.{AreWhole, rows_of};
+ghost use Rattle.tdp_core.specs.RawView.{AreShapes, AreShapesHeld, IsRawFormed, RawRowFits, row_total, rows_at, with_row, with_rows, shape_at, shape_children, raw_len, raw_row_at, raw_rank, raw_number, own_link, child_link};
 
 use crate::parts::{NodeRow, NodeShape};
-use crate::raw_rows::RawRows;
+use crate::raw_rows::{RawColumns, RawRows};
 use hash_keys::Keys;
 use rank_key::Rank;
 use std::alloc::Global;
@@ -67,22 +69,28 @@ impl<R: Rank> RawTree<R> {
         self.keys
     }
 
-    /// Reserves room for this many more rows of a node. The tree stays as it is, even if memory is
-    /// refused.
-    pub fn reserve(&mut self, node: u32, more: usize) -> Result<(), NoMemory>
-        requires { node < length self.old.shapes }
-        ensures { self.new ≡ self.old }
+    /// Replaces the rows of a node by those of columns, which stay as they are. Takes no memory.
+    pub fn fill_node(&mut self, node: u32, columns: RawColumns<R>)
+        requires node { node < length self.old.shapes }
+        requires whole { AreWhole columns }
+        requires fits { All (RawRowFits R.KEYS R.key self.old.shapes node) (rows_of columns) }
+        requires room { row_total self.old + length (rows_of columns) ≤ most_node_rows }
+        ensures { self.new ≡ with_rows self.old node (rows_of columns) }
     {
-        self.rows[node as usize].reserve(more)
+        self.rows[node as usize] = RawRows::of(columns);
     }
 
-    /// Removes all rows of a node, and frees their memory.
-    pub fn clear(&mut self, node: u32)
+    /// Takes all rows of a node out of the tree. Takes no memory.
+    pub fn take_node(&mut self, node: u32) -> RawColumns<R>
         requires { node < length self.old.shapes }
-        ensures { self.new ≡ without_rows self.old node }
+        ensures rest { self.new ≡ with_rows self.old node [] }
+        ensures whole { AreWhole result }
+        ensures rows { rows_of result ≡ rows_at self.old node }
     {
         let alloc = *self.shapes.allocator();
-        self.rows[node as usize] = RawRows::new(alloc);
+        let none = RawRows::new(alloc);
+        let rows = std::mem::replace(&mut self.rows[node as usize], none);
+        rows.into_columns()
     }
 
     /// Appends a row to a node, with its own link and the link that it names for each child of the

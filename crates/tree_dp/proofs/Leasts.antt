@@ -21,14 +21,6 @@ module _ {R : Type 0} (d : ℕ) (key : R → KeyOf d 16) where
       ∙ ap (λ k. get_or (map key xs ++ key x ∷ []) k (key_none d 16)) (sym long ∙ sym (length-map xs key))
       ∙ get_or-append_seam (map key xs) (key x) [] (key_none d 16)
 
-  -- one more rank is put last
-  pub keys_pushed : (f : ℕ → KeyOf d 16) (ranks : List R) (rank : R) (n : ℕ) → length ranks ≡ n → ((m : ℕ) → m < n → key_at d key ranks m ≡ f m) → key rank ≡ f n
-      → (m : ℕ) → m < n + 1 → key_at d key (ranks ++ rank ∷ []) m ≡ f m
-  keys_pushed f ranks rank n long earlier here m h = elim (cases_eq m n) [
-    | inl e ↦ subst (λ k. key_at d key (ranks ++ rank ∷ []) k ≡ f k) (sym e) (key_at_last ranks rank n long ∙ here)
-    | inr ne ↦ key_at_front ranks rank m (omega arith) ∙ earlier m (omega arith)
-  ]
-
   -- one more group gets its order, and its least rank is put last
   pub leasts_pushed : (best leasts : List R) (least : R) (gs : List (List ℕ)) (n : ℕ) (new : List ℕ) → n < length gs → length leasts ≡ n
       → ((m : ℕ) → m < n → key_at d key leasts m ≡ key_at d key best (get_or (get_or gs m []) 0 0)) → key least ≡ key_at d key best (get_or new 0 0)
@@ -82,7 +74,6 @@ module _ {R Z : Type 0} (d : ℕ) (key : R → KeyOf d 16) (t : List (NodeView R
     pub group_within_lem : (g : ℕ) → g < group_count t q → g < length own.items
     group_within_lem g l = omega (arith, l, ap length own_is_lem, leasts.all_groups q (omega arith) inside)
 
-    -- the rank that is read for a group of a later node
-    pub least_read : (g : ℕ) (x : R) → g < group_count t q → x ≡ get_or own.items g x → key x ≡ best t d key q (get_or (members t q g) 0 0)
-    least_read g x l e =
-        ap key e ∙ sym (get_or-map key own.items g x (key_none d 16) (group_within_lem g l)) ∙ ap (λ xs. key_at d key xs g) (sym own_is_lem) ∙ leasts.firsts q g (omega arith) inside l
+    -- the least key of a group of a later node
+    pub least_at : (g : ℕ) → g < group_count t q → key_at d key own.items g ≡ best t d key q (get_or (members t q g) 0 0)
+    least_at g l = ap (λ xs. key_at d key xs g) (sym own_is_lem) ∙ leasts.firsts q g (omega arith) inside l

@@ -11,3 +11,4 @@ pub mod ReorderedNodes
 pub mod RootRows
 pub mod RowHeaps
 pub mod RowTotals
+pub mod JoinedBests

@@ -49,7 +49,7 @@ returns g c = record {
   shapes = subst (AreShapesOf c.args.source.now.query.now c.args.source.now.tables.now c.args.source.now.join.now c.args.source.now.join.now.count) (sym c.loop-node.invariant.shapes) c.requires.shapes;
   filled = let own = lists_of c.args.source.now.columns.now.own.items in
       let above = lists_of c.args.source.now.columns.now.above.items in
-      let lists = c.loop-node.links.lists in
+      let lists = c.loop-node.links in
       let all : c.loop-node.node ≡ c.args.source.now.join.now.count = omega arith in
       record {
         own = own;
@@ -84,8 +84,8 @@ loop-node-preserved g c =
     let above = lists_of c.args.source.now.columns.now.above.items in
     let vs = c.args.rows.now in
     let node = c.loop-node.node in
-    let old = c.loop-node.links.lists in
-    let new = c.add_rows.new.links.lists in
+    let old = c.loop-node.links in
+    let new = c.add_rows.new.links in
     let before = c.loop-node.invariant in
     let now = c.in_ok-add_rows.ensures in
     let inside : node < length vs = omega (arith, c.requires.rows.count, lists_length vs, c.loop-node-test.true) in

@@ -21,7 +21,7 @@ with_keys-requires-clause-held g c =
     g.R.Rank.KEYS g.R.Rank.key g.R.Rank.ITEMS g.R.Rank.LIMIT g.R.Rank.ROWS g.met.R.Rank.holds g.met.R.Rank.below_rows g.met.R.Rank.rows_fit (omega (arith, g.met.R.Rank.rows_held)) c.requires.ready.slots c.requires.ready.limit)
 
 pub add_nodes-added-requires-clause-links : goal.add_nodes-added-requires-clause-links
-add_nodes-added-requires-clause-links g c = lists_count c.in_ok-lists.lists c.args.join.now.count c.in_ok-lists.ensures
+add_nodes-added-requires-clause-links g c = lists_count c.in_ok-links.links c.args.join.now.count c.in_ok-links.ensures
 
 pub add_nodes-added-requires-clause-shapes : goal.add_nodes-added-requires-clause-shapes
 add_nodes-added-requires-clause-shapes g c =
@@ -35,7 +35,7 @@ add_nodes-added-requires-clause-none g c =
     let above = lists_of c.in_ok-columns.columns.above.items in
     let of_join = c.in_ok-shapes.ensures c.args.tables.now c.requires.ready.fits in
     let count : length c.as_slice.result.now ≡ join.count = ap (λ (xs : List NodeShape). length xs) c.as_slice.ensures.value ∙ of_join.count in
-    no_rows_yet c.args.query.now c.args.tables.now join own above g.R.Rank.KEYS g.R.Rank.key c.in_ok-lists.lists (lists_of c.args.rows.now) c.as_slice.result.now c.in_ok-tree.tree count c.in_ok-tree.ensures
+    no_rows_yet c.args.query.now c.args.tables.now join own above g.R.Rank.KEYS g.R.Rank.key c.in_ok-links.links (lists_of c.args.rows.now) c.as_slice.result.now c.in_ok-tree.tree count c.in_ok-tree.ensures
 
 pub returns : goal.returns
 returns g c =
@@ -66,10 +66,10 @@ returns-in_err-columns g c =
     let e = c.from_residual-in_err-columns.ensures.0 in
     record { shapes = IfOk-from_err r _ e; filled = IfOk-from_err r _ e; cost = omega arith }
 
-pub returns-in_err-lists : goal.returns-in_err-lists
-returns-in_err-lists g c =
-    let r = c.from_residual-in_err-lists.result in
-    let e = c.from_residual-in_err-lists.ensures.0 in
+pub returns-in_err-links : goal.returns-in_err-links
+returns-in_err-links g c =
+    let r = c.from_residual-in_err-links.result in
+    let e = c.from_residual-in_err-links.ensures.0 in
     record { shapes = IfOk-from_err r _ e; filled = IfOk-from_err r _ e; cost = omega arith }
 
 pub add_nodes-added-requires-clause-rows : goal.add_nodes-added-requires-clause-rows

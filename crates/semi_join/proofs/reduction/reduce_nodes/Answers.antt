@@ -3,7 +3,7 @@ use Rattle.std.specs.List.{sum_by}
 use Rattle.std.proofs.lemmas.List.{get_or-set_other}
 use Rattle.tdp_core.specs.RawView.{IsRawFormed, RawView, rows_at}
 use Rattle.tdp_core.specs.TreeView.{node_view}
-use Rattle.tdp_core.proofs.RawFacts.{formed_less}
+use Rattle.tdp_core.proofs.RawFacts.{formed_without}
 use Rattle.semi_join.specs.Reduction.{links_of, IsReducedNode, AreFew, group_links}
 use Rattle.tdp_core.proofs.LoopCounts.{at_list}
 use Rattle.semi_join.proofs.FromLast.{links_last, AreReducedLast}
@@ -65,10 +65,10 @@ loop-node-preserved g c =
     let reduced = subst (λ l. IsReducedNode raw v l part) before.links (reduced_same v later tree raw before.shapes same part found) in
     let keys : links ≡ group_links raw v later = c.in_ok-grouped.ensures.links ∙ ap (λ l. group_links tree v (map links_of l)) c.deref.ensures.value ∙ links_same v later tree raw before.shapes same in
     record {
-      formed = subst (IsRawFormed g.R.Rank.KEYS g.R.Rank.key) (sym c.clear.ensures) (formed_less g.R.Rank.KEYS g.R.Rank.key tree v before.formed here);
-      shapes = ap (λ (t : RawView g.row.R.Denot). t.shapes) c.clear.ensures ∙ before.shapes;
+      formed = subst (IsRawFormed g.R.Rank.KEYS g.R.Rank.key) (sym c.in_ok-grouped.ensures.rest) (formed_without g.R.Rank.KEYS g.R.Rank.key tree v before.formed here);
+      shapes = ap (λ (t : RawView g.row.R.Denot). t.shapes) c.in_ok-grouped.ensures.rest ∙ before.shapes;
       rows = λ u h.
-          ap (λ (t : RawView g.row.R.Denot). rows_at t u) c.clear.ensures ∙ get_or-set_other tree.rows v u [] [] (less_apart u v h) ∙ before.rows u (less_before u c.loop-node.node h);
+          ap (λ (t : RawView g.row.R.Denot). rows_at t u) c.in_ok-grouped.ensures.rest ∙ get_or-set_other tree.rows v u [] [] (less_apart u v h) ∙ before.rows u (less_before u c.loop-node.node h);
       reduced =
           subst (λ ps. AreReducedLast raw (length raw.shapes - v) (map node_view ps)) (sym c.in_ok-insert.ensures.items)
           (subst (λ n. AreReducedLast raw n (part ∷ map node_view c.loop-node.nodes.items)) at.more

@@ -1,97 +1,148 @@
-use Rattle.std.proofs.Common.{◌≡◌, ℕ, ◌+◌, ◌*◌, ◌<◌, ◌≤◌, Result, Ok, Err, IfOk, IsErr, [], ◌∷◌, length, length-append, sym, ap, subst, ◌∙◌, arith}
-use Rattle.std.proofs.Math.Nat.{mul-le-mul_right}
-use Rattle.std.proofs.lemmas.Bool.{false≢true}
+use Rattle.std.proofs.Common.{◌≡◌, ◌≢◌, ℕ, suc, ◌+◌, ◌-◌, ◌*◌, ◌<◌, ◌≤◌, List, length, map, get_or, sym, ap, subst, ◌∙◌, arith}
+use Rattle.std.proofs.lemmas.List.{length-map}
+use Rattle.tdp_model.specs.KeyTuple.{key_below, key_add, key_none}
+use Rattle.tdp_model.proofs.KeyTuples.{tuple_keys}
+use Rattle.rank_key.specs.Keys.{KeyFits}
 use Rattle.tdp_core.specs.declared.parts.NodeParts.{NodeParts}
-use Rattle.tdp_core.specs.TreeView.{tree_view, rows}
-use Rattle.tree_dp.specs.Orders.{key_at}
-use Rattle.tree_dp.specs.Progress.{by_children}
-use Rattle.tree_dp.proofs.Leasts.{keys_pushed}
-use Rattle.tdp_core.proofs.LoopCounts.{at_list, below_count, ended, none_below}
-use Rattle.tree_dp.proofs.NodeReads.{rows_read}
-use Rattle.tree_dp.proofs.bests.bests_of.Given.{Over}
-use Rattle.tree_dp.proofs.bests.bests_of.Goals.{After-len-row-end}
+use Rattle.tdp_core.specs.TreeView.{best, group, node_at, node_view, parent, rank, rows, tree_view}
+use Rattle.tdp_core.proofs.Children.{kids_below_child, kids_below_most, kids_below_other}
+use Rattle.tdp_core.proofs.LoopCounts.{at_list, past_by, past_it, past_next}
+use Rattle.tree_dp.specs.Orders.{joined_at, key_at}
+use Rattle.tree_dp.proofs.FirstParts.{first_part, first_part_other}
+use Rattle.tree_dp.proofs.JoinedBests.{all_steps, child_steps, group_there, joined_fits, no_child, none_joined, one_joined, place_there}
+use Rattle.tree_dp.proofs.LaterNodes.{no_kids_yet}
+use Rattle.tree_dp.proofs.NodeReads.{read_node}
+use Rattle.tree_dp.proofs.bests.bests_of.Goals.{then-nodes-child, else-nodes-child}
 use Rattle.tree_dp.proofs.bests.bests_of.Goals as goal
 
-none_given : {T E : Type 0} (P : T → Type 0) (r : Result T E) → IsErr r → IfOk r P
-none_given P (Ok x) h = absurd (false≢true h)
-none_given P (Err e) h = tt
+module _ {R : Type 0} (parts : List (NodeParts R)) (v : ℕ) (node : NodeParts R) (inside : v < length parts) (is : node ≡ get_or parts v node) where
+  same_node : node_view node ≡ node_at (tree_view parts) v
+  same_node = ap node_view is ∙ sym (read_node parts v node inside)
 
-steps_more : (n k : ℕ) → n ≤ n + k
-steps_more n k = omega arith
-
--- one more row, of those that a node has
-row_within : (start before after row count nodes : ℕ) → before ≤ start + row * nodes → after ≤ before + nodes → row < count → after ≤ start + count * nodes
-row_within start before after row count nodes h k l = omega (arith, mul-le-mul_right {m = row + 1} {n = count} nodes (omega (arith, l)))
-
-row_more : (start before after row nodes : ℕ) → before ≤ start + row * nodes → after ≤ before + nodes → after ≤ start + (row + 1) * nodes
-row_more start before after row nodes h k = omega (arith, h, k)
-
-row_count : (g : Over) (c : After-len-row-end g) → c.len-row-end.result ≡ rows (tree_view c.args.nodes.now) c.args.node
-row_count g c =
-    let node = c.index-nodes-node-2.result in
-    c.len-row-end.ensures ∙ ap (λ (p : NodeParts g.row.R.Denot). length p.rows) (sym c.index-nodes-node-2.is) ∙ rows_read c.args.nodes.now c.args.node node c.requires.node c.index-nodes-node-2.is
-
-pub loop-row-preserved : goal.loop-row-preserved
-loop-row-preserved g c =
+pub loop-child-init : goal.loop-child-init
+loop-child-init g c =
     let d = g.R.Rank.KEYS in
     let key = g.R.Rank.key in
-    let found = by_children d key (tree_view c.args.nodes.now) c.args.node in
-    let l = c.loop-row in
-    let best = c.row_best-best.result in
-    let pushed = c.in_ok-push.ensures.items in
+    let parts = c.args.nodes.now in
+    let t = tree_view parts in
+    let v = c.args.node in
+    let node = c.index-nodes-node.result in
+    let inside : v < length t = at_list _ _ _ c.requires.node (length-map parts node_view) in
+    let ranks : c.in_ok-bests.bests.items ≡ map (λ x. x.rank) (node_at t v).rows =
+    c.in_ok-bests.ensures.items ∙ c.ranks.ensures ∙ ap (λ n. map (λ x. x.rank) n.rows) (same_node parts v node c.requires.node c.index-nodes-node.is) in
+    let zero : v + 1 - suc v ≡ 0 = omega arith in
     record {
-      long = ap length pushed ∙ length-append l.bests.items (best ∷ []) ∙ ap (λ k. k + 1) l.invariant.long;
-      bests = λ r h. ap (λ xs. key_at d key xs r) pushed ∙ keys_pushed d key found l.bests.items best l.row l.invariant.long l.invariant.bests c.row_best-best.ensures.best r h;
-      counted = row_more c.args.steps.now l.steps c.row_best-best.new.steps l.row (length c.args.nodes.now) l.invariant.counted c.row_best-best.ensures.cost;
+      long = ap length ranks ∙ length-map (node_at t v).rows (λ x. x.rank);
+      placed = sym (no_kids_yet (parent t) (length t) v v c.requires.laid_out.shaped.parents_first inside (omega arith));
+      added = λ r h. none_joined d key t v r c.in_ok-bests.bests.items (v + 1 - suc v) ranks zero;
+      counted = omega arith;
     }
 
-pub loop-row-init : goal.loop-row-init
-loop-row-init g c =
-    record { long = ap length c.in_ok-bests.ensures.items; bests = λ r h. absurd (none_below r h); counted = steps_more c.args.steps.now _ }
+pub add_leasts-requires-clause-children : goal.add_leasts-requires-clause-children
+add_leasts-requires-clause-children g c = λ r h.
+    let parts = c.args.nodes.now in
+    let t = tree_view parts in
+    let v = c.args.node in
+    let q = c.loop-child.child in
+    let up : v < length t = at_list _ _ _ c.requires.node (length-map parts node_view) in
+    let inside : q < length t = at_list _ _ _ c.loop-child-test.true (length-map parts node_view) in
+    let is : parent t q ≡ v = ap (λ n. n.shape.parent) (read_node parts q c.index-nodes-child.result c.loop-child-test.true) ∙ c.if-nodes-child.true in
+    let names = ap (λ n. n.to_child) (same_node parts v c.index-nodes-node.result c.requires.node c.index-nodes-node.is) in
+    place_there g.R.Rank.KEYS g.R.Rank.key t c.requires.laid_out v up c.args.leasts.now c.requires.leasts q (past_it _ _ c.loop-child.auto.child) inside is c.index-leasts-child.result c.index-leasts-child.is
+    c.index-nodes-node.result.to_child.rows names c.loop-child.place c.loop-child.invariant.placed r (omega (arith, h, c.loop-child.invariant.long))
 
-pub row_best-best-requires-clause-row : goal.row_best-best-requires-clause-row
-row_best-best-requires-clause-row g c =
-    let at = goal.at.row_best-best-requires-clause-row g c in
-    let count = row_count g at.After-len-row-end in
-    below_count _ _ _ c.loop-row-test.true count
+pub add_leasts-requires-clause-groups : goal.add_leasts-requires-clause-groups
+add_leasts-requires-clause-groups g c = λ r h.
+    let parts = c.args.nodes.now in
+    let t = tree_view parts in
+    let v = c.args.node in
+    let q = c.loop-child.child in
+    let up : v < length t = at_list _ _ _ c.requires.node (length-map parts node_view) in
+    let inside : q < length t = at_list _ _ _ c.loop-child-test.true (length-map parts node_view) in
+    let is : parent t q ≡ v = ap (λ n. n.shape.parent) (read_node parts q c.index-nodes-child.result c.loop-child-test.true) ∙ c.if-nodes-child.true in
+    let names = ap (λ n. n.to_child) (same_node parts v c.index-nodes-node.result c.requires.node c.index-nodes-node.is) in
+    let there = group_there g.R.Rank.KEYS g.R.Rank.key t c.requires.laid_out v up c.args.leasts.now c.requires.leasts q (past_it _ _ c.loop-child.auto.child) inside is c.index-leasts-child.result c.index-leasts-child.is
+    c.index-nodes-node.result.to_child.rows names c.loop-child.place c.loop-child.invariant.placed r (omega (arith, h, c.loop-child.invariant.long)) in
+    omega (arith, there, ap length c.as_slice-least.ensures.value)
 
-pub returns-in_err-bests : goal.returns-in_err-bests
-returns-in_err-bests g c =
-    record {
-      count = none_given _ _ c.from_residual.ensures.0;
-      bests = none_given _ _ c.from_residual.ensures.0;
-      cost = steps_more c.args.steps.now _;
-    }
+pub add_leasts-requires-clause-fits : goal.add_leasts-requires-clause-fits
+add_leasts-requires-clause-fits g c = λ r h.
+    let d = g.R.Rank.KEYS in
+    let key = g.R.Rank.key in
+    let parts = c.args.nodes.now in
+    let t = tree_view parts in
+    let v = c.args.node in
+    let q = c.loop-child.child in
+    let up : v < length t = at_list _ _ _ c.requires.node (length-map parts node_view) in
+    let inside : q < length t = at_list _ _ _ c.loop-child-test.true (length-map parts node_view) in
+    let is : parent t q ≡ v = ap (λ n. n.shape.parent) (read_node parts q c.index-nodes-child.result c.loop-child-test.true) ∙ c.if-nodes-child.true in
+    let names = ap (λ n. n.to_child) (same_node parts v c.index-nodes-node.result c.requires.node c.index-nodes-node.is) in
+    let row : r < rows t v = omega (arith, h, c.loop-child.invariant.long) in
+    let fits = joined_fits d key t c.requires.laid_out v up c.args.leasts.now c.requires.leasts q (past_it _ _ c.loop-child.auto.child) inside is c.index-leasts-child.result c.index-leasts-child.is
+    c.index-nodes-node.result.to_child.rows names c.loop-child.place c.loop-child.invariant.placed r row c.requires.solved c.loop-child.bests.items (c.loop-child.invariant.added r row) in
+    subst (λ ls. KeyFits d key (joined_at d key c.loop-child.bests.items c.index-nodes-node.result.to_child.rows c.loop-child.place ls r)) (sym c.as_slice-least.ensures.value) fits
 
-pub returns-in_err-push : goal.returns-in_err-push
-returns-in_err-push g c =
-    let at = goal.at.returns-in_err-push g c in
-    let count = row_count g at.After-len-row-end in
-    record {
-      count = none_given _ _ c.from_residual-in_err-push.ensures.0;
-      bests = none_given _ _ c.from_residual-in_err-push.ensures.0;
-      cost = row_within c.args.steps.now c.loop-row.steps c.row_best-best.new.steps c.loop-row.row (rows (tree_view c.args.nodes.now) c.args.node) (length c.args.nodes.now) c.loop-row.invariant.counted c.row_best-best.ensures.cost (below_count _ _ _ c.loop-row-test.true count);
-    }
+pub overflow_add-place : goal.overflow_add-place
+overflow_add-place g c =
+    let t = tree_view c.args.nodes.now in
+    omega (
+      arith,
+      c.loop-child.invariant.placed,
+      kids_below_most (parent t) c.args.node c.loop-child.child,
+      c.loop-child-test.true,
+      length-map c.args.nodes.now node_view,
+      c.requires.laid_out.shaped.few_nodes,
+    )
 
-pub returns : goal.returns
-returns g c =
-    let at = goal.at.returns g c in
-    let count = row_count g at.After-len-row-end in
-    let all : c.loop-row.row ≡ rows (tree_view c.args.nodes.now) c.args.node = ended _ _ c.loop-row.auto.row-end c.loop-row-test.false ∙ count in
-    record {
-      count = c.loop-row.invariant.long ∙ all;
-      bests = λ r h. c.loop-row.invariant.bests r (at_list _ _ _ h all);
-      cost = subst (λ n. c.loop-row.steps ≤ c.args.steps.now + n * length c.args.nodes.now) all c.loop-row.invariant.counted;
-    }
+pub loop-child-preserved : goal.loop-child-preserved
+loop-child-preserved g c =
+    let d = g.R.Rank.KEYS in
+    let key = g.R.Rank.key in
+    let parts = c.args.nodes.now in
+    let t = tree_view parts in
+    let v = c.args.node in
+    let q = c.loop-child.child in
+    let l = c.loop-child.invariant in
+    let up : v < length t = at_list _ _ _ c.requires.node (length-map parts node_view) in
+    let inside : q < length t = at_list _ _ _ c.loop-child-test.true (length-map parts node_view) in
+    let later : v < q = past_it _ _ c.loop-child.auto.child in
+    let at : parent t q ≡ (get_or parts q c.index-nodes-child.result).shape.parent = ap (λ n. n.shape.parent) (read_node parts q c.index-nodes-child.result c.loop-child-test.true) in
+    let names = ap (λ n. n.to_child) (same_node parts v c.index-nodes-node.result c.requires.node c.index-nodes-node.is) in
+    let more : q + 1 - suc v ≡ suc (q - suc v) = past_next _ _ c.loop-child.auto.child in
+    let after : q ≡ suc v + (q - suc v) = past_by _ _ c.loop-child.auto.child in
+    elim c.if-nodes-child.branch [
+      | then-nodes-child w ↦
+          let is : parent t q ≡ v = at ∙ w.if-nodes-child.true in
+          let joined = w.add_leasts.ensures.joined in
+          let long : length c.if-nodes-child.bests.items ≡ length c.loop-child.bests.items = ap (λ b. length b.items) w.bests-is ∙ w.add_leasts.ensures.count in
+          record {
+            long = long ∙ l.long;
+            placed = w.place-is ∙ ap (λ z. z + 1) l.placed ∙ sym (kids_below_child (parent t) v q (omega (arith, later)) is);
+            added = λ r row.
+                let h : r < length c.loop-child.bests.items = omega (arith, row, l.long) in
+                ap (λ b. key_at d key b.items r) w.bests-is ∙ joined r h
+                ∙ ap (λ ls. joined_at d key c.loop-child.bests.items c.index-nodes-node.result.to_child.rows c.loop-child.place ls r) w.as_slice-least.ensures.value
+                ∙ one_joined d key t c.requires.laid_out v up c.args.leasts.now c.requires.leasts q later inside is w.index-leasts-child.result w.index-leasts-child.is
+                c.index-nodes-node.result.to_child.rows names c.loop-child.place l.placed r row c.loop-child.bests.items (l.added r row)
+                ∙ ap (first_part (key_below d 16) (key_add d 16) (key_none d 16) (tuple_keys d 16) (length t) (parent t) (rank t d key) (group t) (best t d key) v r) (sym more);
+            counted = subst (λ n. n ≤ c.args.steps.now + rows t v * (q + 1 - suc v)) (sym w.steps-is)
+                (child_steps v q c.args.steps.now c.loop-child.steps w.add_leasts.new.steps (rows t v) (length c.loop-child.bests.items) later l.long l.counted w.add_leasts.ensures.cost);
+          }
+      | else-nodes-child w ↦
+          let other : parent t q ≢ v = λ e. w.if-nodes-child.false (sym at ∙ e) in
+          record {
+            long = ap (λ b. length b.items) w.bests-is ∙ l.long;
+            placed = w.place-is ∙ l.placed ∙ sym (kids_below_other (parent t) v q other);
+            added = λ r row.
+                ap (λ b. key_at d key b.items r) w.bests-is ∙ l.added r row
+                ∙ sym (first_part_other (key_below d 16) (key_add d 16) (key_none d 16) (tuple_keys d 16) (length t) (parent t) (rank t d key) (group t) (best t d key) v r (q - suc v) q after other)
+                ∙ ap (first_part (key_below d 16) (key_add d 16) (key_none d 16) (tuple_keys d 16) (length t) (parent t) (rank t d key) (group t) (best t d key) v r) (sym more);
+            counted = subst (λ n. n ≤ c.args.steps.now + rows t v * (q + 1 - suc v)) (sym w.steps-is) (no_child v q c.args.steps.now c.loop-child.steps (rows t v) later l.counted);
+          }
+    ]
 
-pub row_best-best-requires-clause-node : goal.row_best-best-requires-clause-node
-row_best-best-requires-clause-node g c = c.requires.node
-
-pub row_best-best-requires-clause-laid_out : goal.row_best-best-requires-clause-laid_out
-row_best-best-requires-clause-laid_out g c = c.requires.laid_out
-
-pub row_best-best-requires-clause-solved : goal.row_best-best-requires-clause-solved
-row_best-best-requires-clause-solved g c = c.requires.solved
-
-pub row_best-best-requires-clause-leasts : goal.row_best-best-requires-clause-leasts
-row_best-best-requires-clause-leasts g c = c.requires.leasts
+pub returns-clause-cost : goal.returns-clause-cost
+returns-clause-cost g c =
+    let parts = c.args.nodes.now in
+    let few : c.loop-child.child ≤ length parts = omega (arith, c.loop-child.auto.child-end, c.requires.node) in
+    all_steps c.args.node c.loop-child.child c.args.steps.now c.loop-child.steps (rows (tree_view parts) c.args.node) (length parts) few c.loop-child.invariant.counted

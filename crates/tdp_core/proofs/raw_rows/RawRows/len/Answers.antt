@@ -4,6 +4,5 @@ use Rattle.tdp_core.proofs.raw_rows.RawRows.len.Goals as goal
 
 pub returns : goal.returns
 returns g c =
-    let t = c.self.inside in
-    let long = rows_length t.width t.rows.items t.owns.items t.named.items c.self.invariant.all_own in
-    omega (arith, long, ap length c.self.view_is, t.rows.ok.0, c.len.ensures)
+    let t = c.self.inside.columns in
+    omega (arith, rows_length t.rows t.owns.items t.named.rows c.self.invariant, ap length c.self.view_is, c.len.ensures)
