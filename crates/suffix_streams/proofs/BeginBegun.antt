@@ -6,22 +6,20 @@ use Rattle.std.proofs.lemmas.List.{length-map}
 use Rattle.std.proofs.lemmas.List.Elements.{All-nil, All-cons}
 use Rattle.stream_store.specs.declared.linked.Linked.{Linked}
 use Rattle.take2_heap.specs.declared.entry.Entry.{Entry}
-use Rattle.tdp_model.specs.KeyTuple.{KeyOf, key_below, key_none}
+use Rattle.take2_heap.specs.Order.{IsLeast}
+use Rattle.tdp_model.specs.KeyTuple.{KeyOf, key_none}
 use Rattle.tdp_model.specs.Product.{Pair, run_key}
 use Rattle.tdp_core.specs.TreeView.{NodeView, rows, members, group_count, group_named, child_count}
 use Rattle.tdp_core.specs.WellFormed.{IsFormed, IsTieFreeTree}
-use Rattle.suffix_streams.specs.Ahead.{IsAhead}
-use Rattle.suffix_streams.specs.QueueEntries.{IsHeld, places, InRuns}
-use Rattle.suffix_streams.specs.Reaches.{reaches}
+use Rattle.suffix_streams.specs.QueueEntries.{IsHeld, InRuns}
 use Rattle.suffix_streams.specs.Links.{owned, place_in, IsLinkedAt}
 use Rattle.suffix_streams.specs.declared.stream.Found.{Found}
-use Rattle.suffix_streams.specs.declared.stream.Solved.{Solved}
 use Rattle.suffix_streams.specs.declared.source.Source.{Source}
 use Rattle.suffix_streams.specs.ProductView.{ProductView}
 use Rattle.suffix_streams.specs.NodeStreamsView.{NodeStreamsView, known_of}
 use Rattle.suffix_streams.specs.Rankings.{child, part_list, group_list}
-use Rattle.suffix_streams.specs.Frontiers.{AreFirst}
-use Rattle.suffix_streams.specs.TreeStreams.{kept_of, node_list, group_list_of, node_of, group_of, place_of, stream, lists_of, stream_of, product_of, row_known, run_of, IsHeaded, HasOwnParts, IsStreamOf, IsStreams}
+use Rattle.suffix_streams.specs.Frontiers.{AreFirst, IsMerge}
+use Rattle.suffix_streams.specs.TreeStreams.{node_list, group_list_of, node_of, group_of, place_of, stream, with_last, lists_of, stream_of, product_of, row_known, run_of, IsHeaded, HasOwnParts, IsStreamOf, IsStreams}
 use Rattle.suffix_streams.specs.Beginnings.{IsBegunAt, IsBegun}
 use Rattle.suffix_streams.proofs.FirstSums.{first_own}
 use Rattle.suffix_streams.proofs.BeginFirsts.{group_head}
@@ -78,7 +76,7 @@ module _ {R : Type 0} (d : ℕ) (key : R → KeyOf d 16) (t : List (NodeView R))
 
 module _ {R : Type 0} (d : ℕ) (key : R → KeyOf d 16) (t : List (NodeView R)) (formed : IsFormed d key t) (free : IsTieFreeTree t) (es : List (Linked (Found R))) (nodes : List (NodeStreamsView R)) (b : IsBegun d key t es nodes) where
   -- the stream is its head
-  stream_is : (q h : ℕ) (a : Entry R Solved) → q < length t → h < length (lists_of nodes q).streams → (e : Linked (Found R)) → a ≡ (get_or es (stream_of nodes q h).head e).value.solution → stream es q h ≡ a ∷ []
+  stream_is : (q h : ℕ) (a : Entry R Source) → q < length t → h < length (lists_of nodes q).streams → (e : Linked (Found R)) → a ≡ (get_or es (stream_of nodes q h).head e).value.solution → stream es q h ≡ a ∷ []
   stream_is q h a l lh e s =
       let x = b.begun q h l lh in
       only_one (stream es q h) a (stream_length es q h ∙ owned_one d key t es nodes b q h lh)
@@ -115,35 +113,26 @@ module _ {R : Type 0} (d : ℕ) (key : R → KeyOf d 16) (t : List (NodeView R))
   stream_begun q h l lg lh =
       let x = b.begun q h l lh in
       let e : Linked (Found R) = an_entry es (stream_of nodes q h).head x.head_in in
-      let a : Entry R Solved = (get_or es (stream_of nodes q h).head e).value.solution in
+      let a : Entry R Source = (get_or es (stream_of nodes q h).head e).value.solution in
       let whole : stream es q h ≡ a ∷ [] = stream_is q h a l lh e refl in
-      let f : Entry R Source = x.only.0 in
-      let queue : (stream_of nodes q h).queue ≡ f ∷ [] = x.only.1 in
-      let own : a ≡ kept_of f = x.top e f ∙ ap (λ (z : List (Entry R Source)). kept_of (get_or z 0 f)) queue in
-      let ahead = first_ahead d key t formed free run_of q h f (group_list d key t q h) (λ i. part_list d key t q (get_or (members t q h) i 0) (child_count t q)) l (formed.inhabited q h l lg) x.only.2.0 x.only.2.1
+      let first = x.only e in
+      let ahead = first_ahead d key t formed free run_of q h a (group_list d key t q h) (λ i. part_list d key t q (get_or (members t q h) i 0) (child_count t q)) l (formed.inhabited q h l lg) first.0 first.1
       (group_is_ranking d key t q h l) (λ i li. row_is_ranking d key t formed q (get_or (members t q h) i 0) l) in
-      let known : Known q h f = omega (arith, ap (λ (p : Pair). p.right) x.only.2.0, row_one q (get_or (members t q h) f.tag.member 0)) in
-      let parts : Parts q h f = first_own d key t formed free es nodes q h 0 f.tag l (formed.inhabited q h l lg) x.only.2.0 x.only.2.2 x.only.2.3 x.only.2.4 (λ c few. record { found = λ some. absurd (omega (arith, some, ap length (b.no_products q (get_or (members t q h) 0 0)))); first = λ none. refl }) in
+      let known : Known q h a = omega (arith, ap (λ (p : Pair). p.right) first.0, row_one q (get_or (members t q h) a.tag.member 0)) in
+      let parts : Parts q h a = first_own d key t formed free es nodes q h 0 a.tag l (formed.inhabited q h l lg) first.0 first.2 first.3 first.4 (λ c few. record { found = λ some. absurd (omega (arith, some, ap length (b.no_products q (get_or (members t q h) 0 0)))); first = λ none. refl }) in
       record {
         head_in = x.head_in;
         head_node = x.node;
         head_group = x.group;
         head_place = head_first d key t es nodes b q h l lh;
-        few = omega (arith, ap length queue, formed.inhabited q h l lg);
-        known = subst (All (Known q h)) (sym queue) (only (Known q h) f known);
-        sources = f ∷ [];
-        kept = ap (λ (z : Entry R Solved). z ∷ []) (sym own) ∙ sym whole;
-        found_known = only (Known q h) f known;
-        parts = subst (All (Parts q h)) (sym queue) (only (Parts q h) f parts);
-        found_parts = only (Parts q h) f parts;
-        merge = record {
-          prefix = prefix_one q h f l lg (subst (λ (z : Entry R Solved). key z.rank ≡ get_or (group_list d key t q h) 0 (key_none d 16)) own (x.first e));
-          kept = ahead.0;
-          held = subst (All (Held q h)) (sym queue) ahead.0;
-          ahead = subst (λ z. IsAhead Pair (KeyOf d 16) (key_below d 16) (run_key (key_none d 16) (λ i. part_list d key t q (get_or (members t q h) i 0) (child_count t q)))
-              (reaches (length (members t q h)) (λ i. length (part_list d key t q (get_or (members t q h) i 0) (child_count t q)))) (InRuns d (length (members t q h)) (λ i. part_list d key t q (get_or (members t q h) i 0) (child_count t q)))
-              (group_list d key t q h) 1 (places run_of z)) (sym queue) ahead.1;
-        };
+        few = omega (arith, ap length x.empty, formed.inhabited q h l lg);
+        least = λ y is. subst (λ z. IsLeast d key y z) (sym x.empty) tt;
+        known = λ many. subst (All (Known q h)) (sym x.empty) (All-nil (Known q h));
+        found_known = λ many. subst (All (Known q h)) (sym whole) (only (Known q h) a known);
+        parts = subst (All (Parts q h)) (sym x.empty) (All-nil (Parts q h));
+        found_parts = subst (All (Parts q h)) (sym whole) (only (Parts q h) a parts);
+        merge = subst (λ z. IsMerge d key run_of (length (members t q h)) (λ i. part_list d key t q (get_or (members t q h) i 0) (child_count t q)) (group_list d key t q h) z (with_last z (stream_of nodes q h).queue)) (sym whole) (subst (λ z. IsMerge d key run_of (length (members t q h)) (λ i. part_list d key t q (get_or (members t q h) i 0) (child_count t q)) (group_list d key t q h) (a ∷ []) (a ∷ z)) (sym x.empty)
+            (record { prefix = prefix_one q h a l lg (x.first e); kept = ahead.0; held = ahead.0; ahead = ahead.1 }));
       }
     where
       an_entry : (es : List (Linked (Found R))) (i : ℕ) → i < length es → Linked (Found R)

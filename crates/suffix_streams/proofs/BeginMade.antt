@@ -9,14 +9,14 @@ use Rattle.tdp_core.specs.TreeView.{NodeView, group_count}
 use Rattle.suffix_streams.specs.Links.{owned, place_in}
 use Rattle.suffix_streams.proofs.Linking.{place_kept}
 use Rattle.suffix_streams.specs.declared.cell.Cell.{Cell}
-use Rattle.suffix_streams.specs.Firsts.{IsFirstCell}
+use Rattle.suffix_streams.specs.Firsts.{IsFirstCell, IsFirstOf}
 use Rattle.suffix_streams.specs.declared.stream.Found.{Found}
 use Rattle.suffix_streams.specs.StreamView.{StreamView}
 use Rattle.suffix_streams.specs.NodeStreamsView.{NodeStreamsView}
 use Rattle.suffix_streams.specs.Rankings.{group_list}
 use Rattle.suffix_streams.specs.declared.source.Source.{Source}
 use Rattle.take2_heap.specs.declared.entry.Entry.{Entry}
-use Rattle.suffix_streams.specs.TreeStreams.{kept_of, node_list, group_list_of, next_list, node_of, group_of, place_of, next_of, lists_of, stream_of}
+use Rattle.suffix_streams.specs.TreeStreams.{node_list, group_list_of, next_list, node_of, group_of, place_of, next_of, lists_of, stream_of}
 use Rattle.suffix_streams.proofs.BeginOwners.{owned_by, owned_else, map_behind, get_before, get_behind, length_behind, get_past}
 use Rattle.suffix_streams.specs.Beginnings.{HasFirst, AreChildren, IsEmptyNode, IsBegunAt, IsBegun}
 
@@ -92,8 +92,8 @@ module _ {R : Type 0} (d : ℕ) (key : R → KeyOf d 16) (t : List (NodeView R))
       ∙ place_kept (node_list es) (group_list_of es) lists_behind e.value.node e.value.group i (omega (arith, l, length-map es (λ e. e.value.node)))
 
   -- a first solution keeps its parts
-  first_before : (q g : ℕ) (queue : List (Entry R Source)) → HasFirst d key t es q g queue → HasFirst d key t (es ++ (e ∷ [])) q g queue
-  first_before q g queue x = (x.0, x.1, (x.2.0, x.2.1, λ c kids. still (x.2.2 c kids), x.2.3, x.2.4))
+  first_still : (q g : ℕ) (x : Entry R Source) → IsFirstOf d key t es q g 0 x → IsFirstOf d key t (es ++ (e ∷ [])) q g 0 x
+  first_still q g x f = (f.0, f.1, λ c kids. still (f.2 c kids), f.3, f.4)
     where
       still : {r c : ℕ} {cell : Cell} → IsFirstCell t es q r c cell → IsFirstCell t (es ++ (e ∷ [])) q r c cell
       still {r} {c} {cell} f = record {
@@ -103,6 +103,9 @@ module _ {R : Type 0} (d : ℕ) (key : R → KeyOf d 16) (t : List (NodeView R))
         group = group_before cell.right f.right ∙ f.group;
         place = place_before cell.right f.right ∙ f.place;
       }
+
+  first_before : (q g i : ℕ) → i < length es → HasFirst d key t es q g i → HasFirst d key t (es ++ (e ∷ [])) q g i
+  first_before q g i l x y = subst (λ (z : Linked (Found R)). IsFirstOf d key t (es ++ (e ∷ [])) q g 0 z.value.solution) (sym (get_before es e i y l)) (first_still q g (get_or es i y).value.solution (x y))
 
   node_behind : (i : ℕ) → i ≡ length es → node_of (es ++ (e ∷ [])) i ≡ e.value.node
   node_behind i l = ap (λ z. get_or z i 0) (map_behind (λ e. e.value.node) es e) ∙ get_behind (node_list es) e.value.node i 0 (omega (arith, l, length-map es (λ e. e.value.node)))
@@ -121,8 +124,8 @@ module _ {R : Type 0} (d : ℕ) (key : R → KeyOf d 16) (t : List (NodeView R))
 
   -- A group's stream is made.
   pub begun_more : (g : ℕ) → v < length t → g ≡ length (lists_of nodes v).streams → g < group_count t v → e.value.node ≡ v → e.value.group ≡ g → e.next ≡ None
-      → s.head ≡ length es → key e.value.solution.rank ≡ get_or (group_list d key t v g) 0 (key_none d 16) → ((x : Entry R Source) → e.value.solution ≡ kept_of (get_or s.queue 0 x)) → HasFirst d key t es v g s.queue → IsBegun d key t es nodes → IsBegun d key t (es ++ (e ∷ [])) nodes'
-  begun_more g l is_last lg en eg el at_head first own_top only b = record {
+      → s.head ≡ length es → key e.value.solution.rank ≡ get_or (group_list d key t v g) 0 (key_none d 16) → s.queue ≡ [] → IsFirstOf d key t es v g 0 e.value.solution → IsBegun d key t es nodes → IsBegun d key t (es ++ (e ∷ [])) nodes'
+  begun_more g l is_last lg en eg el at_head first empty only b = record {
     all_nodes = same_nodes ∙ b.all_nodes;
     children = λ q lq. subst (λ z. AreChildren t q z) (sym (children_kept q)) (b.children q lq);
     all_rows = λ q lq. ap length (products_kept q) ∙ b.all_rows q lq;
@@ -203,8 +206,8 @@ module _ {R : Type 0} (d : ℕ) (key : R → KeyOf d 16) (t : List (NodeView R))
             node = ap (λ z. node_of (es ++ (e ∷ [])) z.head) k ∙ node_before (stream_of nodes q h).head x.head_in ∙ x.node;
             group = ap (λ z. group_of (es ++ (e ∷ [])) z.head) k ∙ group_before (stream_of nodes q h).head x.head_in ∙ x.group;
             first = λ y. subst (λ z. key z.value.solution.rank ≡ get_or (group_list d key t q h) 0 (key_none d 16)) (sym (ap (λ z. get_or (es ++ (e ∷ [])) z.head y) k ∙ get_before es e (stream_of nodes q h).head y x.head_in)) (x.first y);
-            top = λ y w. ap (λ z. z.value.solution) (ap (λ z. get_or (es ++ (e ∷ [])) z.head y) k ∙ get_before es e (stream_of nodes q h).head y x.head_in) ∙ x.top y w ∙ ap (λ z. kept_of (get_or z.queue 0 w)) (sym k);
-            only = subst (λ z. HasFirst d key t (es ++ (e ∷ [])) q h z.queue) (sym k) (first_before q h (stream_of nodes q h).queue x.only);
+            only = subst (λ z. HasFirst d key t (es ++ (e ∷ [])) q h z.head) (sym k) (first_before q h (stream_of nodes q h).head x.head_in x.only);
+            empty = ap (λ z. z.queue) k ∙ x.empty;
           }
 
       new_stream : stream_of nodes' v g ≡ s
@@ -216,6 +219,6 @@ module _ {R : Type 0} (d : ℕ) (key : R → KeyOf d 16) (t : List (NodeView R))
         node = node_behind (stream_of nodes' v g).head (ap (λ z. z.head) new_stream ∙ at_head) ∙ en;
         group = group_behind (stream_of nodes' v g).head (ap (λ z. z.head) new_stream ∙ at_head) ∙ eg;
         first = λ y. subst (λ z. key z.value.solution.rank ≡ get_or (group_list d key t v g) 0 (key_none d 16)) (sym (get_behind es e (stream_of nodes' v g).head y (ap (λ z. z.head) new_stream ∙ at_head))) first;
-        top = λ y w. ap (λ z. z.value.solution) (get_behind es e (stream_of nodes' v g).head y (ap (λ z. z.head) new_stream ∙ at_head)) ∙ own_top w ∙ ap (λ z. kept_of (get_or z.queue 0 w)) (sym new_stream);
-        only = subst (λ z. HasFirst d key t (es ++ (e ∷ [])) v g z.queue) (sym new_stream) (first_before v g s.queue only);
+        only = λ y. subst (λ (z : Linked (Found R)). IsFirstOf d key t (es ++ (e ∷ [])) v g 0 z.value.solution) (sym (get_behind es e (stream_of nodes' v g).head y (ap (λ z. z.head) new_stream ∙ at_head))) (first_still v g e.value.solution only);
+        empty = ap (λ z. z.queue) new_stream ∙ empty;
       }

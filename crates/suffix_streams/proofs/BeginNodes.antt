@@ -11,10 +11,9 @@ use Rattle.suffix_streams.specs.declared.stream.Found.{Found}
 use Rattle.suffix_streams.specs.StreamView.{StreamView}
 use Rattle.suffix_streams.specs.NodeStreamsView.{NodeStreamsView}
 use Rattle.suffix_streams.specs.Rankings.{part_list, group_list}
-use Rattle.suffix_streams.specs.declared.source.Source.{Source}
-use Rattle.take2_heap.specs.declared.entry.Entry.{Entry}
-use Rattle.suffix_streams.specs.TreeStreams.{kept_of, lists_of}
-use Rattle.suffix_streams.specs.Beginnings.{HasFirst, IsEmptyNode, IsBegunFrom, IsBegunIn}
+use Rattle.suffix_streams.specs.TreeStreams.{lists_of}
+use Rattle.suffix_streams.specs.Firsts.{IsFirstOf}
+use Rattle.suffix_streams.specs.Beginnings.{IsEmptyNode, IsBegunFrom, IsBegunIn}
 use Rattle.suffix_streams.proofs.BeginFirsts.{group_head, row_head}
 use Rattle.suffix_streams.proofs.Rankings.{group_is_ranking, row_is_ranking}
 use Rattle.suffix_streams.proofs.BeginOwners.{get_before, get_behind, get_default}
@@ -59,10 +58,10 @@ module _ {R : Type 0} (d : ℕ) (key : R → KeyOf d 16) (t : List (NodeView R))
   -- one more stream of the node is made
   pub in_more : (es : List (Linked (Found R))) (nodes nodes' : List (NodeStreamsView R)) (v g w : ℕ) (e : Linked (Found R)) (s : StreamView R) → length nodes' ≡ length nodes → ((q : ℕ) → q ≢ v → lists_of nodes' q ≡ lists_of nodes q)
       → lists_of nodes' v ≡ with_stream (lists_of nodes v) s → v < length t → g < group_count t v → w ≡ g + 1 → e.value.node ≡ v → e.value.group ≡ g → e.next ≡ None → s.head ≡ length es
-      → key e.value.solution.rank ≡ get_or (group_list d key t v g) 0 (key_none d 16) → ((x : Entry R Source) → e.value.solution ≡ kept_of (get_or s.queue 0 x)) → HasFirst d key t es v g s.queue
+      → key e.value.solution.rank ≡ get_or (group_list d key t v g) 0 (key_none d 16) → s.queue ≡ [] → IsFirstOf d key t es v g 0 e.value.solution
       → IsBegunIn d key t es nodes v g → IsBegunIn d key t (es ++ (e ∷ [])) nodes' v w
-  in_more es nodes nodes' v g w e s same other own l lg more en eg el at_head first own_top only b = record {
-    streams = begun_more d key t es nodes nodes' v e s same other own g l (sym b.own) lg en eg el at_head first own_top only b.streams;
+  in_more es nodes nodes' v g w e s same other own l lg more en eg el at_head first empty only b = record {
+    streams = begun_more d key t es nodes nodes' v e s same other own g l (sym b.own) lg en eg el at_head first empty only b.streams;
     behind = λ q a lq. ap (λ z. length z.streams) (other q (λ e. omega arith)) ∙ b.behind q a lq;
     own = ap (λ z. length z.streams) own ∙ length_more (lists_of nodes v).streams s ∙ ap (λ z. z + 1) b.own ∙ sym more;
     before = λ q lq. ap (λ z. z.streams) (other q (λ e. omega arith)) ∙ b.before q lq;

@@ -7,14 +7,13 @@ use Rattle.tdp_core.specs.TreeView.{NodeView, rows, child_count, group_count, gr
 use Rattle.tdp_model.specs.KeyTuple.{KeyOf, key_none}
 use Rattle.suffix_streams.specs.Links.{owned}
 use Rattle.suffix_streams.specs.declared.stream.Found.{Found}
-use Rattle.suffix_streams.specs.declared.stream.Solved.{Solved}
+use Rattle.suffix_streams.specs.declared.source.Source.{Source}
 use Rattle.suffix_streams.specs.NodeStreamsView.{NodeStreamsView}
 use Rattle.suffix_streams.specs.Rankings.{child, part_list, group_list}
 use Rattle.suffix_streams.specs.TreeStreams.{node_list, group_list_of, node_of, group_of, place_of, stream, products_of, stream_of, part_known, HasKey, AreLefts, IsStreams, IsHeaded, HasParts}
 use Rattle.suffix_streams.proofs.Rankings.{kid, named_in, own_some, sum_fits}
 use Rattle.suffix_streams.proofs.Firsts.{first_at}
 use Rattle.suffix_streams.proofs.Stores.{node_value, group_value}
-use Rattle.suffix_streams.proofs.Sources.{stream_prefix}
 
 shifted : {A : Type 0} (b c : Bool) (xs : List A) (y a z : A) (p : ℕ) → (p < length xs) × (get_or xs p a ≡ z)
     → (cond b (cond c 1 0) 0 + p < length (cond b (cond c (y ∷ xs) xs) xs)) × (get_or (cond b (cond c (y ∷ xs) xs) xs) (cond b (cond c 1 0) 0 + p) a ≡ z)
@@ -28,7 +27,7 @@ begins_at true false xs y a e f = cc
 begins_at false c xs y a e f = cc
 
 -- an entry's solution is in its stream, at the entry's place
-entry_at : {R : Type 0} (es : List (Linked (Found R))) (i q g : ℕ) (x : Linked (Found R)) (a : Entry R Solved) → i < length es → (get_or es i x).value.node ≡ q → (get_or es i x).value.group ≡ g
+entry_at : {R : Type 0} (es : List (Linked (Found R))) (i q g : ℕ) (x : Linked (Found R)) (a : Entry R Source) → i < length es → (get_or es i x).value.node ≡ q → (get_or es i x).value.group ≡ g
     → (owned (take i (node_list es)) (take i (group_list_of es)) q g < length (stream es q g)) × (get_or (stream es q g) (owned (take i (node_list es)) (take i (group_list_of es)) q g) a ≡ (get_or es i x).value.solution)
 unfolding owned stream
 entry_at [] i q g x a l n h = absurd (omega arith)
@@ -51,11 +50,11 @@ module _ {R : Type 0} (d : ℕ) (key : R → KeyOf d 16) (t : List (NodeView R))
       (entry_at es i q g x (get_or es i x).value.solution l (sym (node_value es i x l) ∙ n) (sym (group_value es i x l) ∙ k)) in
       let within : place_of es i < length (stream es q g) = subst (λ p. p < length (stream es q g)) place (any_entry i q g l n k) in (
         within,
-        omega (arith, within, (stream_prefix d key t es nodes q g s).1),
+        omega (arith, within, s.merge.prefix.1),
         λ x.
             let p : key (get_or (stream es q g) (place_of es i) (get_or es i x).value.solution).rank ≡ get_or (group_list d key t q g) (place_of es i) (key_none d 16) =
-            first_at d key (stream es q g) (group_list d key t q g) (place_of es i) (get_or es i x).value.solution (stream_prefix d key t es nodes q g s) within in
-            subst (λ (a : Entry R Solved). key a.rank ≡ get_or (group_list d key t q g) (place_of es i) (key_none d 16)) (at x).1 p,
+            first_at d key (stream es q g) (group_list d key t q g) (place_of es i) (get_or es i x).value.solution s.merge.prefix within in
+            subst (λ (a : Entry R Source). key a.rank ≡ get_or (group_list d key t q g) (place_of es i) (key_none d 16)) (at x).1 p,
       )
     where
       any_entry : (i q g : ℕ) → i < length es → node_of es i ≡ q → group_of es i ≡ g → owned (take i (node_list es)) (take i (group_list_of es)) q g < length (stream es q g)
@@ -118,7 +117,7 @@ unfolding owned stream
 stream_owned [] q g = refl
 stream_owned {R} (e ∷ es) q g = counted (nat_eq e.value.node q) (nat_eq e.value.group g) (stream es q g) e.value.solution ∙ ap (λ n. cond (nat_eq e.value.node q) (cond (nat_eq e.value.group g) 1 0) 0 + n) (stream_owned es q g)
   where
-    counted : (b c : Bool) (xs : List (Entry R Solved)) (x : Entry R Solved) → length (cond b (cond c (x ∷ xs) xs) xs) ≡ cond b (cond c 1 0) 0 + length xs
+    counted : (b c : Bool) (xs : List (Entry R Source)) (x : Entry R Source) → length (cond b (cond c (x ∷ xs) xs) xs) ≡ cond b (cond c 1 0) 0 + length xs
     counted true true xs x = omega arith
     counted true false xs x = omega arith
     counted false c xs x = omega arith

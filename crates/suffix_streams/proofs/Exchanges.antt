@@ -21,7 +21,7 @@ use Rattle.suffix_streams.proofs.Entries.{entry_key, child_in}
 use Rattle.suffix_streams.proofs.StepCells.{cell_known, down_cell_known}
 
 -- an entry's solution has one key
-key_once : {R : Type 0} (d : ℕ) (key : R → KeyOf d 16) (es : List (Linked (Found R))) (i : ℕ) (a b : KeyOf d 16) → i < length es → HasKey d key es i a → HasKey d key es i b → a ≡ b
+pub key_once : {R : Type 0} (d : ℕ) (key : R → KeyOf d 16) (es : List (Linked (Found R))) (i : ℕ) (a b : KeyOf d 16) → i < length es → HasKey d key es i a → HasKey d key es i b → a ≡ b
 key_once d key [] i a b l x y = absurd (omega arith)
 key_once d key (e ∷ es) i a b l x y = sym (x e) ∙ y e
 

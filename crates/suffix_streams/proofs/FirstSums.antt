@@ -44,6 +44,7 @@ module _ {R : Type 0} (d : ℕ) (key : R → KeyOf d 16) (t : List (NodeView R))
     λ c kids.
         subst (λ (p : Pair). IsSumOf d key t es nodes q (get_or (members t q g) p.left 0) c p.right s.cell) (sym run)
         (first_sum_of q (get_or (members t q g) j 0) c s.cell l (member_is_row d key t formed q g j l member) (omega (arith, kids)) (parts c kids) (known c (omega (arith, kids)))),
+    λ one. (parts 0 one).place ∙ ap (λ (p : Pair). p.right) (sym run),
   )
 
 module _ {R : Type 0} (d : ℕ) (key : R → KeyOf d 16) (t : List (NodeView R)) (es : List (Linked (Found R))) (nodes : List (NodeStreamsView R)) (h : IsStreams d key t es nodes) where

@@ -1,8 +1,9 @@
 -- What holds for a stream and for a product stays while the store grows and other objects change.
-use Rattle.std.proofs.Common.{◌≡◌, ℕ, suc, ◌+◌, ◌^◌, ◌<◌, ◌≤◌, List, length, get_or, refl, sym, ap, ◌∙◌, subst, arith}
+use Rattle.std.proofs.Common.{◌≡◌, ℕ, suc, ◌+◌, ◌-◌, ◌^◌, ◌<◌, ◌≤◌, List, length, get_or, refl, sym, ap, ◌∙◌, subst, arith}
 use Rattle.std.specs.List.{All}
 use Rattle.std.proofs.lemmas.List.Elements.{All-weaker}
 use Rattle.take2_heap.specs.declared.entry.Entry.{Entry}
+use Rattle.take2_heap.specs.Order.{IsLeast}
 use Rattle.stream_store.specs.declared.linked.Linked.{Linked}
 use Rattle.tdp_core.specs.TreeView.{NodeView, members, group_named, child_count}
 use Rattle.tdp_model.specs.KeyTuple.{KeyOf, key_below, key_add, key_none}
@@ -17,7 +18,7 @@ use Rattle.suffix_streams.specs.StreamView.{StreamView}
 use Rattle.suffix_streams.specs.NodeStreamsView.{NodeStreamsView}
 use Rattle.suffix_streams.specs.Rankings.{child, part_list, group_list}
 use Rattle.suffix_streams.specs.Frontiers.{AreFirstBy, IsFrontier, IsMerge}
-use Rattle.suffix_streams.specs.TreeStreams.{KeepsRanks, IsKnownPart, IsSumOf, HasOwnParts, products_of, node_of, group_of, place_of, stream, product_of, stream_of, part_known, row_known, pair_of, run_of, IsStreamOf, IsProductOf}
+use Rattle.suffix_streams.specs.TreeStreams.{KeepsRanks, IsKnownPart, IsSumOf, HasOwnParts, products_of, node_of, group_of, place_of, stream, with_last, product_of, stream_of, part_known, row_known, pair_of, run_of, IsStreamOf, IsProductOf}
 use Rattle.suffix_streams.proofs.Growth.{places_kept, held_kept, keys_kept, range_kept}
 
 -- entries stay, with their owners and places
@@ -55,7 +56,7 @@ module _ {R : Type 0} (d : ℕ) (key : R → KeyOf d 16) (t : List (NodeView R))
       → All (λ (e : Entry R Source). HasOwnParts d key t es' nodes' q g e.tag) xs
   parts_stay q g keeps xs a =
       All-weaker (λ (e : Entry R Source). HasOwnParts d key t es nodes q g e.tag) (λ (e : Entry R Source). HasOwnParts d key t es' nodes' q g e.tag)
-      (λ e h. (h.0, h.1, λ c kids. sum_stays q (get_or (members t q g) e.tag.member 0) c e.tag.place e.tag.cell (keeps (get_or (members t q g) e.tag.member 0) c e.tag.cell.left (omega (arith, kids))) (h.2 c kids))) xs a
+      (λ e h. (h.0, h.1, λ c kids. sum_stays q (get_or (members t q g) e.tag.member 0) c e.tag.place e.tag.cell (keeps (get_or (members t q g) e.tag.member 0) c e.tag.cell.left (omega (arith, kids))) (h.2 c kids), λ one. held.places e.tag.cell.right (h.2 0 one).right ∙ h.3 one)) xs a
 
   pub stream_stays : (q g : ℕ) → stream_of nodes' q g ≡ stream_of nodes q g → stream es' q g ≡ stream es q g → ((r : ℕ) → row_known nodes q r ≤ row_known nodes' q r)
       → ((r k p : ℕ) → k < child_count t q → IsKnownPart nodes q r k p → IsKnownPart nodes' q r k p) → IsStreamOf d key t es nodes q g → IsStreamOf d key t es' nodes' q g
@@ -65,16 +66,16 @@ module _ {R : Type 0} (d : ℕ) (key : R → KeyOf d 16) (t : List (NodeView R))
     head_group = ap (λ z. group_of es' z.head) same ∙ held.groups (stream_of nodes q g).head s.head_in ∙ s.head_group;
     head_place = ap (λ z. place_of es' z.head) same ∙ held.places (stream_of nodes q g).head s.head_in ∙ s.head_place;
     few = omega (arith, ap (λ z. length z.queue) same, s.few);
-    known = subst (λ (z : StreamView R). All (λ (e : Entry R Source). e.tag.place < row_known nodes' q (get_or (members t q g) e.tag.member 0)) z.queue) (sym same)
+    known = λ many. subst (λ (z : StreamView R). All (λ (e : Entry R Source). e.tag.place < row_known nodes' q (get_or (members t q g) e.tag.member 0)) z.queue) (sym same)
         (All-weaker (λ (e : Entry R Source). e.tag.place < row_known nodes q (get_or (members t q g) e.tag.member 0)) (λ (e : Entry R Source). e.tag.place < row_known nodes' q (get_or (members t q g) e.tag.member 0))
-        (λ e h. omega (arith, h, rises (get_or (members t q g) e.tag.member 0))) (stream_of nodes q g).queue s.known);
-    sources = s.sources;
-    kept = s.kept ∙ sym found;
-    found_known = All-weaker (λ (e : Entry R Source). e.tag.place < row_known nodes q (get_or (members t q g) e.tag.member 0)) (λ (e : Entry R Source). e.tag.place < row_known nodes' q (get_or (members t q g) e.tag.member 0))
-        (λ e h. omega (arith, h, rises (get_or (members t q g) e.tag.member 0))) s.sources s.found_known;
+        (λ e h. omega (arith, h, rises (get_or (members t q g) e.tag.member 0))) (stream_of nodes q g).queue (s.known many));
+    found_known = λ many. subst (λ z. All (λ (e : Entry R Source). e.tag.place < row_known nodes' q (get_or (members t q g) e.tag.member 0)) z) (sym found) (All-weaker (λ (e : Entry R Source). e.tag.place < row_known nodes q (get_or (members t q g) e.tag.member 0)) (λ (e : Entry R Source). e.tag.place < row_known nodes' q (get_or (members t q g) e.tag.member 0))
+        (λ e h. omega (arith, h, rises (get_or (members t q g) e.tag.member 0))) (stream es q g) (s.found_known many));
     parts = subst (λ (z : StreamView R). All (λ (e : Entry R Source). HasOwnParts d key t es' nodes' q g e.tag) z.queue) (sym same) (parts_stay q g keeps (stream_of nodes q g).queue s.parts);
-    found_parts = parts_stay q g keeps s.sources s.found_parts;
-    merge = subst (λ (z : StreamView R). IsMerge d key run_of (length (members t q g)) (λ i. part_list d key t q (get_or (members t q g) i 0) (child_count t q)) (group_list d key t q g) s.sources z.queue) (sym same) s.merge;
+    found_parts = subst (λ z. All (λ (e : Entry R Source). HasOwnParts d key t es' nodes' q g e.tag) z) (sym found) (parts_stay q g keeps (stream es q g) s.found_parts);
+    least = λ e is. subst (λ (z : StreamView R). IsLeast d key e z.queue) (sym same) (s.least e (subst (λ z. e ≡ get_or z (length z - 1) e) found is));
+    merge = subst (λ z. IsMerge d key run_of (length (members t q g)) (λ i. part_list d key t q (get_or (members t q g) i 0) (child_count t q)) (group_list d key t q g) z (with_last z (stream_of nodes' q g).queue)) (sym found)
+        (subst (λ (z : StreamView R). IsMerge d key run_of (length (members t q g)) (λ i. part_list d key t q (get_or (members t q g) i 0) (child_count t q)) (group_list d key t q g) (stream es q g) (with_last (stream es q g) z.queue)) (sym same) s.merge);
   }
 
   -- a frontier whose entries stay
@@ -111,7 +112,7 @@ module _ {R : Type 0} (d : ℕ) (key : R → KeyOf d 16) (t : List (NodeView R))
   pub product_stays : (v r c : ℕ) → (product_of nodes' v r c).found ≡ (product_of nodes v r c).found → (product_of nodes' v r c).frontier ≡ (product_of nodes v r c).frontier → (product_of nodes' v r c).ranks ≡ (product_of nodes v r c).ranks
       → part_known nodes v r c ≤ part_known nodes' v r c → IsProductOf d key t es nodes v r c → IsProductOf d key t es' nodes' v r c
   product_stays v r c found frontier ranks rises p = record {
-    few = subst (λ (z : List (Entry R Cell)). length z < 2 ^ 64) (sym frontier) p.few;
+    few = subst (λ (z : List (Entry R Cell)). length z ≤ 2 ^ 64) (sym frontier) p.few;
     known = cells_stay v r c rises (λ (e : Entry R Cell). e.tag) (product_of nodes v r c).frontier (product_of nodes' v r c).frontier frontier p.known;
     found_known = cells_stay v r c rises (λ (x : Cell). x) (product_of nodes v r c).found (product_of nodes' v r c).found found p.found_known;
     sums = subst (λ (z : List (Entry R Cell)). IsFrontier d key (pair_of es') (part_list d key t v r c) (group_list d key t (child t v c) (group_named t v r c)) (part_list d key t v r (suc c)) (product_of nodes' v r c).found z) (sym frontier)

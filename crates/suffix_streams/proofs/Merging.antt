@@ -1,15 +1,15 @@
 -- One step of a group's stream.
-use Rattle.std.proofs.Common.{◌≡◌, ◌≢◌, ℕ, zero, suc, ◌+◌, ◌-◌, ◌*◌, ◌/◌, ◌<◌, ◌≤◌, ◌⊎◌, Option, Some, None, IfSome, IfNone, List, [], ◌∷◌, ◌++◌, map, length, get_or, slice_set, refl, sym, ap, ◌∙◌, subst, inl, inr, arith}
+use Rattle.std.proofs.Common.{◌≡◌, ◌≢◌, ℕ, zero, suc, ◌+◌, ◌-◌, ◌*◌, ◌/◌, ◌<◌, ◌≤◌, ◌⊎◌, Option, Some, None, List, [], ◌∷◌, ◌++◌, length, get_or, slice_set, refl, sym, ap, ◌∙◌, subst, inl, inr, arith}
 use Rattle.std.specs.List.{All}
 use Rattle.std.specs.List.Sorted.{IsPermutation}
 use Rattle.std.proofs.lemmas.Bool.{cases_eq}
 use Rattle.std.proofs.lemmas.List.{get_or-set_same, get_or-set_other}
-use Rattle.std.proofs.lemmas.List.Elements.{All-tail, All-get_or, All-weaker}
-use Rattle.std.proofs.lemmas.List.Sorted.{All-permutation}
+use Rattle.std.proofs.lemmas.List.Elements.{All-get_or, All-weaker}
+use Rattle.std.proofs.lemmas.List.Sorted.{All-permutation, IsPermutation-cons, IsPermutation-trans}
 use Rattle.stream_store.specs.declared.linked.Linked.{Linked}
 use Rattle.take2_heap.specs.declared.entry.Entry.{Entry}
 use Rattle.take2_heap.specs.Order.{IsLeast}
-use Rattle.tdp_core.specs.TreeView.{NodeView, rows, number, members, child_count, group_count, best}
+use Rattle.tdp_core.specs.TreeView.{NodeView, number, members, child_count, group_count, best}
 use Rattle.tdp_core.specs.WellFormed.{IsTieFreeTree}
 use Rattle.tdp_core.proofs.TreeFacts.{member_is_row}
 use Rattle.rankings.specs.Order.{IsAscending}
@@ -30,14 +30,16 @@ use Rattle.suffix_streams.specs.NodeStreamsView.{NodeStreamsView, stream_at, wit
 use Rattle.suffix_streams.specs.Rankings.{part_list, group_list}
 use Rattle.suffix_streams.specs.Frontiers.{IsMerge}
 use Rattle.suffix_streams.specs.Firsts.{IsFirstBelow}
-use Rattle.suffix_streams.specs.TreeStreams.{kept_of, IsKnownPart, IsSumOf, HasOwnParts, node_list, group_list_of, next_list, node_of, group_of, place_of, stream, lists_of, products_of, stream_of, part_known, row_known, run_of, IsStreamOf, IsStreams}
-use Rattle.suffix_streams.specs.Growing.{IsReached}
+use Rattle.suffix_streams.specs.TreeStreams.{IsKnownPart, IsSumOf, HasOwnParts, node_list, group_list_of, next_list, node_of, group_of, place_of, stream, with_last, lists_of, products_of, stream_of, part_known, row_known, run_of, IsStreamOf, IsStreams}
+use Rattle.suffix_streams.specs.LastEntries.{IsRowNext}
+use Rattle.suffix_streams.proofs.Lasts.{last_first}
+use Rattle.suffix_streams.proofs.Takes.{least_itself, offered_past}
 use Rattle.suffix_streams.proofs.BeginFirsts.{row_head}
 use Rattle.suffix_streams.proofs.Rankings.{part_ascends, row_is_ranking}
 use Rattle.suffix_streams.proofs.Stores.{set_length}
 use Rattle.suffix_streams.proofs.Growth.{merge_grows, merge_ends, merge_few}
 use Rattle.suffix_streams.proofs.FirstSums.{first_known, first_own}
-use Rattle.suffix_streams.proofs.Entries.{known_inside, some_known}
+use Rattle.suffix_streams.proofs.Entries.{some_known}
 use Rattle.suffix_streams.proofs.Kept.{AreHeld, part_stays, parts_stay, stream_stays, product_stays}
 use Rattle.suffix_streams.proofs.Changes.{lists_same, lists_other}
 
@@ -93,13 +95,13 @@ module _ {R : Type 0} (d : ℕ) (key : R → KeyOf d 16) (t : List (NodeView R))
   ]
 
   pub queue_set : ((i : ℕ) → i < length es' → (node_of es' i < length t) × (group_of es' i < group_count t (node_of es' i))) → IsLinked (node_list es') (group_list_of es') (next_list es')
-      → ((w k : ℕ) → ((w ≢ q) ⊎ (k ≢ g)) → stream es' w k ≡ stream es w k) → (sources : List (Entry R Source)) → map kept_of sources ≡ stream es' q g → length new ≤ length (members t q g)
-      → All (λ (e : Entry R Source). e.tag.place < row_known nodes q (get_or (members t q g) e.tag.member 0)) new
-      → All (λ (e : Entry R Source). e.tag.place < row_known nodes q (get_or (members t q g) e.tag.member 0)) sources
+      → ((w k : ℕ) → ((w ≢ q) ⊎ (k ≢ g)) → stream es' w k ≡ stream es w k) → (sources : List (Entry R Source)) → sources ≡ stream es' q g → length new < length (members t q g) → ((e : Entry R Source) → e ≡ get_or sources (length sources - 1) e → IsLeast d key e new)
+      → (child_count t q ≢ 1 → All (λ (e : Entry R Source). e.tag.place < row_known nodes q (get_or (members t q g) e.tag.member 0)) new)
+      → (child_count t q ≢ 1 → All (λ (e : Entry R Source). e.tag.place < row_known nodes q (get_or (members t q g) e.tag.member 0)) sources)
       → All (λ (e : Entry R Source). HasOwnParts d key t es nodes q g e.tag) new → All (λ (e : Entry R Source). HasOwnParts d key t es nodes q g e.tag) sources
-      → IsMerge d key run_of (length (members t q g)) (λ i. part_list d key t q (get_or (members t q g) i 0) (child_count t q)) (group_list d key t q g) sources new
+      → IsMerge d key run_of (length (members t q g)) (λ i. part_list d key t q (get_or (members t q g) i 0) (child_count t q)) (group_list d key t q g) sources (with_last sources new)
       → IsStreams d key t es' queued
-  queue_set owners linked same sources kept few known found_known parts found_parts merge = record {
+  queue_set owners linked same sources kept few least known found_known parts found_parts merge = record {
     tree = h.tree;
     all_nodes = set_length nodes q (with_queue (lists_of nodes q) g new room) ∙ h.all_nodes;
     all_children = λ w a. ap length (queued_children w) ∙ h.all_children w a;
@@ -127,16 +129,16 @@ module _ {R : Type 0} (d : ℕ) (key : R → KeyOf d 16) (t : List (NodeView R))
         head_group = ap (λ z. group_of es' z.head) queued_stream ∙ held.groups (stream_of nodes q g).head (h.streams q g l in_group).head_in ∙ (h.streams q g l in_group).head_group;
         head_place = ap (λ z. place_of es' z.head) queued_stream ∙ held.places (stream_of nodes q g).head (h.streams q g l in_group).head_in ∙ (h.streams q g l in_group).head_place;
         few = omega (arith, few, ap (λ z. length z.queue) queued_stream);
-        known = subst (λ (z : StreamView R). All (λ (e : Entry R Source). e.tag.place < row_known queued q (get_or (members t q g) e.tag.member 0)) z.queue) (sym queued_stream)
+        least = λ e is. subst (λ (z : StreamView R). IsLeast d key e z.queue) (sym queued_stream) (least e (subst (λ z. e ≡ get_or z (length z - 1) e) (sym kept) is));
+        known = λ many. subst (λ (z : StreamView R). All (λ (e : Entry R Source). e.tag.place < row_known queued q (get_or (members t q g) e.tag.member 0)) z.queue) (sym queued_stream)
             (All-weaker (λ (e : Entry R Source). e.tag.place < row_known nodes q (get_or (members t q g) e.tag.member 0)) (λ (e : Entry R Source). e.tag.place < row_known queued q (get_or (members t q g) e.tag.member 0))
-            (λ e k. omega (arith, k, queued_row q (get_or (members t q g) e.tag.member 0))) new known);
-        sources = sources;
-        kept = kept;
-        found_known = All-weaker (λ (e : Entry R Source). e.tag.place < row_known nodes q (get_or (members t q g) e.tag.member 0)) (λ (e : Entry R Source). e.tag.place < row_known queued q (get_or (members t q g) e.tag.member 0))
-            (λ e k. omega (arith, k, queued_row q (get_or (members t q g) e.tag.member 0))) sources found_known;
+            (λ e k. omega (arith, k, queued_row q (get_or (members t q g) e.tag.member 0))) new (known many));
+        found_known = λ many. subst (λ z. All (λ (e : Entry R Source). e.tag.place < row_known queued q (get_or (members t q g) e.tag.member 0)) z) kept (All-weaker (λ (e : Entry R Source). e.tag.place < row_known nodes q (get_or (members t q g) e.tag.member 0)) (λ (e : Entry R Source). e.tag.place < row_known queued q (get_or (members t q g) e.tag.member 0))
+            (λ e k. omega (arith, k, queued_row q (get_or (members t q g) e.tag.member 0))) sources (found_known many));
         parts = subst (λ (z : StreamView R). All (λ (e : Entry R Source). HasOwnParts d key t es' queued q g e.tag) z.queue) (sym queued_stream) (parts_stay d key t es es' nodes queued held q g (λ r k p few. part_kept q r k p) new parts);
-        found_parts = parts_stay d key t es es' nodes queued held q g (λ r k p few. part_kept q r k p) sources found_parts;
-        merge = subst (λ (z : StreamView R). IsMerge d key run_of (length (members t q g)) (λ i. part_list d key t q (get_or (members t q g) i 0) (child_count t q)) (group_list d key t q g) sources z.queue) (sym queued_stream) merge;
+        found_parts = subst (λ z. All (λ (e : Entry R Source). HasOwnParts d key t es' queued q g e.tag) z) kept (parts_stay d key t es es' nodes queued held q g (λ r k p few. part_kept q r k p) sources found_parts);
+        merge = subst (λ z. IsMerge d key run_of (length (members t q g)) (λ i. part_list d key t q (get_or (members t q g) i 0) (child_count t q)) (group_list d key t q g) z (with_last z (stream_of queued q g).queue)) kept
+            (subst (λ (z : StreamView R). IsMerge d key run_of (length (members t q g)) (λ i. part_list d key t q (get_or (members t q g) i 0) (child_count t q)) (group_list d key t q g) sources (with_last sources z.queue)) (sym queued_stream) merge);
       }
 
       apart : (w k : ℕ) → w < length t → k < group_count t w → ((w ≢ q) ⊎ (k ≢ g)) → IsStreamOf d key t es' queued w k
@@ -153,27 +155,30 @@ module _ {R : Type 0} (d : ℕ) (key : R → KeyOf d 16) (t : List (NodeView R))
 
 -- the offer for the member whose solution was passed last: its next solution, if there is one
 pub record IsNextOffer {R : Type 0} (d : ℕ) (key : R → KeyOf d 16) (t : List (NodeView R)) (es : List (Linked (Found R))) (nodes : List (NodeStreamsView R)) (q r member place : ℕ) (offer : Option (Entry R Source)) : Type 0 where
-  pub none : offer ≡ None → row_known nodes q r ≤ place
+  pub none : offer ≡ None → length (part_list d key t q r (child_count t q)) ≤ place
   pub run : (e : Entry R Source) → offer ≡ Some e → run_of e.tag ≡ record { left = member; right = place }
-  pub known : (e : Entry R Source) → offer ≡ Some e → place < row_known nodes q r
-  pub parts : (e : Entry R Source) → offer ≡ Some e → (e.tag.row ≡ r) × (e.tag.number ≡ number t q r) × ((c : ℕ) → child_count t q ≡ suc c → IsSumOf d key t es nodes q r c place e.tag.cell)
-  pub rank : (e : Entry R Source) → offer ≡ Some e → key e.rank ≡ get_or (part_list d key t q r (length (products_of nodes q r))) place (key_none d 16)
+  pub within : (e : Entry R Source) → offer ≡ Some e → place < length (part_list d key t q r (child_count t q))
+  pub known : (e : Entry R Source) → offer ≡ Some e → child_count t q ≢ 1 → place < row_known nodes q r
+  pub parts : (e : Entry R Source) → offer ≡ Some e → (e.tag.row ≡ r) × (e.tag.number ≡ number t q r) × ((c : ℕ) → child_count t q ≡ suc c → IsSumOf d key t es nodes q r c place e.tag.cell) × (child_count t q ≡ 1 → place_of es e.tag.cell.right ≡ place)
+  pub rank : (e : Entry R Source) → offer ≡ Some e → key e.rank ≡ get_or (part_list d key t q r (child_count t q)) place (key_none d 16)
 
 module _ {R : Type 0} (d : ℕ) (key : R → KeyOf d 16) (t : List (NodeView R)) (es : List (Linked (Found R))) (nodes : List (NodeStreamsView R)) (h : IsStreams d key t es nodes) (q g : ℕ)
     (l : q < length t) (in_group : g < group_count t q) (r : ℕ) (source : Source) (offer left right : Option (Entry R Source)) (top : Entry R Source) (new : List (Entry R Source))
-    (some : 0 < length (stream_of nodes q g).queue) (is_top : top ≡ get_or (stream_of nodes q g).queue 0 top) (is_source : top.tag ≡ source) (is_row : r ≡ get_or (members t q g) source.member 0)
-    (whole : length (products_of nodes q r) ≡ child_count t q) (reached : IsReached d key t nodes q r (child_count t q) (source.place + 1))
+    (is_top : top ≡ get_or (stream es q g) (length (stream es q g) - 1) top) (is_source : top.tag ≡ source) (is_row : r ≡ get_or (members t q g) source.member 0)
     (next : IsNextOffer d key t es nodes q r source.member (source.place + 1) offer)
     (on_left : IsFirstBelow d key t es q g (top.tag.place + 1) (2 * top.tag.member + 1) left) (on_right : IsFirstBelow d key t es q g (top.tag.place + 1) (2 * top.tag.member + 2) right)
-    (moved : IsPermutation (offers right None (offers offer left (stream_of nodes q g).queue)) (top ∷ new)) (least : IsLeast d key top (stream_of nodes q g).queue) where
+    (given : IsPermutation (offers offer None (offers right None (offers left None (stream_of nodes q g).queue))) new) where
   abbrev n : ℕ
   n = length (members t q g)
 
   abbrev lists : ℕ → List (KeyOf d 16)
   lists i = part_list d key t q (get_or (members t q g) i 0) (child_count t q)
 
+  abbrev waiting : List (Entry R Source)
+  waiting = (stream_of nodes q g).queue
+
   abbrev queue : List (Entry R Source)
-  queue = (stream_of nodes q g).queue
+  queue = top ∷ waiting
 
   abbrev Held : Entry R Source → Type 0
   Held = IsHeld d key (run_key (key_none d 16) lists) (InRuns d n lists) run_of
@@ -187,35 +192,39 @@ module _ {R : Type 0} (d : ℕ) (key : R → KeyOf d 16) (t : List (NodeView R))
   abbrev own : IsStreamOf d key t es nodes q g
   own = h.streams q g l in_group
 
+  merged : IsMerge d key run_of n lists (group_list d key t q g) (stream es q g) queue
+  merged = subst (λ z. IsMerge d key run_of n lists (group_list d key t q g) (stream es q g) z) (last_first (stream es q g) top waiting own.merge.prefix.0 is_top) own.merge
+
+  least : IsLeast d key top queue
+  least = (least_itself d key top, own.least top is_top)
+
+  some : 0 < length queue
+  some = omega arith
+
+  moved : IsPermutation (offers right None (offers offer left queue)) (top ∷ new)
+  moved = IsPermutation-trans _ _ _ (offered_past offer left right top waiting) (IsPermutation-cons top _ new given)
+
   top_held : Held top
-  top_held = subst Held (sym is_top) (All-get_or Held queue 0 top some own.merge.held)
+  top_held = All-get_or Held queue 0 top some merged.held
 
   member_in : source.member < n
   member_in = subst (λ z. z.member < n) is_source top_held.0.0
 
-  row_in : r < rows t q
-  row_in = subst (λ z. z < rows t q) (sym is_row) (member_is_row d key t h.tree q g source.member l member_in)
-
   the_list : lists source.member ≡ part_list d key t q r (child_count t q)
   the_list = ap (λ z. part_list d key t q z (child_count t q)) (sym is_row)
 
-  offer_facts : (o : Option (Entry R Source)) → offer ≡ o → MaybeHolds Held o × MaybeHolds Known o × IsNext d key n lists run_of (run_of top.tag) o × MaybeHolds Parts o
+  offer_facts : (o : Option (Entry R Source)) → offer ≡ o → MaybeHolds Held o × (child_count t q ≢ 1 → MaybeHolds Known o) × IsNext d key n lists run_of (run_of top.tag) o × MaybeHolds Parts o
   offer_facts None e = (
     tt,
-    tt,
-    subst (λ (s : Source). length (lists s.member) ≤ s.place + 1) (sym is_source) (elim reached [
-      | inl k ↦ absurd (omega (arith, k, next.none e, ap (λ z. part_known nodes q r z) whole))
-      | inr k ↦ omega (arith, k, ap length the_list)
-    ]),
+    λ many. tt,
+    subst (λ (s : Source). length (lists s.member) ≤ s.place + 1) (sym is_source) (omega (arith, next.none e, ap length the_list)),
     tt,
   )
   offer_facts (Some e) s =
-      let k : source.place + 1 < row_known nodes q r = next.known e s in
-      let inside : source.place + 1 < length (part_list d key t q r (length (products_of nodes q r))) = known_inside d key t es nodes h q r (length (products_of nodes q r)) (source.place + 1) l row_in (omega arith) k in
-      let within : source.place + 1 < length (lists source.member) = omega (arith, inside, ap (λ z. length (part_list d key t q r z)) whole, ap length the_list) in (
+      let within : source.place + 1 < length (lists source.member) = omega (arith, next.within e s, ap length the_list) in (
         subst (λ (p : Pair). InRuns d n lists p × (key e.rank ≡ run_key (key_none d 16) lists p)) (sym (next.run e s))
-            ((member_in, within), next.rank e s ∙ ap (λ z. get_or (part_list d key t q r z) (source.place + 1) (key_none d 16)) whole ∙ ap (λ z. get_or z (source.place + 1) (key_none d 16)) (sym the_list)),
-        subst (λ (p : Pair). p.right < row_known nodes q (get_or (members t q g) p.left 0)) (sym (next.run e s)) (subst (λ z. source.place + 1 < row_known nodes q z) is_row k),
+            ((member_in, within), next.rank e s ∙ ap (λ z. get_or z (source.place + 1) (key_none d 16)) (sym the_list)),
+        λ many. subst (λ (p : Pair). p.right < row_known nodes q (get_or (members t q g) p.left 0)) (sym (next.run e s)) (subst (λ z. source.place + 1 < row_known nodes q z) is_row (next.known e s many)),
         next.run e s ∙ ap (λ (z : Source). (let p : Pair = record { left = z.member; right = z.place + 1 } in p)) (sym is_source),
         (
           (next.parts e s).0 ∙ is_row ∙ ap (λ (p : Pair). get_or (members t q g) p.left 0) (sym (next.run e s)),
@@ -223,10 +232,11 @@ module _ {R : Type 0} (d : ℕ) (key : R → KeyOf d 16) (t : List (NodeView R))
           λ c kids.
               subst (λ (p : Pair). IsSumOf d key t es nodes q (get_or (members t q g) p.left 0) c p.right e.tag.cell) (sym (next.run e s))
               (subst (λ z. IsSumOf d key t es nodes q z c (source.place + 1) e.tag.cell) is_row ((next.parts e s).2 c kids)),
+          λ one. (next.parts e s).3 one ∙ ap (λ (p : Pair). p.right) (sym (next.run e s)),
         ),
       )
 
-  all_facts : MaybeHolds Held offer × MaybeHolds Known offer × IsNext d key n lists run_of (run_of top.tag) offer × MaybeHolds Parts offer
+  all_facts : MaybeHolds Held offer × (child_count t q ≢ 1 → MaybeHolds Known offer) × IsNext d key n lists run_of (run_of top.tag) offer × MaybeHolds Parts offer
   all_facts = offer_facts offer refl
 
   -- # The first solutions of the members below
@@ -271,74 +281,62 @@ module _ {R : Type 0} (d : ℕ) (key : R → KeyOf d 16) (t : List (NodeView R))
   ascending : (i : ℕ) → i < n → IsAscending (key_below d 16) (lists i)
   ascending i k = part_ascends d key t q (get_or (members t q g) i 0) (child_count t q)
 
-  pub queue_known : All Known new
-  queue_known =
-      All-tail Known top new
-      (All-permutation Known (offers right None (offers offer left queue)) (top ∷ new) moved
-      (all_offers Known right None (offers offer left queue) right_facts.1 tt (all_offers Known offer left queue all_facts.1 left_facts.1 own.known)))
+  pub queue_known : child_count t q ≢ 1 → All Known new
+  queue_known many =
+      All-permutation Known (offers offer None (offers right None (offers left None waiting))) new given
+      (all_offers Known offer None (offers right None (offers left None waiting)) (all_facts.1 many) tt
+      (all_offers Known right None (offers left None waiting) right_facts.1 tt (all_offers Known left None waiting left_facts.1 tt (own.known many))))
 
   pub queue_parts : IsTieFreeTree t → All Parts new
   queue_parts apart =
-      All-tail Parts top new
-      (All-permutation Parts (offers right None (offers offer left queue)) (top ∷ new) moved
-      (all_offers Parts right None (offers offer left queue) (below_parts apart (2 * top.tag.member + 2) right on_right) tt
-      (all_offers Parts offer left queue all_facts.3 (below_parts apart (2 * top.tag.member + 1) left on_left) own.parts)))
+      All-permutation Parts (offers offer None (offers right None (offers left None waiting))) new given
+      (all_offers Parts offer None (offers right None (offers left None waiting)) all_facts.3 tt
+      (all_offers Parts right None (offers left None waiting) (below_parts apart (2 * top.tag.member + 2) right on_right) tt
+      (all_offers Parts left None waiting (below_parts apart (2 * top.tag.member + 1) left on_left) tt own.parts)))
 
   pub queue_held : All Held new
-  queue_held = held_moved d key (run_key (key_none d 16) lists) (InRuns d n lists) run_of offer left right top queue new moved all_facts.0 left_facts.0 right_facts.0 own.merge.held
+  queue_held = held_moved d key (run_key (key_none d 16) lists) (InRuns d n lists) run_of offer left right top queue new moved all_facts.0 left_facts.0 right_facts.0 merged.held
 
   pub queue_few : length new ≤ n
   queue_few =
-      merge_few d key n lists (group_list d key t q g) ascending heap_ordered run_of own.sources queue new offer left right top own.merge some is_top least moved all_facts.0 left_facts.0 right_facts.0 top_held.0
+      merge_few d key n lists (group_list d key t q g) ascending heap_ordered run_of (stream es q g) queue new offer left right top merged some refl least moved all_facts.0 left_facts.0 right_facts.0 top_held.0
       all_facts.2 left_facts.2 right_facts.2
 
-  pub group_ends : new ≡ [] → (length own.sources ≡ length (group_list d key t q g)) × IsMerge d key run_of n lists (group_list d key t q g) own.sources []
+  pub group_ends : new ≡ [] → (length (stream es q g) ≡ length (group_list d key t q g)) × IsMerge d key run_of n lists (group_list d key t q g) (stream es q g) []
   group_ends e =
-      merge_ends d key n lists (group_list d key t q g) ascending heap_ordered run_of own.sources queue offer left right top own.merge some is_top least
+      merge_ends d key n lists (group_list d key t q g) ascending heap_ordered run_of (stream es q g) queue offer left right top merged some refl least
       (subst (λ z. IsPermutation (offers right None (offers offer left queue)) (top ∷ z)) e moved) all_facts.0 left_facts.0 right_facts.0 top_held.0 all_facts.2 left_facts.2 right_facts.2
 
   pub group_grows : (after : Entry R Source) → 0 < length new → after ≡ get_or new 0 after → IsLeast d key after new
-      → IsMerge d key run_of n lists (group_list d key t q g) (own.sources ++ (after ∷ [])) new
+      → IsMerge d key run_of n lists (group_list d key t q g) ((stream es q g) ++ (after ∷ [])) new
   group_grows after more is_after after_least =
-      (merge_grows d key n lists (group_list d key t q g) ascending heap_ordered run_of own.sources queue new offer left right top after own.merge some is_top least
+      (merge_grows d key n lists (group_list d key t q g) ascending heap_ordered run_of (stream es q g) queue new offer left right top after merged some refl least
       moved all_facts.0 left_facts.0 right_facts.0 top_held.0 all_facts.2 left_facts.2 right_facts.2 more is_after after_least).1
 
 -- the offer that was made
-pub next_offer : {R : Type 0} (d : ℕ) (key : R → KeyOf d 16) (t : List (NodeView R)) (es : List (Linked (Found R))) (nodes : List (NodeStreamsView R)) (q r member place m p : ℕ) (offer : Option (Entry R Source)) → m ≡ member → p ≡ place
-    → IfNone offer (row_known nodes q r ≤ p) → IfSome offer (λ e. (e.tag.member ≡ m) × (e.tag.place ≡ p)) → IfSome offer (λ e. p < row_known nodes q r)
-    → IfSome offer (λ e. (e.tag.row ≡ r) × (e.tag.number ≡ number t q r) × ((c : ℕ) → child_count t q ≡ c + 1 → IsSumOf d key t es nodes q r c p e.tag.cell)) → IfSome offer (λ e. key e.rank ≡ get_or (part_list d key t q r (length (products_of nodes q r))) p (key_none d 16)) → IsNextOffer d key t es nodes q r member place offer
-next_offer {R} d key t es nodes q r member place m p offer em ep none source known parts rank =
-    subst (λ z. IsNextOffer d key t es nodes q r member z offer) ep (subst (λ z. IsNextOffer d key t es nodes q r z p offer) em (cases offer none source known parts rank))
+pub next_offer : {R : Type 0} (d : ℕ) (key : R → KeyOf d 16) (t : List (NodeView R)) (es : List (Linked (Found R))) (nodes : List (NodeStreamsView R)) (q : ℕ) (s : Source) (offer : Option (Entry R Source)) → s.number ≡ number t q s.row
+    → IsRowNext d key t es nodes q s offer → IsNextOffer d key t es nodes q s.row s.member (s.place + 1) offer
+next_offer {R} d key t es nodes q s offer numbered next = cases offer next
   where
-    cases : (o : Option (Entry R Source)) → IfNone o (row_known nodes q r ≤ p) → IfSome o (λ e. (e.tag.member ≡ m) × (e.tag.place ≡ p)) → IfSome o (λ e. p < row_known nodes q r)
-        → IfSome o (λ e. (e.tag.row ≡ r) × (e.tag.number ≡ number t q r) × ((c : ℕ) → child_count t q ≡ c + 1 → IsSumOf d key t es nodes q r c p e.tag.cell)) → IfSome o (λ e. key e.rank ≡ get_or (part_list d key t q r (length (products_of nodes q r))) p (key_none d 16)) → IsNextOffer d key t es nodes q r m p o
-    cases None a b c f k = record { none = λ e. a; run = λ e s. absurd (clash e s); known = λ e s. absurd (clash e s); parts = λ e s. absurd (clash e s); rank = λ e s. absurd (clash e s) }
+    cases : (o : Option (Entry R Source)) → IsRowNext d key t es nodes q s o → IsNextOffer d key t es nodes q s.row s.member (s.place + 1) o
+    cases None f = record { none = λ e. f.none; run = λ e x. absurd (clash e x); within = λ e x. absurd (clash e x); known = λ e x. absurd (clash e x); parts = λ e x. absurd (clash e x); rank = λ e x. absurd (clash e x) }
       where
         clash : (e : Entry R Source) → None ≡ Some e → ⊥
-        clash e s = cc
-    cases (Some x) a b c f k = record {
+        clash e x = cc
+    cases (Some x) f = record {
       none = λ e. absurd (clash e);
-      run = λ e s.
-          subst (λ (z : Entry R Source). run_of z.tag ≡ record { left = m; right = p }) (same_of e s)
-          (ap (λ (z : ℕ). (let y : Pair = record { left = z; right = x.tag.place } in y)) b.0 ∙ ap (λ (z : ℕ). (let y : Pair = record { left = m; right = z } in y)) b.1);
-      known = λ e s. c;
-      parts = λ e s. subst (λ (z : Entry R Source). (z.tag.row ≡ r) × (z.tag.number ≡ number t q r) × ((i : ℕ) → child_count t q ≡ suc i → IsSumOf d key t es nodes q r i p z.tag.cell)) (same_of e s)
-          (f.0, f.1, λ i kids. f.2 i (omega (arith, kids)));
-      rank = λ e s. subst (λ (z : Entry R Source). key z.rank ≡ get_or (part_list d key t q r (length (products_of nodes q r))) p (key_none d 16)) (same_of e s) k;
+      run = λ e same.
+          subst (λ (z : Entry R Source). run_of z.tag ≡ record { left = s.member; right = s.place + 1 }) (same_of e same)
+          (ap (λ (z : ℕ). (let y : Pair = record { left = z; right = x.tag.place } in y)) f.source.0 ∙ ap (λ (z : ℕ). (let y : Pair = record { left = s.member; right = z } in y)) f.source.1);
+      within = λ e same. f.within;
+      known = λ e same. f.known;
+      parts = λ e same. subst (λ (z : Entry R Source). (z.tag.row ≡ s.row) × (z.tag.number ≡ number t q s.row) × ((c : ℕ) → child_count t q ≡ suc c → IsSumOf d key t es nodes q s.row c (s.place + 1) z.tag.cell) × (child_count t q ≡ 1 → place_of es z.tag.cell.right ≡ s.place + 1)) (same_of e same)
+          (f.source.2, f.source.3 ∙ numbered, f.parts, f.alone);
+      rank = λ e same. subst (λ (z : Entry R Source). key z.rank ≡ get_or (part_list d key t q s.row (child_count t q)) (s.place + 1) (key_none d 16)) (same_of e same) f.key_is;
     }
       where
         clash : Some x ≡ None → ⊥
         clash e = cc
 
         same_of : (e : Entry R Source) → Some x ≡ Some e → x ≡ e
-        same_of e s = cc
-
--- the members that a queue names are rows of the node
-pub top_row : {R : Type 0} (d : ℕ) (key : R → KeyOf d 16) (t : List (NodeView R)) (es : List (Linked (Found R))) (nodes : List (NodeStreamsView R)) → IsStreams d key t es nodes → (q g : ℕ) → q < length t → g < group_count t q → (top : Entry R Source)
-    → 0 < length (stream_of nodes q g).queue → top ≡ get_or (stream_of nodes q g).queue 0 top → (top.tag.member < length (members t q g)) × (get_or (members t q g) top.tag.member 0 < rows t q)
-top_row {R} d key t es nodes h q g l k top some e =
-    let lists : ℕ → List (KeyOf d 16) = λ i. part_list d key t q (get_or (members t q g) i 0) (child_count t q) in
-    let held : IsHeld d key (run_key (key_none d 16) (λ i. part_list d key t q (get_or (members t q g) i 0) (child_count t q))) (InRuns d (length (members t q g)) (λ i. part_list d key t q (get_or (members t q g) i 0) (child_count t q))) run_of top =
-    subst (λ z. IsHeld d key (run_key (key_none d 16) (λ i. part_list d key t q (get_or (members t q g) i 0) (child_count t q))) (InRuns d (length (members t q g)) (λ i. part_list d key t q (get_or (members t q g) i 0) (child_count t q))) run_of z) (sym e)
-    (All-get_or (IsHeld d key (run_key (key_none d 16) (λ i. part_list d key t q (get_or (members t q g) i 0) (child_count t q))) (InRuns d (length (members t q g)) (λ i. part_list d key t q (get_or (members t q g) i 0) (child_count t q))) run_of) (stream_of nodes q g).queue 0 top some (h.streams q g l k).merge.held) in
-    (held.0.0, member_is_row d key t h.tree q g top.tag.member l held.0.0)
+        same_of e same = cc

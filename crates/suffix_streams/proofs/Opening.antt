@@ -28,32 +28,38 @@ use Rattle.suffix_streams.proofs.Kept.{held_itself, stream_stays, part_stays, pr
 use Rattle.suffix_streams.proofs.Changes.{lists_same, lists_other}
 
 module _ {R : Type 0} (d : ℕ) (key : R → KeyOf d 16) (t : List (NodeView R)) (es : List (Linked (Found R))) (nodes : List (NodeStreamsView R)) (h : IsStreams d key t es nodes) (v r : ℕ) (l : v < length t) (row : r < rows t v)
-    (n : NodeStreamsView R) (at : n ≡ get_or nodes v n) (count kids : ℕ) (count_is : count ≡ length (get_or n.products r [])) (kids_is : kids ≡ length n.children) where
+    (n : NodeStreamsView R) (at : n ≡ get_or nodes v n) where
   lists : lists_of nodes v ≡ n
   lists = lists_at nodes v n at (omega (arith, h.all_nodes))
 
-  counted : count ≡ length (products_of nodes v r)
-  counted = count_is ∙ ap (λ z. length (get_or z.products r [])) (sym lists)
+  counted : length (get_or n.products r []) ≡ length (products_of nodes v r)
+  counted = ap (λ z. length (get_or z.products r [])) (sym lists)
 
-  all : kids ≡ child_count t v
-  all = kids_is ∙ ap (λ z. length z.children) (sym lists) ∙ h.all_children v l
+  all : length n.children ≡ child_count t v
+  all = ap (λ z. length z.children) (sym lists) ∙ h.all_children v l
 
-  -- a row with fewer products than children has no products, and the node has children
-  pub row_lacks : count < kids → (length (products_of nodes v r) ≡ 0) × (0 < child_count t v)
-  row_lacks few = elim (cases_lt 0 (length (products_of nodes v r))) [
+  -- a row with fewer products than its several children has none
+  pub row_lacks : length (get_or n.products r []) < length n.children → 1 < length n.children → (length (products_of nodes v r) ≡ 0) × (1 < child_count t v)
+  row_lacks few several = elim (cases_lt 0 (length (products_of nodes v r))) [
     | inl some ↦ absurd (omega (arith, few, counted, all, h.whole_rows v r l row some))
-    | inr none ↦ (omega (arith, none), omega (arith, few, all))
+    | inr none ↦ (omega (arith, none), omega (arith, several, all))
   ]
 
-  -- otherwise it has all products
-  pub row_whole : kids ≤ count → length (products_of nodes v r) ≡ child_count t v
-  row_whole many = elim (cases_lt 0 (length (products_of nodes v r))) [
+  -- otherwise it has all products, unless the node has one child
+  pub row_whole : ((length (get_or n.products r []) < length n.children) × (1 < length n.children) → ⊥) → child_count t v ≢ 1 → length (products_of nodes v r) ≡ child_count t v
+  row_whole not many = elim (cases_lt 0 (length (products_of nodes v r))) [
     | inl some ↦ h.whole_rows v r l row some
-    | inr none ↦ omega (arith, many, counted, all, none)
+    | inr none ↦ elim (cases_lt 1 (child_count t v)) [
+      | inl several ↦ absurd (not (omega (arith, none, counted, all, several), omega (arith, all, several)))
+      | inr few ↦ omega (arith, none, zero_or_one (child_count t v) few many)
+    ]
   ]
+    where
+      zero_or_one : (k : ℕ) → k ≤ 1 → k ≢ 1 → k ≡ 0
+      zero_or_one k few many = omega arith
 
 module _ {R : Type 0} (d : ℕ) (key : R → KeyOf d 16) (t : List (NodeView R)) (es : List (Linked (Found R))) (nodes : List (NodeStreamsView R)) (h : IsStreams d key t es nodes) (apart : IsTieFreeTree t) (v r : ℕ)
-    (l : v < length t) (row : r < rows t v) (ps : List (ProductView R)) (fresh : AreFreshTo d key t nodes v r (child_count t v) ps) (empty : length (products_of nodes v r) ≡ 0) (kids : 0 < child_count t v) where
+    (l : v < length t) (row : r < rows t v) (ps : List (ProductView R)) (fresh : AreFreshTo d key t nodes v r (child_count t v) ps) (empty : length (products_of nodes v r) ≡ 0) (kids : 1 < child_count t v) where
   abbrev made : NodeStreamsView R
   made = record (lists_of nodes v) { products = slice_set (lists_of nodes v).products r ps }
 
@@ -157,7 +163,7 @@ module _ {R : Type 0} (d : ℕ) (key : R → KeyOf d 16) (t : List (NodeView R))
       (f.4 ∙ (first_sum d key t h.tree apart v r c l row k (part_some d key t h.tree apart v r c l row (omega arith))).1) (sums_begin d key t h.tree apart v r c l k) in
       let known : KnownIn c e.tag = subst (λ (z : Cell). (z.left < part_known opened v r c) × (z.right < length es) × (node_of es z.right ≡ child t v c) × (group_of es z.right ≡ group_named t v r c)) (sym f.3) (omega (arith, one_known c (omega arith)), s.head_in, s.head_node, s.head_group) in
       record {
-        few = subst (λ (z : List (Entry R Cell)). length z < 2 ^ 64) (sym frontier) (omega arith);
+        few = subst (λ (z : List (Entry R Cell)). length z ≤ 2 ^ 64) (sym frontier) (omega arith);
         known = subst (All (λ (x : Entry R Cell). KnownIn c x.tag)) (sym frontier) (All-cons (λ (x : Entry R Cell). KnownIn c x.tag) e [] known (All-nil (λ (x : Entry R Cell). KnownIn c x.tag)));
         found_known = subst (All (KnownIn c)) (sym found) (All-cons (KnownIn c) e.tag [] known (All-nil (KnownIn c)));
         sums = subst (λ (z : List (Entry R Cell)). IsFrontier d key (pair_of es) (part_list d key t v r c) (group_list d key t (child t v c) (group_named t v r c)) (part_list d key t v r (suc c)) (product_of opened v r c).found z) (sym frontier)

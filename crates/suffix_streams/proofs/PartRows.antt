@@ -1,5 +1,5 @@
 -- What the rows of a solution are read from: what an entry keeps, and the parts of a solution of a row.
-use Rattle.std.proofs.Common.{◌≡◌, ℕ, zero, suc, ◌+◌, ◌<◌, None, List, [], length, get_or, refl, sym, ap, ◌∙◌, subst, inl, inr, arith}
+use Rattle.std.proofs.Common.{◌≡◌, ◌≢◌, ℕ, zero, suc, ◌+◌, ◌<◌, None, List, [], length, get_or, sym, ap, ◌∙◌, subst, inl, inr, arith}
 use Rattle.std.proofs.lemmas.Bool.{cases_lt}
 use Rattle.std.proofs.lemmas.List.Elements.{All-get_or}
 use Rattle.stream_store.specs.declared.linked.Linked.{Linked}
@@ -13,25 +13,32 @@ use Rattle.suffix_streams.specs.QueueEntries.{IsHeld, InProduct, InRuns}
 use Rattle.suffix_streams.specs.declared.cell.Cell.{Cell}
 use Rattle.suffix_streams.specs.declared.source.Source.{Source}
 use Rattle.suffix_streams.specs.declared.stream.Found.{Found}
-use Rattle.suffix_streams.specs.declared.stream.Solved.{Solved}
 use Rattle.suffix_streams.specs.NodeStreamsView.{NodeStreamsView, product_at}
 use Rattle.suffix_streams.specs.Rankings.{child, part_list, group_list}
-use Rattle.suffix_streams.specs.TreeStreams.{kept_of, IsKnownPart, IsSumOf, HasOwnParts, node_of, group_of, place_of, stream, lists_of, products_of, product_of, stream_of, part_known, row_known, pair_of, run_of, IsStreams}
-use Rattle.suffix_streams.proofs.Stores.{node_value}
-use Rattle.suffix_streams.proofs.Sources.{sources_length, kept_at}
+use Rattle.suffix_streams.specs.TreeStreams.{IsKnownPart, IsSumOf, HasOwnParts, node_of, group_of, place_of, stream, lists_of, products_of, product_of, stream_of, part_known, row_known, pair_of, run_of, IsStreams}
+use Rattle.suffix_streams.proofs.Stores.{node_value, group_value}
 use Rattle.suffix_streams.proofs.Firsts.{first_by_at}
 use Rattle.suffix_streams.proofs.FirstSums.{first_known, head_first, first_sum_of}
 use Rattle.suffix_streams.proofs.ViewEntries.{entry_at}
 use Rattle.suffix_streams.proofs.ViewPrefixes.{place_in_stream, entry_solution}
 
+-- e is a known solution of a row of group g of node q
+pub record IsTopKnown {R : Type 0} (d : ℕ) (key : R → KeyOf d 16) (t : List (NodeView R)) (es : List (Linked (Found R))) (nodes : List (NodeStreamsView R)) (q g : ℕ) (e : Entry R Source) : Type 0 where
+  pub member : e.tag.member < length (members t q g)
+  pub row : e.tag.row < rows t q
+  pub parts : HasOwnParts d key t es nodes q g e.tag
+  pub within : e.tag.place < length (part_list d key t q e.tag.row (child_count t q))
+  pub rank : key e.rank ≡ get_or (part_list d key t q e.tag.row (child_count t q)) e.tag.place (key_none d 16)
+  pub known : child_count t q ≢ 1 → e.tag.place < row_known nodes q e.tag.row
+
 -- the solution of entry i, at node v, is one of the row that the entry keeps, and the sum of the parts that it keeps
-pub record IsSolvedAt {R : Type 0} (d : ℕ) (key : R → KeyOf d 16) (t : List (NodeView R)) (es : List (Linked (Found R))) (nodes : List (NodeStreamsView R)) (i v : ℕ) (s : Solved) : Type 0 where
+pub record IsSolvedAt {R : Type 0} (d : ℕ) (key : R → KeyOf d 16) (t : List (NodeView R)) (es : List (Linked (Found R))) (nodes : List (NodeStreamsView R)) (i v : ℕ) (s : Source) : Type 0 where
   pub owner : node_of es i ≡ v
   pub node : v < length t
   pub row : s.row < rows t v
   pub number_is : s.number ≡ number t v s.row
   pub place : ℕ
-  pub known : IsKnownPart nodes v s.row (child_count t v) place
+  pub known : child_count t v ≢ 1 → IsKnownPart nodes v s.row (child_count t v) place
   pub parts : (c : ℕ) → child_count t v ≡ suc c → IsSumOf d key t es nodes v s.row c place s.cell
   pub same : get_or (part_list d key t v s.row (child_count t v)) place (key_none d 16) ≡ get_or (group_list d key t (node_of es i) (group_of es i)) (place_of es i) (key_none d 16)
 
@@ -58,36 +65,47 @@ module _ {R : Type 0} (d : ℕ) (key : R → KeyOf d 16) (t : List (NodeView R))
   Held v g = IsHeld d key (run_key (key_none d 16) (λ i. part_list d key t v (get_or (members t v g) i 0) (child_count t v)))
       (InRuns d (length (members t v g)) (λ i. part_list d key t v (get_or (members t v g) i 0) (child_count t v))) run_of
 
-  pub solved_at : (i : ℕ) (f : Found R) → i < length es → ((x : Linked (Found R)) → (get_or es i x).value ≡ f) → IsSolvedAt d key t es nodes i f.node f.solution.tag
-  solved_at i f l value =
+  pub entry_known : (i : ℕ) (f : Found R) → i < length es → ((x : Linked (Found R)) → (get_or es i x).value ≡ f) → IsTopKnown d key t es nodes f.node f.group f.solution
+  entry_known i f l value =
       let own = h.owners i l in
       let x : Linked (Found R) = record { value = f; next = None } in
+      let q : ℕ = node_of es i in
+      let g : ℕ = group_of es i in
       let s = h.streams (node_of es i) (group_of es i) own.0 own.1 in
       let within : place_of es i < length (stream es (node_of es i) (group_of es i)) = place_in_stream d key t es nodes h i l in
-      let inside : place_of es i < length s.sources = omega (arith, within, sources_length d key t es nodes (node_of es i) (group_of es i) s) in
-      let any : Entry R Source = record { rank = f.solution.rank; tag = record { member = 0; place = 0; row = f.solution.tag.row; number = f.solution.tag.number; cell = f.solution.tag.cell } } in
-      let e : Entry R Source = get_or s.sources (place_of es i) any in
-      let is : kept_of e ≡ f.solution = sym (kept_at d key t es nodes (node_of es i) (group_of es i) s (place_of es i) any f.solution within) ∙ entry_at es i x f.solution l ∙ ap (λ z. z.solution) (value x) in
-      let known : Known (node_of es i) (group_of es i) e = All-get_or (Known (node_of es i) (group_of es i)) s.sources (place_of es i) any inside s.found_known in
-      let held : Held (node_of es i) (group_of es i) e = All-get_or (Held (node_of es i) (group_of es i)) s.sources (place_of es i) any inside s.merge.kept in
-      let parts : HasOwnParts d key t es nodes (node_of es i) (group_of es i) e.tag = All-get_or (λ (e : Entry R Source). HasOwnParts d key t es nodes (node_of es i) (group_of es i) e.tag) s.sources (place_of es i) any inside s.found_parts in
-      let row : get_or (members t (node_of es i) (group_of es i)) e.tag.member 0 < rows t (node_of es i) = member_is_row d key t h.tree (node_of es i) (group_of es i) e.tag.member own.0 held.0.0 in
-      let row_is : get_or (members t (node_of es i) (group_of es i)) e.tag.member 0 ≡ f.solution.tag.row = sym parts.0 ∙ ap (λ (z : Entry R Solved). z.tag.row) is in
-      subst (λ v. IsSolvedAt d key t es nodes i v f.solution.tag) (node_value es i x l ∙ ap (λ z. z.node) (value x))
+      let e : Entry R Source = f.solution in
+      let is : get_or (stream es (node_of es i) (group_of es i)) (place_of es i) f.solution ≡ f.solution = entry_at es i x f.solution l ∙ ap (λ z. z.solution) (value x) in
+      let held : Held (node_of es i) (group_of es i) e = subst (Held (node_of es i) (group_of es i)) is (All-get_or (Held (node_of es i) (group_of es i)) (stream es (node_of es i) (group_of es i)) (place_of es i) f.solution within s.merge.kept) in
+      let parts : HasOwnParts d key t es nodes (node_of es i) (group_of es i) e.tag =
+      subst (λ (z : Entry R Source). HasOwnParts d key t es nodes (node_of es i) (group_of es i) z.tag) is (All-get_or (λ (z : Entry R Source). HasOwnParts d key t es nodes (node_of es i) (group_of es i) z.tag) (stream es (node_of es i) (group_of es i)) (place_of es i) f.solution within s.found_parts) in
+      let same : get_or (members t (node_of es i) (group_of es i)) e.tag.member 0 ≡ e.tag.row = sym parts.0 in
+      subst (λ v. IsTopKnown d key t es nodes v f.group e) (node_value es i x l ∙ ap (λ z. z.node) (value x)) (subst (λ k. IsTopKnown d key t es nodes (node_of es i) k e) (group_value es i x l ∙ ap (λ z. z.group) (value x))
       (record {
-        owner = refl;
-        node = own.0;
-        row = subst (λ r. r < rows t (node_of es i)) row_is row;
-        number_is = ap (λ (z : Entry R Solved). z.tag.number) (sym is) ∙ parts.1 ∙ ap (number t (node_of es i)) row_is;
-        place = e.tag.place;
-        known = subst (λ r. IsKnownPart nodes (node_of es i) r (child_count t (node_of es i)) e.tag.place) row_is
-            (known_part (node_of es i) (get_or (members t (node_of es i) (group_of es i)) e.tag.member 0) e.tag.place own.0 row known);
-        parts = λ c kids.
-            subst (λ (z : Entry R Solved). IsSumOf d key t es nodes (node_of es i) f.solution.tag.row c e.tag.place z.tag.cell) is
-            (subst (λ r. IsSumOf d key t es nodes (node_of es i) r c e.tag.place e.tag.cell) row_is (parts.2 c kids));
-        same = ap (λ r. get_or (part_list d key t (node_of es i) r (child_count t (node_of es i))) e.tag.place (key_none d 16)) (sym row_is) ∙ sym held.1
-            ∙ ap (λ (z : Entry R Solved). key z.rank) is ∙ (entry_solution d key t es nodes h i f l value).1;
-      })
+        member = held.0.0;
+        row = subst (λ r. r < rows t (node_of es i)) same (member_is_row d key t h.tree (node_of es i) (group_of es i) e.tag.member own.0 held.0.0);
+        parts = parts;
+        within = subst (λ r. e.tag.place < length (part_list d key t (node_of es i) r (child_count t (node_of es i)))) same held.0.1;
+        rank = held.1 ∙ ap (λ r. get_or (part_list d key t (node_of es i) r (child_count t (node_of es i))) e.tag.place (key_none d 16)) same;
+        known = λ many. subst (λ r. e.tag.place < row_known nodes (node_of es i) r) same
+            (subst (Known (node_of es i) (group_of es i)) is (All-get_or (Known (node_of es i) (group_of es i)) (stream es (node_of es i) (group_of es i)) (place_of es i) f.solution within (s.found_known many)));
+      }))
+
+  pub solved_at : (i : ℕ) (f : Found R) → i < length es → ((x : Linked (Found R)) → (get_or es i x).value ≡ f) → IsSolvedAt d key t es nodes i f.node f.solution.tag
+  solved_at i f l value =
+      let x : Linked (Found R) = record { value = f; next = None } in
+      let k = entry_known i f l value in
+      let owner : node_of es i ≡ f.node = node_value es i x l ∙ ap (λ z. z.node) (value x) in
+      let node : f.node < length t = subst (λ v. v < length t) owner (h.owners i l).0 in
+      record {
+        owner = owner;
+        node = node;
+        row = k.row;
+        number_is = k.parts.1 ∙ ap (number t f.node) (sym k.parts.0);
+        place = f.solution.tag.place;
+        known = λ many. known_part f.node f.solution.tag.row f.solution.tag.place node k.row (k.known many);
+        parts = λ c kids. subst (λ r. IsSumOf d key t es nodes f.node r c f.solution.tag.place f.solution.tag.cell) (sym k.parts.0) (k.parts.2 c kids);
+        same = sym k.rank ∙ (entry_solution d key t es nodes h i f l value).1;
+      }
 
   -- of a row without products only this one is known
   pub first_cell : IsTieFreeTree t → (v r c place head : ℕ) → v < length t → r < rows t v → c < child_count t v → length (products_of nodes v r) ≡ 0 → IsKnownPart nodes v r (c + 1) place

@@ -42,7 +42,7 @@ pub record IsProductPassed {R : Type 0} (d : ℕ) (key : R → KeyOf d 16) (t : 
   pub ranks_kept : suc c < child_count t v → KeepsRanks d key (part_list d key t v r (suc c)) (product_of n v r c)
   pub kept_known : All (λ (x : Cell). (x.left < part_known n v r c) × (x.right < length es) × (node_of es x.right ≡ child t v c) × (group_of es x.right ≡ group_named t v r c)) (product_of n v r c).found
   pub next_known : (next : Entry R Cell) → 0 < length p.frontier → next ≡ get_or p.frontier 0 next → All (λ (x : Cell). (x.left < part_known n v r c) × (x.right < length es) × (node_of es x.right ≡ child t v c) × (group_of es x.right ≡ group_named t v r c)) ((product_of n v r c).found ++ (next.tag ∷ []))
-  pub holds : (z : ProductView R) → z.frontier ≡ p.frontier → length p.frontier < 2 ^ 64 → length (product_of n v r c).found ≤ length z.found → All (λ (x : Cell). (x.left < part_known n v r c) × (x.right < length es) × (node_of es x.right ≡ child t v c) × (group_of es x.right ≡ group_named t v r c)) z.found
+  pub holds : (z : ProductView R) → z.frontier ≡ p.frontier → length p.frontier ≤ 2 ^ 64 → length (product_of n v r c).found ≤ length z.found → All (λ (x : Cell). (x.left < part_known n v r c) × (x.right < length es) × (node_of es x.right ≡ child t v c) × (group_of es x.right ≡ group_named t v r c)) z.found
       → IsFrontier d key (pair_of es) (part_list d key t v r c) (group_list d key t (child t v c) (group_named t v r c)) (part_list d key t v r (suc c)) z.found p.frontier
       → (suc c < child_count t v → KeepsRanks d key (part_list d key t v r (suc c)) z) → IsStreams d key t es (slice_set n v (with_product (lists_of n v) r c z))
 
@@ -92,7 +92,7 @@ product_passed {R} d key t es n v r c p a b known cell below head lower beside d
 
 -- z is the product with the solution at the top of its frontier, if it has one
 module _ {R : Type 0} {d : ℕ} {key : R → KeyOf d 16} {t : List (NodeView R)} {es : List (Linked (Found R))} {n : List (NodeStreamsView R)} {v r c : ℕ} (p z : ProductView R) (a : IsProductPassed d key t es n v r c p) (frontier : z.frontier ≡ p.frontier)
-    (few : length z.frontier < 2 ^ 64) (ended : length z.frontier ≡ 0 → (z.found ≡ p.found) × (z.ranks ≡ p.ranks)) (found : (x : Entry R Cell) → 0 < length z.frontier → z.found ≡ p.found ++ (get_or z.frontier 0 x).tag ∷ [])
+    (few : length z.frontier ≤ 2 ^ 64) (ended : length z.frontier ≡ 0 → (z.found ≡ p.found) × (z.ranks ≡ p.ranks)) (found : (x : Entry R Cell) → 0 < length z.frontier → z.found ≡ p.found ++ (get_or z.frontier 0 x).tag ∷ [])
     (ranks : (x : Entry R Cell) → 0 < length z.frontier → z.ranks ≡ with_rank p.ranks (get_or z.frontier 0 x).rank) (least : (x : Entry R Cell) → 0 < length z.frontier → IsLeast d key (get_or z.frontier 0 x) z.frontier) where
   -- the solution that was kept
   record IsNext (e : Entry R Cell) : Type 0 where

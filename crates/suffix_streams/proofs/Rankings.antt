@@ -154,18 +154,18 @@ module _ {R : Type 0} (d : ℕ) (key : R → KeyOf d 16) (t : List (NodeView R))
         (subst (λ p. group_named t p r (kids_below (parent t) p (child t v c)) < group_count t (child t v c)) k.parent_is
         (formed.named (child t v c) r k.some k.within (subst (λ p. r < rows t p) (sym k.parent_is) row)))
 
-    left_ranking : (v r c : ℕ) → v < length t → c < child_count t v
+    pub left_ranking : (v r c : ℕ) → v < length t → c < child_count t v
         → IsRanking (KeyOf d 16) (key_below d 16) (PartHas (key_add d 16) (key_none d 16) (length t) (parent t) (rank t d key) (group t) (length t) v r (child t v c - suc v)) (part_list d key t v r c)
     left_ranking v r c l h =
         widened v r (part_end t v c) (child t v c - suc v) (part_list d key t v r c) (omega (arith, ends_before v c h)) (λ q a b. gap v c q h a (omega (arith, kid_below v c h))) (part_is_ranking v r c (part_within v c l (omega arith)))
 
-    right_ranking : (v r c : ℕ) → c < child_count t v
+    pub right_ranking : (v r c : ℕ) → c < child_count t v
         → IsRanking (KeyOf d 16) (key_below d 16) (GroupHas (key_add d 16) (key_none d 16) (length t) (parent t) (rank t d key) (group t) (length t) (child t v c) r) (group_list d key t (child t v c) (group_named t v r c))
     right_ranking v r c h =
         subst (λ g. IsRanking (KeyOf d 16) (key_below d 16) (GroupHas (key_add d 16) (key_none d 16) (length t) (parent t) (rank t d key) (group t) (length t) (child t v c) r) (group_list d key t (child t v c) g)) (named_group v r c h)
         (group_is_ranking (child t v c) (group_number t (child t v c) r) (kid v c h).within)
 
-    sum_ranking : (v r c : ℕ) → v < length t → c < child_count t v
+    pub sum_ranking : (v r c : ℕ) → v < length t → c < child_count t v
         → IsRanking (KeyOf d 16) (key_below d 16) (PartHas (key_add d 16) (key_none d 16) (length t) (parent t) (rank t d key) (group t) (length t) v r (suc (child t v c - suc v))) (part_list d key t v r (suc c))
     sum_ranking v r c l h =
         let at : child t v c - v ≡ suc (child t v c - suc v) = omega (arith, kid_below v c h) in
@@ -209,7 +209,7 @@ module _ {R : Type 0} (d : ℕ) (key : R → KeyOf d 16) (t : List (NodeView R))
         some_member (best t d key q (get_or (members t q g) 0 0)) (group_list d key t q g) ((group_is_ranking q g l).complete _ (0, i, best_had d key t formed (length t) q (get_or (members t q g) 0 0) (omega arith) l (member_is_row d key t formed q g 0 l i)))
 
     -- with no child a row has one solution
-    none_is_own : (v r : ℕ) (k : KeyOf d 16) → v < length t → IsMember k (part_list d key t v r 0) → k ≡ rank t d key v r
+    pub none_is_own : (v r : ℕ) (k : KeyOf d 16) → v < length t → IsMember k (part_list d key t v r 0) → k ≡ rank t d key v r
     none_is_own v r k l h = part_first_only (key_below d 16) (key_add d 16) (key_none d 16) (tuple_keys d 16) (length t) (parent t) (rank t d key) (group t) (length t) v r k ((part_is_ranking v r 0 (omega arith)).sound k h)
 
     pub own_some : (v r : ℕ) → v < length t → 0 < length (part_list d key t v r 0)

@@ -1,5 +1,5 @@
 -- A known solution of a row is the sum of its cell's parts, which have their ranks. The last one found is the top of the product's frontier.
-use Rattle.std.proofs.Common.{◌≡◌, ℕ, suc, ◌+◌, ◌-◌, ◌<◌, List, [], ◌∷◌, length, get_or, sym, ap, ◌∙◌, subst, arith}
+use Rattle.std.proofs.Common.{◌≡◌, ◌≢◌, ℕ, suc, ◌+◌, ◌-◌, ◌<◌, ◌≤◌, Option, Some, None, IfSome, IfNone, inl, inr, List, [], ◌∷◌, length, get_or, sym, ap, ◌∙◌, subst, arith}
 use Rattle.std.proofs.lemmas.List.Elements.{All-get_or}
 use Rattle.rankings.specs.Order.{IsAscending}
 use Rattle.stream_store.specs.declared.linked.Linked.{Linked}
@@ -7,15 +7,19 @@ use Rattle.suffix_streams.specs.QueueEntries.{IsHeld, InProduct}
 use Rattle.suffix_streams.proofs.Steps.{product_shows}
 use Rattle.take2_heap.specs.declared.entry.Entry.{Entry}
 use Rattle.take2_heap.specs.Order.{IsLeast}
-use Rattle.tdp_core.specs.TreeView.{NodeView, rows, group_named}
+use Rattle.tdp_core.specs.TreeView.{NodeView, rows, child_count, group_named}
 use Rattle.tdp_model.specs.KeyTuple.{KeyOf, key_below, key_add, key_none}
 use Rattle.tdp_model.specs.Product.{Pair, pair_key}
 use Rattle.suffix_streams.specs.declared.cell.Cell.{Cell}
+use Rattle.suffix_streams.specs.declared.source.Source.{Source}
 use Rattle.suffix_streams.specs.declared.stream.Found.{Found}
+use Rattle.suffix_streams.specs.Growing.{IsReached}
+use Rattle.suffix_streams.specs.LastEntries.{IsRowNext}
+use Rattle.suffix_streams.proofs.Entries.{known_inside}
 use Rattle.suffix_streams.specs.NodeStreamsView.{NodeStreamsView}
 use Rattle.suffix_streams.specs.Rankings.{child, part_list, group_list}
 use Rattle.suffix_streams.specs.Frontiers.{IsFrontier}
-use Rattle.suffix_streams.specs.TreeStreams.{node_of, group_of, products_of, product_of, part_known, pair_of, IsStreams, IsCell, IsSumOf}
+use Rattle.suffix_streams.specs.TreeStreams.{node_of, group_of, products_of, product_of, part_known, row_known, pair_of, IsStreams, IsCell, IsSumOf}
 use Rattle.suffix_streams.proofs.Rankings.{part_ascends, group_ascends}
 use Rattle.suffix_streams.proofs.Firsts.{first_by_at}
 
@@ -90,4 +94,43 @@ module _ {R : Type 0} (d : ℕ) (key : R → KeyOf d 16) (t : List (NodeView R))
             group = k.3;
             sum = sym rank_key ∙ held.1;
           };
+        }
+
+-- # The next solution of an open row
+
+-- what was offered at the place of s
+pub record IsRowOffer {R : Type 0} (d : ℕ) (key : R → KeyOf d 16) (t : List (NodeView R)) (es : List (Linked (Found R))) (nodes : List (NodeStreamsView R)) (v : ℕ) (s : Source) (o : Option (Entry R Source)) : Type 0 where
+  pub none : IfNone o (row_known nodes v s.row ≤ s.place)
+  pub source : IfSome o (λ e. (e.tag.member ≡ s.member) × (e.tag.place ≡ s.place) × (e.tag.row ≡ s.row) × (e.tag.number ≡ s.number))
+  pub known : IfSome o (λ e. s.place < row_known nodes v s.row)
+  pub parts : IfSome o (λ e. (c : ℕ) → child_count t v ≡ c + 1 → IsSumOf d key t es nodes v s.row c s.place e.tag.cell)
+  pub rank : IfSome o (λ e. key e.rank ≡ get_or (part_list d key t v s.row (length (products_of nodes v s.row))) s.place (key_none d 16))
+
+pub row_next : {R : Type 0} (d : ℕ) (key : R → KeyOf d 16) (t : List (NodeView R)) (es : List (Linked (Found R))) (nodes : List (NodeStreamsView R)) → IsStreams d key t es nodes → (v : ℕ) (s : Source) (place : ℕ) (o : Option (Entry R Source)) → v < length t → s.row < rows t v → child_count t v ≢ 1
+    → length (products_of nodes v s.row) ≡ child_count t v → place ≡ s.place + 1 → IsReached d key t nodes v s.row (child_count t v) place → IsRowOffer d key t es nodes v (record s { place = place }) o → IsRowNext d key t es nodes v s o
+row_next {R} d key t es nodes h v s place o l row many whole next reached f = cases o f
+  where
+    cases : (o : Option (Entry R Source)) → IsRowOffer d key t es nodes v (record s { place = place }) o → IsRowNext d key t es nodes v s o
+    cases None f = record {
+      none = elim reached [
+        | inl k ↦ absurd (omega (arith, k, f.none, ap (λ z. part_known nodes v s.row z) whole))
+        | inr k ↦ omega (arith, k, next)
+      ];
+      source = tt;
+      within = tt;
+      known = tt;
+      parts = tt;
+      alone = tt;
+      key_is = tt;
+    }
+    cases (Some e) f =
+        let inside = known_inside d key t es nodes h v s.row (length (products_of nodes v s.row)) place l row (omega arith) f.known in
+        record {
+          none = tt;
+          source = (f.source.0, f.source.1 ∙ next, f.source.2, f.source.3);
+          within = omega (arith, inside, next, ap (λ c. length (part_list d key t v s.row c)) whole);
+          known = λ several. omega (arith, f.known, next);
+          parts = λ c kids. subst (λ p. IsSumOf d key t es nodes v s.row c p e.tag.cell) next (f.parts c (omega (arith, kids)));
+          alone = λ one. absurd (many one);
+          key_is = f.rank ∙ ap (λ c. get_or (part_list d key t v s.row c) place (key_none d 16)) whole ∙ ap (λ p. get_or (part_list d key t v s.row (child_count t v)) p (key_none d 16)) next;
         }

@@ -54,15 +54,13 @@ opened_grown t v es es' n m e above =
 
 module _ {R : Type 0} (d : ℕ) (key : R → KeyOf d 16) (t : List (NodeView R)) (formed : IsFormed d key t) (n : List (NodeStreamsView R)) (v s0 s1 : ℕ) where
   -- the steps of a call that only opens a row
-  pub opened_within : s1 ≤ s0 + 4 + 3 * child_count t v → IsWithinSteps t n (is_below (parent t) v) (λ b. 14 + 4 * b + 20 * kids_size t v (child_count t v) * (1 + b)) s0 s1
+  pub opened_within : s1 ≤ s0 + 3 + 3 * child_count t v → IsWithinSteps t n (is_below (parent t) v) (λ b. 14 + 4 * b + 20 * kids_size t v (child_count t v) * (1 + b)) s0 s1
   opened_within h k b one bits few queues = omega (arith, h, kids_many d key t formed v (child_count t v) (omega arith), much (kids_size t v (child_count t v)) b)
 
   -- the steps of a call: s1 when the row is open, s2 after the search in it, and s3 at the end
-  pub call_within : (c s2 s3 : ℕ) (m : List (NodeStreamsView R)) → length m ≡ length t → c ≡ child_count t v → AreQueuesGrown (λ w. 0) n m → s1 ≤ s0 + 4 + 3 * child_count t v
-      → IsWithinSteps t m (λ w. below_kids t v c w + cond (nat_eq w v) 1 0) (λ b. 20 * kids_size t v c * (1 + b)) s1 (s2 + 6 * c)
-      → ((b : ℕ) → ((u g : ℕ) → bit_length (length (members t u g) + 1) ≤ b) → s3 ≤ s2 + 10 + 3 * child_count t v + 4 * b)
+  pub call_within : (s2 s3 : ℕ) (m : List (NodeStreamsView R)) → length m ≡ length t → AreQueuesGrown (λ w. 0) n m → s1 ≤ s0 + 3 + 3 * child_count t v
+      → IsWithinSteps t m (λ w. below_kids t v (child_count t v) w + cond (nat_eq w v) 1 0) (λ b. 20 * kids_size t v (child_count t v) * (1 + b)) s1 (s2 + 3 * child_count t v)
+      → ((b : ℕ) → ((u g : ℕ) → bit_length (length (members t u g) + 1) ≤ b) → s3 ≤ s2 + 11 + 4 * b)
       → IsWithinSteps t n (is_below (parent t) v) (λ b. 14 + 4 * b + 20 * kids_size t v (child_count t v) * (1 + b)) s0 s3
-  call_within c s2 s3 m same e grown h search last k b one bits few queues =
-      let x : s2 + 6 * c ≤ s1 + 20 * kids_size t v c * (1 + b) = search k b one bits few (queues_below d key t formed v c k n m same (omega (arith, e)) one grown queues) in
-      let kids : 20 * kids_size t v c * (1 + b) ≡ 20 * kids_size t v (child_count t v) * (1 + b) = ap (λ z. 20 * kids_size t v z * (1 + b)) e in
-      omega (arith, x, kids, e, h, last b few)
+  call_within s2 s3 m same grown h search last k b one bits few queues =
+      omega (arith, search k b one bits few (queues_below d key t formed v (child_count t v) k n m same (omega arith) one grown queues), h, last b few)

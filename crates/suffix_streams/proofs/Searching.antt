@@ -2,35 +2,29 @@
 use Rattle.std.proofs.Common.{◌≡◌, ◌≢◌, ℕ, zero, suc, ◌+◌, ◌<◌, ◌≤◌, ◌⊎◌, max, Option, Some, None, cond, nat_eq, List, [], ◌∷◌, length, drop, get_or, slice_set, refl, sym, ap, ◌∙◌, subst, inl, inr, arith}
 use Rattle.std.proofs.lemmas.Bool.{cases_lt, cases_eq}
 use Rattle.std.proofs.lemmas.Bool.Decides.{nat_tests}
-use Rattle.std.proofs.lemmas.List.Elements.{All-get_or}
 use Rattle.stream_store.specs.declared.linked.Linked.{Linked}
 use Rattle.take2_heap.specs.declared.entry.Entry.{Entry}
-use Rattle.tdp_core.specs.TreeView.{NodeView, parent, rows, number, members, child_count, group_count, group_named}
+use Rattle.tdp_core.specs.TreeView.{NodeView, parent, rows, child_count, group_count, group_named}
 use Rattle.tdp_core.specs.WellFormed.{IsFormed}
 use Rattle.tdp_model.specs.Below.{is_below}
 use Rattle.tdp_model.specs.KeyTuple.{KeyOf, key_below, key_add, key_none}
-use Rattle.tdp_model.specs.Product.{Pair, pair_key, stands_for, run_key}
-use Rattle.suffix_streams.specs.Reaches.{reaches}
+use Rattle.tdp_model.specs.Product.{Pair, pair_key, stands_for}
 use Rattle.tdp_model.specs.Remains.{total}
 use Rattle.tdp_model.proofs.Removal.{none_left}
 use Rattle.suffix_streams.specs.Ahead.{IsAhead}
-use Rattle.suffix_streams.specs.QueueEntries.{IsHeld, places, InProduct, InRuns}
-use Rattle.suffix_streams.specs.Links.{IsLinkedAt}
+use Rattle.suffix_streams.specs.QueueEntries.{places, InProduct}
 use Rattle.suffix_streams.proofs.Linking.{place_once}
 use Rattle.suffix_streams.specs.declared.cell.Cell.{Cell}
 use Rattle.suffix_streams.specs.declared.stream.Found.{Found}
-use Rattle.suffix_streams.specs.declared.source.Source.{Source}
 use Rattle.suffix_streams.specs.ProductView.{ProductView}
 use Rattle.suffix_streams.specs.NodeStreamsView.{NodeStreamsView, product_at, with_product}
 use Rattle.suffix_streams.specs.Rankings.{child, part_list, group_list}
-use Rattle.suffix_streams.specs.TreeStreams.{HasOwnParts, node_list, group_list_of, node_of, group_of, next_of, node_size, lists_of, products_of, product_of, stream_of, row_known, pair_of, run_of, IsStreams}
+use Rattle.suffix_streams.specs.TreeStreams.{node_list, group_list_of, node_of, group_of, node_size, lists_of, products_of, product_of, stream_of, pair_of, IsStreams}
 use Rattle.suffix_streams.specs.Growing.{IsStoreGrown, IsGrown, IsExtended, IsReached, IsAnswered, AreQueuesGrown, below_kids}
 use Rattle.suffix_streams.proofs.Rankings.{kid_below, own_only}
 use Rattle.suffix_streams.proofs.Stores.{node_length, group_length, store_stays, store_goes_on, store_from_above}
 use Rattle.suffix_streams.proofs.BeginOwners.{get_past}
 use Rattle.suffix_streams.proofs.Costs.{kids_below_node}
-use Rattle.suffix_streams.proofs.Entries.{stream_owned}
-use Rattle.suffix_streams.proofs.Sources.{sources_length}
 use Rattle.suffix_streams.proofs.Kept.{held_itself, product_stays}
 use Rattle.suffix_streams.proofs.Changes.{lists_same, lists_other, product_new, product_row, product_elsewhere, counts_kept, changed_known, changed_product, product_set}
 
@@ -154,25 +148,6 @@ module _ {R : Type 0} (d : ℕ) (key : R → KeyOf d 16) (t : List (NodeView R))
     queues_child n m a w s k = omega (arith, a w s k)
 
 module _ {R : Type 0} (d : ℕ) (key : R → KeyOf d 16) (t : List (NodeView R)) (es : List (Linked (Found R))) (nodes : List (NodeStreamsView R)) (h : IsStreams d key t es nodes) where
-  -- the stream whose queue is empty is its group's whole ranking
-  pub last_of_all : (i : ℕ) → i < length es → next_of es i ≡ None → (stream_of nodes (node_of es i) (group_of es i)).queue ≡ [] → IsAnswered d key t es i None
-  last_of_all i l none empty =
-      let q : ℕ = node_of es i in
-      let g : ℕ = group_of es i in
-      let own = h.owners i l in
-      let s = h.streams (node_of es i) (group_of es i) own.0 own.1 in
-      let link : IsLinkedAt (node_list es) (group_list_of es) i None = subst (λ o. IsLinkedAt (node_list es) (group_list_of es) i o) none (h.linked i (omega (arith, l, node_length es))) in
-      let end : length s.sources ≡ length (group_list d key t (node_of es i) (group_of es i)) =
-      all_known d (run_key (key_none d 16) (λ j. part_list d key t (node_of es i) (get_or (members t (node_of es i) (group_of es i)) j 0) (child_count t (node_of es i))))
-      (reaches (length (members t (node_of es i) (group_of es i))) (λ r. length (part_list d key t (node_of es i) (get_or (members t (node_of es i) (group_of es i)) r 0) (child_count t (node_of es i)))))
-      (InRuns d (length (members t (node_of es i) (group_of es i))) (λ j. part_list d key t (node_of es i) (get_or (members t (node_of es i) (group_of es i)) j 0) (child_count t (node_of es i))))
-      (group_list d key t (node_of es i) (group_of es i)) (length s.sources)
-      (subst (λ (z : List (Entry R Source)). IsAhead Pair (KeyOf d 16) (key_below d 16) (run_key (key_none d 16) (λ j. part_list d key t (node_of es i) (get_or (members t (node_of es i) (group_of es i)) j 0) (child_count t (node_of es i))))
-      (reaches (length (members t (node_of es i) (group_of es i))) (λ r. length (part_list d key t (node_of es i) (get_or (members t (node_of es i) (group_of es i)) r 0) (child_count t (node_of es i)))))
-      (InRuns d (length (members t (node_of es i) (group_of es i))) (λ j. part_list d key t (node_of es i) (get_or (members t (node_of es i) (group_of es i)) j 0) (child_count t (node_of es i))))
-      (group_list d key t (node_of es i) (group_of es i)) (length s.sources) (places run_of z)) empty s.merge.ahead) in
-      sym end ∙ sources_length d key t es nodes (node_of es i) (group_of es i) s ∙ stream_owned es (node_of es i) (group_of es i) ∙ sym link
-
   -- the product whose frontier is empty has all sums
   pub sums_done : (v r c : ℕ) → v < length t → r < rows t v → c < length (products_of nodes v r) → (product_of nodes v r c).frontier ≡ [] → length (product_of nodes v r c).found ≡ length (part_list d key t v r (suc c))
   sums_done v r c l row in_row empty =
@@ -206,19 +181,6 @@ module _ {R : Type 0} (d : ℕ) (key : R → KeyOf d 16) (t : List (NodeView R))
       place_once (node_list es') (group_list_of es') (node_length es' ∙ sym (group_length es')) (stream_of nodes' q g).head (stream_of nodes q g).head (omega (arith, s'.head_in, node_length es')) (omega (arith, s.head_in, grown.longer, node_length es'))
       (s'.head_node ∙ sym (grown.nodes (stream_of nodes q g).head s.head_in ∙ s.head_node)) (s'.head_group ∙ sym (grown.groups (stream_of nodes q g).head s.head_in ∙ s.head_group))
       (s'.head_place ∙ sym (grown.places (stream_of nodes q g).head s.head_in ∙ s.head_place))
-
-  -- the source of the last solution is known, its member is in the group, and it has that member's row and number
-  pub top_known : (q g : ℕ) (e : Entry R Source) → q < length t → g < group_count t q → 0 < length (stream_of nodes q g).queue → e ≡ get_or (stream_of nodes q g).queue 0 e
-      → (e.tag.place < row_known nodes q (get_or (members t q g) e.tag.member 0)) × (e.tag.member < length (members t q g)) × (e.tag.row ≡ get_or (members t q g) e.tag.member 0) × (e.tag.number ≡ number t q (get_or (members t q g) e.tag.member 0))
-  top_known q g e l in_group some at =
-      let s = h.streams q g l in_group in
-      let k : e.tag.place < row_known nodes q (get_or (members t q g) e.tag.member 0) =
-      subst (λ (z : Entry R Source). z.tag.place < row_known nodes q (get_or (members t q g) z.tag.member 0)) (sym at) (All-get_or (λ (z : Entry R Source). z.tag.place < row_known nodes q (get_or (members t q g) z.tag.member 0)) (stream_of nodes q g).queue 0 e some s.known) in
-      let m : e.tag.member < length (members t q g) =
-      (subst (IsHeld d key (run_key (key_none d 16) (λ j. part_list d key t q (get_or (members t q g) j 0) (child_count t q))) (InRuns d (length (members t q g)) (λ j. part_list d key t q (get_or (members t q g) j 0) (child_count t q))) run_of) (sym at) (All-get_or (IsHeld d key (run_key (key_none d 16) (λ j. part_list d key t q (get_or (members t q g) j 0) (child_count t q))) (InRuns d (length (members t q g)) (λ j. part_list d key t q (get_or (members t q g) j 0) (child_count t q))) run_of) (stream_of nodes q g).queue 0 e some s.merge.held)).0.0 in
-      let own : HasOwnParts d key t es nodes q g e.tag =
-      subst (λ (z : Entry R Source). HasOwnParts d key t es nodes q g z.tag) (sym at) (All-get_or (λ (z : Entry R Source). HasOwnParts d key t es nodes q g z.tag) (stream_of nodes q g).queue 0 e some s.parts) in
-      (k, m, own.0, own.1)
 
 -- # The effect of a call
 

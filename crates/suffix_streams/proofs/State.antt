@@ -6,7 +6,7 @@ use Rattle.stream_store.specs.declared.linked.Linked.{Linked}
 use Rattle.take2_heap.specs.declared.entry.Entry.{Entry}
 use Rattle.tdp_model.specs.KeyTuple.{KeyOf}
 use Rattle.suffix_streams.specs.declared.stream.Found.{Found}
-use Rattle.suffix_streams.specs.declared.stream.Solved.{Solved}
+use Rattle.suffix_streams.specs.declared.source.Source.{Source}
 use Rattle.suffix_streams.specs.Frontiers.{AreFirst, AreFirstBy}
 use Rattle.suffix_streams.specs.TreeStreams.{stream, node_size}
 
@@ -33,7 +33,7 @@ module _ {R : Type 0} where
   unfolding stream
   stream_other [] e q g a = none (nat_eq e.value.node q) (nat_eq e.value.group g) e.value.solution a
     where
-      none : (b c : Bool) (x : Entry R Solved) → cond b c false ≡ false → cond b (cond c (x ∷ []) []) [] ≡ []
+      none : (b c : Bool) (x : Entry R Source) → cond b c false ≡ false → cond b (cond c (x ∷ []) []) [] ≡ []
       none true true x e = absurd (true_not_false e)
       none true false x e = refl
       none false c x e = refl

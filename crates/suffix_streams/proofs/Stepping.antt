@@ -207,12 +207,12 @@ module _ {R : Type 0} (d : ℕ) (key : R → KeyOf d 16) (t : List (NodeView R))
       (All-weaker (λ e. KnownCell (at e)) (λ e. KnownAfter p (at e)) (λ e k. (omega (arith, k.0, changed_known d key t es nodes h v r c p l row in_row rises v r c), k.1, k.2, k.3)) es1 a)
 
   -- the invariants after the step
-  pub step_holds : (p : ProductView R) → p.frontier ≡ new → length new < 2 ^ 64 → (rises : length old.found ≤ length p.found) → All KnownCell p.found → IsFrontier d key (pair_of es) xs ys (part_list d key t v r (suc c)) p.found new
+  pub step_holds : (p : ProductView R) → p.frontier ≡ new → length new ≤ 2 ^ 64 → (rises : length old.found ≤ length p.found) → All KnownCell p.found → IsFrontier d key (pair_of es) xs ys (part_list d key t v r (suc c)) p.found new
       → (suc c < child_count t v → KeepsRanks d key (part_list d key t v r (suc c)) p) → IsStreams d key t es (slice_set nodes v (with_product (lists_of nodes v) r c p))
   step_holds p same few rises found_known f ranked =
       product_set d key t es nodes h v r c p l row in_row rises
       (record {
-        few = subst (λ z. length z < 2 ^ 64) (sym (at_frontier ∙ same)) few;
+        few = subst (λ z. length z ≤ 2 ^ 64) (sym (at_frontier ∙ same)) few;
         known = cells_after (λ (e : Entry R Cell). e.tag) p rises new (product_of (slice_set nodes v (with_product (lists_of nodes v) r c p)) v r c).frontier (at_frontier ∙ same) new_known;
         found_known = cells_after (λ (x : Cell). x) p rises p.found (product_of (slice_set nodes v (with_product (lists_of nodes v) r c p)) v r c).found (ap (λ z. z.found) at_product) found_known;
         sums = subst (λ (z : ProductView R). IsFrontier d key (pair_of es) xs ys (part_list d key t v r (suc c)) z.found z.frontier) (sym at_product)

@@ -28,14 +28,19 @@ row_inside [] r c l = absurd (omega arith)
 row_inside (x ∷ xs) zero c l = omega arith
 row_inside (x ∷ xs) (suc r) c l = let rest : r < length xs = row_inside xs r c l in omega (arith, rest)
 
--- the number of rows whose products can be kept: at most all, and all if they have children
+-- the number of rows whose products can be kept: at most all, and all if they have several children
 pub open_few : (k n : ℕ) → open_rows k n ≤ n
 open_few zero n = omega arith
-open_few (suc k) n = omega arith
+open_few (suc zero) n = omega arith
+open_few (suc (suc k)) n = omega arith
 
-pub open_all : (k n : ℕ) → 0 < k → open_rows k n ≡ n
+pub open_none : (n : ℕ) → open_rows 1 n ≡ 0
+open_none n = refl
+
+pub open_all : (k n : ℕ) → 1 < k → open_rows k n ≡ n
 open_all zero n l = absurd (omega arith)
-open_all (suc k) n l = refl
+open_all (suc zero) n l = absurd (omega arith)
+open_all (suc (suc k)) n l = refl
 
 pub at_more : {A : Type 0} (xs : List A) (x d : A) (i : ℕ) → i < length xs → get_or (xs ++ (x ∷ [])) i d ≡ get_or xs i d
 at_more [] x d i l = absurd (omega arith)

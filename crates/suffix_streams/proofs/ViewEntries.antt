@@ -5,7 +5,7 @@ use Rattle.stream_store.specs.declared.linked.Linked.{Linked}
 use Rattle.take2_heap.specs.declared.entry.Entry.{Entry}
 use Rattle.suffix_streams.specs.Links.{owned}
 use Rattle.suffix_streams.specs.declared.stream.Found.{Found}
-use Rattle.suffix_streams.specs.declared.stream.Solved.{Solved}
+use Rattle.suffix_streams.specs.declared.source.Source.{Source}
 use Rattle.suffix_streams.specs.TreeStreams.{node_list, group_list_of, node_of, group_of, place_of, stream}
 
 picked_length : {A : Type 0} (b c : Bool) (x : A) (xs : List A) (n : ℕ) → length xs ≡ n → length (cond b (cond c (x ∷ xs) xs) xs) ≡ cond b (cond c 1 0) 0 + n
@@ -29,7 +29,7 @@ module _ {R : Type 0} where
   stream_length (e ∷ es) q g = picked_length (nat_eq e.value.node q) (nat_eq e.value.group g) e.value.solution (stream es q g) _ (stream_length es q g)
 
   -- an entry's solution is at the entry's place of its stream
-  pub stream_at : (es : List (Linked (Found R))) (q g i : ℕ) (e : Linked (Found R)) (a : Entry R Solved) → i < length es → node_of es i ≡ q → group_of es i ≡ g
+  pub stream_at : (es : List (Linked (Found R))) (q g i : ℕ) (e : Linked (Found R)) (a : Entry R Source) → i < length es → node_of es i ≡ q → group_of es i ≡ g
       → get_or (stream es q g) (owned (take i (node_list es)) (take i (group_list_of es)) q g) a ≡ (get_or es i e).value.solution
   unfolding stream owned
   stream_at [] q g i e a l n h = absurd (omega arith)
@@ -38,5 +38,5 @@ module _ {R : Type 0} where
       picked_at (nat_eq x.value.node q) (nat_eq x.value.group g) x.value.solution ((get_or es i e).value.solution) a (stream es q g) (owned (take i (node_list es)) (take i (group_list_of es)) q g)
       (stream_at es q g i e a (omega arith) n h)
 
-  pub entry_at : (es : List (Linked (Found R))) (i : ℕ) (e : Linked (Found R)) (a : Entry R Solved) → i < length es → get_or (stream es (node_of es i) (group_of es i)) (place_of es i) a ≡ (get_or es i e).value.solution
+  pub entry_at : (es : List (Linked (Found R))) (i : ℕ) (e : Linked (Found R)) (a : Entry R Source) → i < length es → get_or (stream es (node_of es i) (group_of es i)) (place_of es i) a ≡ (get_or es i e).value.solution
   entry_at es i e a l = stream_at es (node_of es i) (group_of es i) i e a l refl refl

@@ -10,7 +10,7 @@ use Rattle.take2_heap.specs.declared.entry.Entry.{Entry}
 use Rattle.tdp_core.specs.TreeView.{NodeView, group_count}
 use Rattle.suffix_streams.specs.Links.{IsLinkedAt}
 use Rattle.suffix_streams.specs.declared.stream.Found.{Found}
-use Rattle.suffix_streams.specs.declared.stream.Solved.{Solved}
+use Rattle.suffix_streams.specs.declared.source.Source.{Source}
 use Rattle.suffix_streams.specs.NodeStreamsView.{NodeStreamsView, stream_at}
 use Rattle.suffix_streams.specs.Rankings.{GroupSolution, group_list}
 use Rattle.suffix_streams.specs.Frontiers.{AreFirst}
@@ -19,7 +19,6 @@ use Rattle.suffix_streams.proofs.BeginOwners.{owned_within}
 use Rattle.suffix_streams.proofs.Heads.{lists_at}
 use Rattle.suffix_streams.proofs.Rankings.{group_is_ranking}
 use Rattle.suffix_streams.proofs.ViewEntries.{stream_length, entry_at}
-use Rattle.suffix_streams.proofs.Sources.{stream_prefix}
 
 module _ {R : Type 0} (d : ℕ) (key : R → KeyOf d 16) where
   get_taken : {K : Type 0} (n i : ℕ) (ks : List K) (k : K) → i < n → get_or (take n ks) i k ≡ get_or ks i k
@@ -29,7 +28,7 @@ module _ {R : Type 0} (d : ℕ) (key : R → KeyOf d 16) where
   get_taken (suc n) (suc i) (x ∷ ks) k l = get_taken n i ks k (omega arith)
 
   -- a member of a prefix
-  pub prefix_at : (xs : List (Entry R Solved)) (ks : List (KeyOf d 16)) (i : ℕ) (a : Entry R Solved) → AreFirst d key xs ks → i < length xs
+  pub prefix_at : (xs : List (Entry R Source)) (ks : List (KeyOf d 16)) (i : ℕ) (a : Entry R Source) → AreFirst d key xs ks → i < length xs
       → (i < length ks) × (key (get_or xs i a).rank ≡ get_or ks i (key_none d 16))
   prefix_at xs ks i a p l = (
     omega (arith, l, p.1),
@@ -41,7 +40,7 @@ module _ {R : Type 0} (d : ℕ) (key : R → KeyOf d 16) where
     pub all_prefixes : (q g : ℕ) (ks : List (KeyOf d 16)) → q < length t → g < group_count t q → IsRanking (KeyOf d 16) (key_below d 16) (GroupSolution d key t q g) ks → AreFirst d key (stream es q g) ks
     all_prefixes q g ks l lg r =
         subst (λ z. AreFirst d key (stream es q g) z) (ranking_unique (key_below d 16) (tuple_keys d 16).order (GroupSolution d key t q g) (group_list d key t q g) ks (group_is_ranking d key t q g l) r)
-        (stream_prefix d key t es nodes q g (s.streams q g l lg))
+        (s.streams q g l lg).merge.prefix
 
     -- an entry is in its stream
     pub place_in_stream : (i : ℕ) → i < length es → place_of es i < length (stream es (node_of es i) (group_of es i))
@@ -60,7 +59,7 @@ module _ {R : Type 0} (d : ℕ) (key : R → KeyOf d 16) where
         let o = s.owners i l in
         let x : Linked (Found R) = record { value = f; next = None } in
         let same : get_or (stream es (node_of es i) (group_of es i)) (place_of es i) f.solution ≡ f.solution = entry_at es i x f.solution l ∙ ap (λ v. v.solution) (value x) in
-        let p = prefix_at (stream es (node_of es i) (group_of es i)) (group_list d key t (node_of es i) (group_of es i)) (place_of es i) f.solution (stream_prefix d key t es nodes (node_of es i) (group_of es i) (s.streams (node_of es i) (group_of es i) o.0 o.1)) (place_in_stream i l) in
+        let p = prefix_at (stream es (node_of es i) (group_of es i)) (group_list d key t (node_of es i) (group_of es i)) (place_of es i) f.solution (s.streams (node_of es i) (group_of es i) o.0 o.1).merge.prefix (place_in_stream i l) in
         (p.0, subst (λ a. key a.rank ≡ get_or (group_list d key t (node_of es i) (group_of es i)) (place_of es i) (key_none d 16)) same p.1)
 
     -- what is linked after an entry
@@ -73,7 +72,7 @@ module _ {R : Type 0} (d : ℕ) (key : R → KeyOf d 16) where
     pub entry_inside : (i : ℕ) → i < length es → place_of es i < length (group_list d key t (node_of es i) (group_of es i))
     entry_inside i l =
         let o = s.owners i l in
-        let p : length (stream es (node_of es i) (group_of es i)) ≤ length (group_list d key t (node_of es i) (group_of es i)) = (stream_prefix d key t es nodes (node_of es i) (group_of es i) (s.streams (node_of es i) (group_of es i) o.0 o.1)).1 in
+        let p : length (stream es (node_of es i) (group_of es i)) ≤ length (group_list d key t (node_of es i) (group_of es i)) = (s.streams (node_of es i) (group_of es i) o.0 o.1).merge.prefix.1 in
         omega (arith, place_in_stream i l, p)
 
     -- the head of a stream

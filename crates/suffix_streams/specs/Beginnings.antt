@@ -1,22 +1,20 @@
 -- The streams of a tree while they are made.
-use Rattle.std.specs.Prelude.{◌≡◌, ℕ, ◌<◌, ◌≤◌, None, cond, nat_lt, List, [], ◌∷◌, length, slice_index, slice_index_or}
+use Rattle.std.specs.Prelude.{◌≡◌, ℕ, ◌<◌, ◌≤◌, None, cond, nat_lt, List, [], length, slice_index, slice_index_or}
 use Rattle.stream_store.specs.declared.linked.Linked.{Linked}
-use Rattle.take2_heap.specs.declared.entry.Entry.{Entry}
 use Rattle.tdp_core.specs.TreeView.{NodeView, group_count, child_count, rows}
 use Rattle.tdp_model.specs.KeyTuple.{KeyOf, key_none}
 use Rattle.suffix_streams.specs.Links.{owned}
 use Rattle.suffix_streams.specs.declared.stream.Found.{Found}
-use Rattle.suffix_streams.specs.declared.source.Source.{Source}
 use Rattle.suffix_streams.specs.NodeStreamsView.{NodeStreamsView}
 use Rattle.suffix_streams.specs.Firsts.{IsFirstOf}
 use Rattle.suffix_streams.specs.Rankings.{child, group_list}
-use Rattle.suffix_streams.specs.TreeStreams.{open_rows, kept_of, node_list, group_list_of, node_of, group_of, next_of, lists_of, stream_of, products_of, HasKey}
+use Rattle.suffix_streams.specs.TreeStreams.{open_rows, node_list, group_list_of, node_of, group_of, next_of, lists_of, stream_of, products_of, HasKey}
 
--- the queue has the first solution of the first member of group g of node q, which stands for all
+-- entry i has the first solution of the first member of group g of node q, which stands for all
 abbrev pub HasFirst : {R : Type 0} (d : ℕ) → (R → KeyOf d 16) → List (NodeView R)
-    → List (Linked (Found R)) → ℕ → ℕ → List (Entry R Source) → Type 0
-HasFirst {R} d key t es q g queue = (e : Entry R Source) × (queue ≡ e ∷ [])
-    × IsFirstOf d key t es q g 0 e
+    → List (Linked (Found R)) → ℕ → ℕ → ℕ → Type 0
+HasFirst {R} d key t es q g i = (x : Linked (Found R))
+    → IsFirstOf d key t es q g 0 (slice_index_or es i x).value.solution
 
 module _ {R : Type 0} (t : List (NodeView R)) where
   -- the children of node v in ascending order
@@ -40,10 +38,8 @@ module _ {R : Type 0} (d : ℕ) (key : R → KeyOf d 16) (t : List (NodeView R))
     pub group : group_of es (stream_of nodes q g).head ≡ g
     pub first : HasKey d key es (stream_of nodes q g).head
         (slice_index_or (group_list d key t q g) 0 (key_none d 16))
-    pub top : (x : Linked (Found R)) (e : Entry R Source)
-        → (slice_index_or es (stream_of nodes q g).head x).value.solution
-        ≡ kept_of (slice_index_or (stream_of nodes q g).queue 0 e)
-    pub only : HasFirst d key t es q g (stream_of nodes q g).queue
+    pub only : HasFirst d key t es q g (stream_of nodes q g).head
+    pub empty : (stream_of nodes q g).queue ≡ []
 
   -- the streams that are there have only their heads, and no row has products
   pub record IsBegun : Type 0 where

@@ -1,6 +1,7 @@
 -- The first solutions of the members of a group, and when they enter its queue.
-use Rattle.std.specs.Prelude.{◌≡◌, ◌≢◌, ℕ, suc, ◌+◌, ◌-◌, ◌*◌, ◌<◌, ◌≤◌, ◌⊎◌, Option, Some, None, min, List, ◌∷◌, length, slice_index, slice_index_or}
+use Rattle.std.specs.Prelude.{◌≡◌, ◌≢◌, ℕ, suc, ◌+◌, ◌-◌, ◌*◌, ◌<◌, ◌≤◌, ◌⊎◌, Option, Some, None, min, List, [], ◌∷◌, length, slice_index}
 use Rattle.std.specs.List.Sorted.{IsPermutation}
+use Rattle.take2_heap.specs.Order.{IsLeast}
 use Rattle.take2_heap.specs.declared.entry.Entry.{Entry}
 use Rattle.stream_store.specs.declared.linked.Linked.{Linked}
 use Rattle.tdp_core.specs.TreeView.{NodeView, members, best, number, child_count, group_named}
@@ -12,10 +13,19 @@ use Rattle.suffix_streams.specs.declared.stream.Found.{Found}
 use Rattle.suffix_streams.specs.Rankings.{child}
 use Rattle.suffix_streams.specs.TreeStreams.{node_of, group_of, place_of, run_of}
 
--- the most entries that enter the queue of a group of n members when its top is passed, beside the
--- one that replaces the top
+-- the most first solutions that enter the queue of a group of n members at once
 abbrev pub can_enter : ℕ → ℕ
 can_enter n = min 2 (n - 1)
+
+-- of the queue and what was offered, the least is given, and the others stay; none if there is nothing
+abbrev pub IsGiven : {R : Type 0} (d : ℕ) → (R → KeyOf d 16) → Option (Entry R Source)
+    → Option (Entry R Source) → Option (Entry R Source) → List (Entry R Source)
+    → List (Entry R Source) → Option (Entry R Source) → Type 0
+IsGiven d key next left right old new (Some e) =
+    IsPermutation (offers next None (offers right None (offers left None old))) (e ∷ new)
+    × IsLeast d key e new
+IsGiven d key next left right old new None =
+    (next ≡ None) × (left ≡ None) × (right ≡ None) × (old ≡ [])
 
 -- the cell has the parts of the first solution of row r of node q with its first c + 1 children,
 -- which are first solutions too
@@ -47,13 +57,11 @@ module _ {R : Type 0} (d : ℕ) (key : R → KeyOf d 16) (t : List (NodeView R))
   IsFirstBelow place j (Some e) = (place ≡ 1) × (j < length (members t q g)) × IsFirstOf j e
   IsFirstBelow place j None = (place ≢ 1) ⊎ (length (members t q g) ≤ j)
 
-  -- The first of the queue was passed, and member j's solution before `place`. The solution `next`
-  -- entered, if there is one, and the first solutions of the members below, if that one was j's
-  -- first.
-  abbrev pub AreFirstsMoved : ℕ → ℕ → Option (Entry R Source) → List (Entry R Source)
-      → List (Entry R Source) → Type 0
-  AreFirstsMoved j place next old new =
+  -- Member j's solution before `place` was the last one. The solution `next` was offered, if there is
+  -- one, and the first solutions of the members below, if that one was j's first.
+  abbrev pub AreFirstsGiven : ℕ → ℕ → Option (Entry R Source) → List (Entry R Source)
+      → List (Entry R Source) → Option (Entry R Source) → Type 0
+  AreFirstsGiven j place next old new given =
       (left : Option (Entry R Source)) × (right : Option (Entry R Source))
       × IsFirstBelow place (2 * j + 1) left × IsFirstBelow place (2 * j + 2) right
-      × ((e : Entry R Source) → IsPermutation (offers right None (offers next left old))
-      (slice_index_or old 0 e ∷ new))
+      × IsGiven d key next left right old new given

@@ -13,7 +13,6 @@ pub mod OpenedRows
 pub mod ProductTops
 pub mod ProductView
 pub mod QueueEntries
-pub mod QueueView
 pub mod Rankings
 pub mod Reaches
 pub mod Refusals
@@ -22,5 +21,4 @@ pub mod RowsView
 pub mod StreamView
 pub mod StreamsView
 pub mod Sums
-pub mod TopPassed
 pub mod TreeStreams

@@ -1,6 +1,7 @@
 -- The streams of a tree as contracts see them: one store of entries, and the data of each node.
-use Rattle.std.specs.Prelude.{◌≡◌, ℕ, zero, suc, ◌+◌, ◌^◌, ◌<◌, ◌≤◌, Option, Some, None, cond, nat_eq, List, [], ◌∷◌, map, length, slice_index, slice_index_or}
+use Rattle.std.specs.Prelude.{◌≡◌, ◌≢◌, ℕ, zero, suc, ◌+◌, ◌-◌, ◌^◌, ◌<◌, ◌≤◌, Option, Some, None, cond, nat_eq, List, [], ◌∷◌, map, length, slice_index, slice_index_or}
 use Rattle.std.specs.List.{All}
+use Rattle.take2_heap.specs.Order.{IsLeast}
 use Rattle.take2_heap.specs.declared.entry.Entry.{Entry}
 use Rattle.stream_store.specs.declared.linked.Linked.{Linked}
 use Rattle.tdp_core.specs.TreeView.{NodeView, members, group_named, child_count, group_count, rows, number}
@@ -12,7 +13,6 @@ use Rattle.suffix_streams.specs.Links.{place_in, IsLinked}
 use Rattle.suffix_streams.specs.declared.cell.Cell.{Cell}
 use Rattle.suffix_streams.specs.declared.source.Source.{Source}
 use Rattle.suffix_streams.specs.declared.stream.Found.{Found}
-use Rattle.suffix_streams.specs.declared.stream.Solved.{Solved}
 use Rattle.suffix_streams.specs.ProductView.{ProductView}
 use Rattle.suffix_streams.specs.StreamView.{StreamView}
 use Rattle.suffix_streams.specs.NodeStreamsView.{NodeStreamsView, product_at, stream_at, known_of}
@@ -47,31 +47,31 @@ module _ {R : Type 0} (es : List (Linked (Found R))) where
   next_of i = slice_index_or next_list i None
 
 -- the stream of group g of node q: its solutions, in the order in which they were found
-unfoldable pub stream : {R : Type 0} → List (Linked (Found R)) → ℕ → ℕ → List (Entry R Solved)
+unfoldable pub stream : {R : Type 0} → List (Linked (Found R)) → ℕ → ℕ → List (Entry R Source)
 stream [] q g = []
 stream (e ∷ es) q g = cond (nat_eq e.value.node q)
     (cond (nat_eq e.value.group g) (e.value.solution ∷ stream es q g) (stream es q g))
     (stream es q g)
+
+-- the last of a list, if there is one, before the others
+abbrev pub with_last : {A : Type 0} → List A → List A → List A
+with_last [] others = others
+with_last (x ∷ []) others = x ∷ others
+with_last (x ∷ (y ∷ xs)) others = with_last (y ∷ xs) others
 
 -- the number of entries in the streams of node q
 unfoldable pub node_size : {R : Type 0} → List (Linked (Found R)) → ℕ → ℕ
 node_size [] q = 0
 node_size (e ∷ es) q = cond (nat_eq e.value.node q) 1 0 + node_size es q
 
--- what an entry keeps of a solution and its source: all but the member and the place
-abbrev pub kept_of : {R : Type 0} → Entry R Source → Entry R Solved
-kept_of e = record {
-  rank = e.rank;
-  tag = record { row = e.tag.row; number = e.tag.number; cell = e.tag.cell };
-}
-
 -- # The data of each node
 
--- the number of rows, of n, whose products can be kept, if a row has k children: with no child
--- there are none
+-- the number of rows, of n, whose products can be kept, if a row has k children: none, unless it has
+-- several
 abbrev pub open_rows : ℕ → ℕ → ℕ
 open_rows zero n = 0
-open_rows (suc k) n = n
+open_rows (suc zero) n = 0
+open_rows (suc (suc k)) n = n
 
 module _ {R : Type 0} (nodes : List (NodeStreamsView R)) where
   abbrev pub lists_of : ℕ → NodeStreamsView R
@@ -144,42 +144,46 @@ pub record IsSumOf {R : Type 0} (d : ℕ) (key : R → KeyOf d 16) (t : List (No
       (place_of es cell.right) (key_none d 16))
 
 -- the source, of a solution of group g of node q, has its member's row and that row's number, and
--- its cell has the parts of the solution, if the node has children
+-- its cell has the parts of the solution, if the node has children; if it has one, the solution's
+-- place is that of the child's entry
 abbrev pub HasOwnParts : {R : Type 0} (d : ℕ) → (R → KeyOf d 16) → List (NodeView R)
     → List (Linked (Found R)) → List (NodeStreamsView R) → ℕ → ℕ → Source → Type 0
 HasOwnParts d key t es nodes q g s = (s.row ≡ slice_index (members t q g) s.member)
     × (s.number ≡ number t q (slice_index (members t q g) s.member))
     × ((c : ℕ) → child_count t q ≡ suc c
     → IsSumOf d key t es nodes q (slice_index (members t q g) s.member) c s.place s.cell)
+    × (child_count t q ≡ 1 → place_of es s.cell.right ≡ s.place)
 
 -- # The invariants
 
 module _ {R : Type 0} (d : ℕ) (key : R → KeyOf d 16) (t : List (NodeView R))
     (es : List (Linked (Found R))) (nodes : List (NodeStreamsView R)) where
-  -- The stream of group g of node q is a prefix of the group's ranking, and its queue has the rest.
-  -- Its entries keep of the sources of its solutions what the rows are read from.
+  -- The stream of group g of node q is a prefix of the group's ranking. Its queue, with the last
+  -- solution of the stream, has the rest, and nothing in it is before that one.
   pub record IsStreamOf (q g : ℕ) : Type 0 where
     pub head_in : (stream_of nodes q g).head < length es
     pub head_node : node_of es (stream_of nodes q g).head ≡ q
     pub head_group : group_of es (stream_of nodes q g).head ≡ g
     pub head_place : place_of es (stream_of nodes q g).head ≡ 0
-    pub few : length (stream_of nodes q g).queue ≤ length (members t q g)
-    pub known : All (λ e. e.tag.place
+    pub few : length (stream_of nodes q g).queue < length (members t q g)
+    pub least : (e : Entry R Source)
+        → e ≡ slice_index_or (stream es q g) (length (stream es q g) - 1) e
+        → IsLeast d key e (stream_of nodes q g).queue
+    pub known : child_count t q ≢ 1 → All (λ e. e.tag.place
         < row_known nodes q (slice_index (members t q g) e.tag.member)) (stream_of nodes q g).queue
-    pub sources : List (Entry R Source)
-    pub kept : map kept_of sources ≡ stream es q g
-    pub found_known : All (λ e. e.tag.place
-        < row_known nodes q (slice_index (members t q g) e.tag.member)) sources
+    pub found_known : child_count t q ≢ 1 → All (λ e. e.tag.place
+        < row_known nodes q (slice_index (members t q g) e.tag.member)) (stream es q g)
     pub parts : All (λ e. HasOwnParts d key t es nodes q g e.tag) (stream_of nodes q g).queue
-    pub found_parts : All (λ e. HasOwnParts d key t es nodes q g e.tag) sources
+    pub found_parts : All (λ e. HasOwnParts d key t es nodes q g e.tag) (stream es q g)
     pub merge : IsMerge d key run_of (length (members t q g))
         (λ i. part_list d key t q (slice_index (members t q g) i) (child_count t q))
-        (group_list d key t q g) sources (stream_of nodes q g).queue
+        (group_list d key t q g) (stream es q g)
+        (with_last (stream es q g) (stream_of nodes q g).queue)
 
   -- product number c of row r of node v: the sums of the row's solutions with its first c children
   -- and of the next child's solutions
   pub record IsProductOf (v r c : ℕ) : Type 0 where
-    pub few : length (product_of nodes v r c).frontier < 2 ^ 64
+    pub few : length (product_of nodes v r c).frontier ≤ 2 ^ 64
     pub known : All (λ e. (e.tag.left < part_known nodes v r c) × (e.tag.right < length es)
         × (node_of es e.tag.right ≡ child t v c) × (group_of es e.tag.right ≡ group_named t v r c))
         (product_of nodes v r c).frontier

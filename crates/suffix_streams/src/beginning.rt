@@ -10,15 +10,13 @@ use crate::lists::list_with_room;
 use crate::members::first_solution;
 use crate::node::NodeStreams;
 use crate::opened::RowProducts;
-use crate::queue::Queue;
-use crate::source::Source;
-use crate::stream::{Found, kept_solution};
+use crate::stream::Found;
 use rank_key::Rank;
 use std::alloc::Allocator;
 use std::sync::ledger::Ledger;
 use step_counter::{NoMemory, Steps};
 use stream_store::{EntryId, Run, Store};
-use take2_heap::Entry;
+use take2_heap::HeapOf;
 use tdp_core::Tree;
 
 /// The children of a node, in ascending order.
@@ -40,11 +38,11 @@ fn children_of<R: Rank, A: Allocator + Clone>(
     Ok(children)
 }
 
-/// The number of rows whose products can be kept: 0 if the node has no children, else all.
+/// The number of rows whose products can be kept: all, if the node has several children, else 0.
 fn rows_to_open(children: usize, rows: u32) -> u32
     ensures { result ≡ open_rows children rows }
 {
-    if children == 0 { 0 } else { rows }
+    if children < 2 { 0 } else { rows }
 }
 
 /// A node without streams.
@@ -87,26 +85,27 @@ fn add_empty_nodes<R: Rank, A: Allocator + Clone>(
     Ok(())
 }
 
-impl<R: Rank, A: Allocator> NodeStreams<R, A> {
-    /// Adds the stream of the next group, whose queue has this solution. Its head comes after that of
-    /// the group before it. `NoMemory` if memory is refused.
-    fn add_stream(&mut self, head: EntryId, first: Entry<R, Source>) -> Result<(), NoMemory>
+impl<R: Rank, A: Allocator + Clone> NodeStreams<R, A> {
+    /// Adds the stream of the next group. Its head comes after that of the group before it.
+    /// `NoMemory` if memory is refused.
+    fn add_stream(&mut self, head: EntryId) -> Result<(), NoMemory>
         requires { IsNextHead self.old.streams head }
         ensures { OnOk result
             (self.new ≡ record self.old {
               streams = self.old.streams
-                  ++ record { head = head; queue = first ∷ []; room = 0 } ∷ [];
+                  ++ record { head = head; queue = []; room = 0 } ∷ [];
             }) }
     {
+        let own = self.streams.allocator().clone()?;
         self.streams.reserve(1)?;
-        self.streams.push_reserved(Queue::of(first));
+        self.streams.push_reserved(HeapOf::new(own));
         self.heads.add(head);
         Ok(())
     }
 }
 
-/// Makes the stream of the next group of a node, and adds its head to the store. The queue has the
-/// first solution of the group's first member. `NoMemory` if memory is refused.
+/// Makes the stream of the next group of a node, and adds its head to the store: the first solution
+/// of the group's first member. `NoMemory` if memory is refused.
 fn begin_group<R: Rank, A: Allocator + Clone, L: Ledger>(
     tree: &Tree<R>,
     nodes: &mut Vec<NodeStreams<R, A>, A>,
@@ -134,11 +133,11 @@ fn begin_group<R: Rank, A: Allocator + Clone, L: Ledger>(
         Found {
             node,
             group,
-            solution: kept_solution(first),
+            solution: first,
         },
         steps,
     );
-    nodes[node as usize].add_stream(head, first)
+    nodes[node as usize].add_stream(head)
 }
 
 /// Makes the streams of a node. The streams of all later nodes must be there. `NoMemory` if memory

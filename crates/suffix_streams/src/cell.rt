@@ -44,3 +44,13 @@ pub(crate) fn cell_beside(cell: &Cell, beside: bool, known: u32) -> Option<Cell>
         None
     }
 }
+
+/// A row with its first children, up to the one before number `child`, or the product of that part
+/// and the solutions of child number `child`. All count from 0.
+#[derive(Clone, Copy)]
+pub(crate) struct RowPart {
+    /// The row's node.
+    pub(crate) node: u32,
+    pub(crate) row: u32,
+    pub(crate) child: usize,
+}

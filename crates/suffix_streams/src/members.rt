@@ -1,13 +1,10 @@
 //! The first solutions of the members of a group. They are in heap order: the members below member
 //! j are 2j + 1 and 2j + 2, and no first solution of theirs is before the one of j.
-ghost use Rattle.std.specs.Prelude.{◌≡◌, ℕ, ◌+◌, ◌*◌, ◌<◌, ◌≤◌, length, slice_set, slice_index, slice_index_or};
-ghost use Rattle.rank_key.specs.Bits.{bit_length};
-ghost use Rattle.take2_heap.specs.Order.{IsLeast};
+ghost use Rattle.std.specs.Prelude.{◌≡◌, ◌+◌, ◌*◌, ◌<◌, ◌≤◌, length, slice_index};
 ghost use Rattle.tdp_core.specs.TreeView.{group_count, members};
 ghost use Rattle.tdp_core.specs.WellFormed.{IsFormed};
-ghost use Rattle.suffix_streams.specs.TreeStreams.{IsHeaded, IsStreams, lists_of, stream_of};
-ghost use Rattle.suffix_streams.specs.NodeStreamsView.{with_queue};
-ghost use Rattle.suffix_streams.specs.Firsts.{IsFirstOf, IsFirstBelow, AreFirstsMoved, can_enter};
+ghost use Rattle.suffix_streams.specs.TreeStreams.{IsHeaded, IsStreams};
+ghost use Rattle.suffix_streams.specs.Firsts.{IsFirstOf, IsFirstBelow};
 
 use crate::node::NodeStreams;
 use crate::reads::first_cell;
@@ -81,7 +78,7 @@ fn first_below<R: Rank, A: Allocator + Clone, L: Ledger>(
 }
 
 /// The first solutions of the two members below a member, whose first solution was passed.
-fn firsts_below<R: Rank, A: Allocator + Clone, L: Ledger>(
+pub(crate) fn firsts_below<R: Rank, A: Allocator + Clone, L: Ledger>(
     tree: &Tree<R>,
     nodes: &[NodeStreams<R, A>],
     entries: &Store<Found<R>, A>,
@@ -104,55 +101,4 @@ fn firsts_below<R: Rank, A: Allocator + Clone, L: Ledger>(
         first_below(tree, nodes, entries, node, group, left, steps),
         first_below(tree, nodes, entries, node, group, left + 1, steps),
     )
-}
-
-/// Passes the last solution of a group, which comes from this member. `place` is the place after it
-/// in the ranking of the member's solutions. `next` enters the queue, if there is one, and if a
-/// first solution is passed, so do the first solutions of the members below.
-pub(crate) fn pass_last<R: Rank, A: Allocator + Clone, L: Ledger>(
-    tree: &Tree<R>,
-    nodes: &mut Vec<NodeStreams<R, A>, A>,
-    entries: &Store<Found<R>, A>,
-    node: u32,
-    group: u32,
-    member: u32,
-    place: u32,
-    next: Option<Entry<R, Source>>,
-    steps: &mut Steps<L>,
-)
-    requires formed { IsStreams R.KEYS R.key tree.now entries.now.entries nodes.old.items }
-    requires node { node < length tree.now }
-    requires group { group < group_count tree.now node }
-    requires top { 0 < length (stream_of nodes.old.items node group).queue }
-    requires room { place ≡ 1 → can_enter (length (members tree.now node group))
-        ≤ (stream_of nodes.old.items node group).room }
-    ensures changed { nodes.new.items
-        ≡ slice_set nodes.old.items node (with_queue (lists_of nodes.old.items node) group
-        (stream_of nodes.new.items node group).queue
-        (stream_of nodes.new.items node group).room) }
-    ensures moved { AreFirstsMoved R.KEYS R.key tree.now entries.now.entries node group member place
-        next (stream_of nodes.old.items node group).queue
-        (stream_of nodes.new.items node group).queue }
-    ensures least { (d : Entry R Source)
-        → IsLeast R.KEYS R.key (slice_index_or (stream_of nodes.old.items node group).queue 0 d)
-        (stream_of nodes.old.items node group).queue }
-    ensures cost { steps.new
-        ≤ steps.old + 8 + 2 * bit_length (length (stream_of nodes.old.items node group).queue)
-        + bit_length (length (stream_of nodes.old.items node group).queue + 1)
-        + bit_length (length (stream_of nodes.new.items node group).queue) }
-{
-    if place == 1 {
-        let (left, right) = firsts_below(
-            tree,
-            nodes.as_slice(),
-            entries,
-            node,
-            group,
-            member,
-            steps,
-        );
-        nodes[node as usize].pass(group, next, left, right, steps);
-    } else {
-        nodes[node as usize].pass(group, next, None, None, steps);
-    }
 }

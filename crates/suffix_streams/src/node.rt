@@ -8,22 +8,22 @@ ghost use Rattle.suffix_streams.specs.Offers.{offers};
 ghost use Rattle.suffix_streams.specs.declared.cell.Cell.{Cell};
 ghost use Rattle.suffix_streams.specs.declared.source.Source.{Source};
 ghost use Rattle.suffix_streams.specs.ProductView.{with_rank};
-ghost use Rattle.suffix_streams.specs.Firsts.{can_enter};
+ghost use Rattle.suffix_streams.specs.Firsts.{IsGiven, can_enter};
 ghost use Rattle.suffix_streams.specs.NodeStreamsView.{HasHead, known_of, product_at, stream_at, with_product, with_queue};
 
 use crate::cell::Cell;
 use crate::opened::RowProducts;
 use crate::product::Product;
-use crate::queue::Queue;
 use crate::source::Source;
-use crate::stream::queue_room;
+use crate::stream::entering;
+use crate::waiting::{offer, take};
 use rank_key::Rank;
 use std::alloc::Allocator;
 use std::marker::Model;
 use std::sync::ledger::Ledger;
 use step_counter::{NoMemory, Steps};
 use stream_store::{EntryId, Run};
-use take2_heap::Entry;
+use take2_heap::{Entry, HeapOf};
 
 /// The data of one node: its children, the stream of each of its groups, and the products of those
 /// of its rows of which a second solution was asked for.
@@ -33,11 +33,11 @@ pub(crate) struct NodeStreams<R: Rank, A: Allocator> {
     /// The first entry of each group. They are one run of the store, so that none is kept for each
     /// group.
     pub(crate) heads: Run,
-    /// For each group a queue of what follows its stream. Its top is the last entry of the stream,
-    /// until the entry after it is asked for. It begins with the first solution of the group's first
-    /// member. The first solution of each other member enters when the one of the member above it in
-    /// the group's heap is passed, and a later solution when the one before it is passed.
-    pub(crate) streams: Vec<Queue<R, Source, A>, A>,
+    /// For each group a queue of what was offered to its stream and is not given yet. The stream
+    /// begins with the first solution of the group's first member. The first solution of each other
+    /// member enters when the one of the member above it in the group's heap is passed, and a later
+    /// solution when the one before it is passed. A queue of none takes no memory.
+    pub(crate) streams: Vec<HeapOf<R, Source, A>, A>,
     pub(crate) products: RowProducts<R, A>,
 }
 
@@ -97,6 +97,17 @@ impl<R: Rank, A: Allocator> NodeStreams<R, A> {
         self.products.count_of(row)
     }
 
+    /// Whether the products of a row are still to be made: the node has several children, and the
+    /// row has no products.
+    pub(crate) fn lacks_products(&self, row: u32) -> bool
+        ensures { IsTrue result
+            ↔ ((length (slice_index_or self.now.products row []) < length self.now.children)
+            × (1 < length self.now.children)) }
+    {
+        let children = self.children.len();
+        children > 1 && self.products.count_of(row) < children
+    }
+
     /// The number of known solutions of a row with its first `count` children.
     pub(crate) fn known(&self, row: u32, count: usize) -> u32
         requires count { count ≤ length (slice_index_or self.now.products row []) }
@@ -138,21 +149,8 @@ impl<R: Rank, A: Allocator> NodeStreams<R, A> {
             → e ≡ slice_index_or (product_at self.now row child).frontier 0 d) }
         ensures least { IfSome result
             (λ e. IsLeast R.KEYS R.key e (product_at self.now row child).frontier) }
-        ensures limit { length (product_at self.now row child).frontier < 2 ^ 64 }
     {
         self.products.product(row, child).top()
-    }
-
-    /// The last solution that the stream of a group found, or `None` if no further one follows.
-    pub(crate) fn top(&self, group: u32) -> Option<Entry<R, Source>>
-        requires { group < length self.now.streams }
-        ensures variant { IsSome result ↔ (0 < length (stream_at self.now group).queue) }
-        ensures top { IfSome result
-            (λ e. (d : Entry R Source) → e ≡ slice_index_or (stream_at self.now group).queue 0 d) }
-        ensures least { IfSome result
-            (λ e. IsLeast R.KEYS R.key e (stream_at self.now group).queue) }
-    {
-        self.streams[group as usize].top()
     }
 
     /// Passes the last solution of a product, and keeps the one that follows, if there is one, in
@@ -167,7 +165,7 @@ impl<R: Rank, A: Allocator> NodeStreams<R, A> {
     )
         requires child { child < length (slice_index_or self.old.products row []) }
         requires top { 0 < length (product_at self.old row child).frontier }
-        requires frontier_room { IsSome down → IsSome across
+        requires frontier_room { IsSome across
             → 0 < (product_at self.old row child).frontier_room }
         requires room { 0 < (product_at self.old row child).room }
         ensures changed { self.new
@@ -179,7 +177,7 @@ impl<R: Rank, A: Allocator> NodeStreams<R, A> {
         ensures least { (d : Entry R Cell)
             → IsLeast R.KEYS R.key (slice_index_or (product_at self.old row child).frontier 0 d)
             (product_at self.old row child).frontier }
-        ensures limit { length (product_at self.new row child).frontier < 2 ^ 64 }
+        ensures limit { length (product_at self.new row child).frontier ≤ 2 ^ 64 }
         ensures ended { length (product_at self.new row child).frontier ≡ 0
             → ((product_at self.new row child).found ≡ (product_at self.old row child).found)
             × ((product_at self.new row child).ranks ≡ (product_at self.old row child).ranks) }
@@ -195,46 +193,40 @@ impl<R: Rank, A: Allocator> NodeStreams<R, A> {
             → IsLeast R.KEYS R.key (slice_index_or (product_at self.new row child).frontier 0 d)
             (product_at self.new row child).frontier }
         ensures cost { steps.new
-            ≤ steps.old + 2 * bit_length (length (product_at self.old row child).frontier)
+            ≤ steps.old + 1 + 2 * bit_length (length (product_at self.old row child).frontier)
             + bit_length (length (product_at self.old row child).frontier + 1) }
     {
         let product = self.products.product_mut(row, child);
         product.step(down, across, steps);
     }
 
-    /// Passes the last solution of a group: the next one of its row and the first ones of the
-    /// members below, if there are any, enter the queue.
-    pub(crate) fn pass<L: Ledger>(
+    /// Gives the next solution of a group: the least of what was offered, with the next one of the
+    /// row whose solution was given last and the first ones of the members below, if there are any.
+    /// `None` if there is none.
+    pub(crate) fn give<L: Ledger>(
         &mut self,
         group: u32,
         next: Option<Entry<R, Source>>,
         left: Option<Entry<R, Source>>,
         right: Option<Entry<R, Source>>,
         steps: &mut Steps<L>,
-    )
+    ) -> Option<Entry<R, Source>>
         requires group { group < length self.old.streams }
-        requires top { 0 < length (stream_at self.old group).queue }
         requires left_room { IsSome left → 0 < (stream_at self.old group).room }
         requires right_room { IsSome right → 1 < (stream_at self.old group).room }
         ensures changed { self.new
             ≡ with_queue self.old group (stream_at self.new group).queue
             (stream_at self.new group).room }
-        ensures moved { (d : Entry R Source)
-            → IsPermutation
-            (offers right None (offers next left (stream_at self.old group).queue))
-            (slice_index_or (stream_at self.old group).queue 0 d
-            ∷ (stream_at self.new group).queue) }
-        ensures least { (d : Entry R Source)
-            → IsLeast R.KEYS R.key (slice_index_or (stream_at self.old group).queue 0 d)
-            (stream_at self.old group).queue }
+        ensures given { IsGiven R.KEYS R.key next left right (stream_at self.old group).queue
+            (stream_at self.new group).queue result }
+        ensures none { result ≡ None → self.new ≡ self.old }
         ensures cost { steps.new
-            ≤ steps.old + 2 * bit_length (length (stream_at self.old group).queue)
-            + bit_length (length (stream_at self.old group).queue + 1)
-            + bit_length (length (stream_at self.new group).queue) }
+            ≤ steps.old + 1 + 4 * bit_length (length (stream_at self.new group).queue + 1) }
     {
         let queue = &mut self.streams[group as usize];
-        queue.pass(next, left, steps);
-        queue.offer(right, steps);
+        offer(queue, left, steps);
+        offer(queue, right, steps);
+        take(queue, next, steps)
     }
 }
 
@@ -257,12 +249,7 @@ impl<R: Rank, A: Allocator + Clone> NodeStreams<R, A> {
 
     /// Makes room for one more solution in a product. The first product of a row has one left part,
     /// so no sum is beside another there. `NoMemory` if memory is refused.
-    pub(crate) fn reserve_product(
-        &mut self,
-        alloc: &A,
-        row: u32,
-        child: usize,
-    ) -> Result<(), NoMemory>
+    pub(crate) fn reserve_product(&mut self, row: u32, child: usize) -> Result<(), NoMemory>
         requires child { child < length (slice_index_or self.old.products row []) }
         ensures changed { self.new
             ≡ with_product self.old row child (product_at self.new row child) }
@@ -277,26 +264,19 @@ impl<R: Rank, A: Allocator + Clone> NodeStreams<R, A> {
             (0 < child → 0 < (product_at self.new row child).frontier_room) }
     {
         let product = self.products.product_mut(row, child);
-        product.reserve(alloc, child > 0)
+        product.reserve(child > 0)
     }
 
-    /// Makes room in the queue of a group for what can follow its top. `NoMemory` if memory is
-    /// refused.
-    pub(crate) fn reserve_queue(
-        &mut self,
-        alloc: &A,
-        group: u32,
-        members: u32,
-    ) -> Result<(), NoMemory>
+    /// Makes room in the queue of a group for the first solutions that can enter at once. `NoMemory`
+    /// if memory is refused.
+    pub(crate) fn reserve_queue(&mut self, group: u32, members: u32) -> Result<(), NoMemory>
         requires group { group < length self.old.streams }
-        requires few { length (stream_at self.old group).queue ≤ members }
         ensures changed { self.new
             ≡ with_queue self.old group (stream_at self.old group).queue
             (stream_at self.new group).room }
         ensures room { OnOk result (can_enter members ≤ (stream_at self.new group).room) }
     {
         let queue = &mut self.streams[group as usize];
-        let count = queue_room(members, queue.len());
-        queue.reserve(alloc, count)
+        queue.reserve(entering(members))
     }
 }

@@ -10,14 +10,14 @@ ghost use Rattle.suffix_streams.specs.ProductView.{with_rank};
 
 use crate::cell::Cell;
 use crate::lists::list_of;
-use crate::queue::Queue;
+use crate::waiting::{offer, take};
 use rank_key::Rank;
 use std::alloc::Allocator;
 use std::marker::Model;
 use std::sync::ledger::Ledger;
 use step_counter::{NoMemory, Steps};
 use stream_store::EntryId;
-use take2_heap::Entry;
+use take2_heap::{Entry, HeapOf};
 
 /// The number of solutions that a new product has room for. It is made when a second one is asked
 /// for, and a list that grows in steps leaves its earlier places unused in an arena.
@@ -37,20 +37,23 @@ enum Sums<R: Rank, A: Allocator> {
 }
 
 /// The solutions of a row with its first children, as sums of those with one child less and of the
-/// solutions of the last child's group. It has the cell of each solution that was found, and a
-/// frontier. The top of the frontier is the last solution found, until the one after it is asked
-/// for, so that at least one was found. A product that is the left part of another one keeps the
-/// ranks of its solutions too.
+/// solutions of the last child's group. It has the cell of each solution that was found, at least
+/// one, and a queue of the sums that were offered and are not found yet. A product that is the left
+/// part of another one keeps the ranks of its solutions too.
 #[derive(Drop)]
 pub(crate) struct Product<R: Rank, A: Allocator> {
-    frontier: Queue<R, Cell, A>,
-    /// It is beside `frontier`, since each step reads both, and before the frontier of the row's next
+    /// The last solution found, as a sum, or `None` if no further one follows.
+    last: Option<Entry<R, Cell>>,
+    waiting: HeapOf<R, Cell, A>,
+    /// It is beside `waiting`, since each step reads both, and before the queue of the row's next
     /// product, whose steps read it too.
     found: Sums<R, A>,
 }
 
 impl<R: Rank, A: Allocator> Model for Product<R, A> {
-    ghost use Rattle.std.specs.Prelude.{◌-◌, ◌<◌, ◌^◌, length, min};
+    ghost use Rattle.std.specs.Prelude.{◌≡◌, ◌-◌, ◌<◌, ◌^◌, None, [], length, min, IfSome, IfNone};
+    ghost use Rattle.take2_heap.specs.Order.{IsLeast};
+    ghost use Rattle.suffix_streams.specs.Offers.{offers};
     ghost use Rattle.suffix_streams.specs.ProductView.{ProductView};
     ghost use Rattle.suffix_streams.specs.Sums.{cells_of, ranks_of, spare_of};
 
@@ -59,13 +62,15 @@ impl<R: Rank, A: Allocator> Model for Product<R, A> {
     ghost view = { λ p. record {
       found = cells_of p.found;
       ranks = ranks_of p.found;
-      frontier = p.frontier.entries;
+      frontier = offers p.last None p.waiting.entries;
       room = min (spare_of p.found) (2 ^ 32 - 1 - length (cells_of p.found));
-      frontier_room = p.frontier.spare;
+      frontier_room = p.waiting.spare;
     } };
 
     ghost invariant = { λ p. (0 < length (cells_of p.found))
-        × (length (cells_of p.found) < 2 ^ 32) };
+        × (length (cells_of p.found) < 2 ^ 32)
+        × IfSome p.last (λ e. IsLeast R.KEYS R.key e p.waiting.entries)
+        × IfNone p.last (p.waiting.entries ≡ []) × (length p.waiting.entries < 2 ^ 64) };
 }
 
 impl<R: Rank, A: Allocator + Clone> Product<R, A> {
@@ -87,17 +92,19 @@ impl<R: Rank, A: Allocator + Clone> Product<R, A> {
             rank,
             tag: Cell { left: 0, right },
         };
+        let own = alloc.clone()?;
         let found = Sums::of(alloc, first, keeps_ranks)?;
         Ok(Product {
+            last: Some(first),
+            waiting: HeapOf::new(own),
             found,
-            frontier: Queue::of(first),
         })
     }
 
-    /// Makes room for one more solution, and for one more sum in the frontier if `beside`: both the
-    /// sum below the last solution and the one beside it may follow. `NoMemory` if memory is
+    /// Makes room for one more solution, and for one more sum in the queue if `beside`: then the sum
+    /// beside the last solution may enter. `NoMemory` if memory is
     /// refused, or if there are as many solutions as a place can name.
-    pub(crate) fn reserve(&mut self, alloc: &A, beside: bool) -> Result<(), NoMemory>
+    pub(crate) fn reserve(&mut self, beside: bool) -> Result<(), NoMemory>
         ensures found { self.new.found ≡ self.old.found }
         ensures ranks { self.new.ranks ≡ self.old.ranks }
         ensures frontier { self.new.frontier ≡ self.old.frontier }
@@ -108,7 +115,7 @@ impl<R: Rank, A: Allocator + Clone> Product<R, A> {
             return Err(NoMemory);
         }
         self.found.reserve()?;
-        self.frontier.reserve(alloc, beside as usize)
+        self.waiting.reserve(beside as usize)
     }
 }
 
@@ -142,9 +149,8 @@ impl<R: Rank, A: Allocator> Product<R, A> {
         ensures top { IfSome result
             (λ e. (d : Entry R Cell) → e ≡ slice_index_or self.now.frontier 0 d) }
         ensures least { IfSome result (λ e. IsLeast R.KEYS R.key e self.now.frontier) }
-        ensures limit { length self.now.frontier < 2 ^ 64 }
     {
-        self.frontier.top()
+        self.last
     }
 
     /// Passes the last solution found, and keeps the one that follows, if there is one, in room
@@ -156,14 +162,14 @@ impl<R: Rank, A: Allocator> Product<R, A> {
         steps: &mut Steps<L>,
     )
         requires top { 0 < length self.old.frontier }
-        requires frontier_room { IsSome down → IsSome across → 0 < self.old.frontier_room }
+        requires frontier_room { IsSome across → 0 < self.old.frontier_room }
         requires room { 0 < self.old.room }
         ensures moved { (d : Entry R Cell)
             → IsPermutation (offers down across self.old.frontier)
             (slice_index_or self.old.frontier 0 d ∷ self.new.frontier) }
         ensures least { (d : Entry R Cell)
             → IsLeast R.KEYS R.key (slice_index_or self.old.frontier 0 d) self.old.frontier }
-        ensures limit { length self.new.frontier < 2 ^ 64 }
+        ensures limit { length self.new.frontier ≤ 2 ^ 64 }
         ensures ended { length self.new.frontier ≡ 0
             → (self.new.found ≡ self.old.found) × (self.new.ranks ≡ self.old.ranks) }
         ensures found { (d : Entry R Cell) → 0 < length self.new.frontier
@@ -175,12 +181,13 @@ impl<R: Rank, A: Allocator> Product<R, A> {
         ensures next { (d : Entry R Cell) → 0 < length self.new.frontier
             → IsLeast R.KEYS R.key (slice_index_or self.new.frontier 0 d) self.new.frontier }
         ensures cost { steps.new
-            ≤ steps.old + 2 * bit_length (length self.old.frontier)
+            ≤ steps.old + 1 + 2 * bit_length (length self.old.frontier)
             + bit_length (length self.old.frontier + 1) }
     {
-        self.frontier.pass(down, across, steps);
-        if let Some(top) = self.frontier.top() {
-            self.found.push_reserved(top);
+        offer(&mut self.waiting, across, steps);
+        self.last = take(&mut self.waiting, down, steps);
+        if let Some(sum) = self.last {
+            self.found.push_reserved(sum);
         }
     }
 }

@@ -1,16 +1,16 @@
 //! Reading entries and products, which changes nothing.
 ghost use Rattle.std.specs.Prelude.{◌≡◌, ℕ, ◌+◌, ◌*◌, ◌<◌, ◌≤◌, length, slice_index_or, IfOk, OnOk, IfSome, IfNone};
-ghost use Rattle.tdp_core.specs.TreeView.{child_count, group_named, number as row_number, rows};
+ghost use Rattle.tdp_core.specs.TreeView.{child_count, group_named, rows};
 ghost use Rattle.tdp_core.specs.WellFormed.{IsFormed, IsTieFreeTree};
 ghost use Rattle.tdp_model.specs.KeyTuple.{key_add, key_none};
 ghost use Rattle.tdp_model.specs.Product.{pair_key};
 ghost use Rattle.suffix_streams.specs.Rankings.{child as child_node, part_list, group_list};
 ghost use Rattle.suffix_streams.specs.declared.source.Source.{Source};
-ghost use Rattle.suffix_streams.specs.Exchanges.{CanExchange, IsExchanged};
+ghost use Rattle.suffix_streams.specs.Exchanges.{CanExchange, IsExchanged, IsChildOffer};
 ghost use Rattle.suffix_streams.specs.Firsts.{HasFirstParts};
 ghost use Rattle.suffix_streams.specs.TreeStreams.{lists_of, products_of, stream_of, part_known, row_known, pair_of, IsSumOf, IsStreams, IsHeaded, HasParts, IsCell, IsOffer, AreFreshTo, AreLefts};
 
-use crate::cell::{Cell, down_cell};
+use crate::cell::{Cell, RowPart, down_cell};
 use crate::node::NodeStreams;
 use crate::product::Product;
 use crate::source::Source;
@@ -81,7 +81,6 @@ pub(crate) fn first_cell<R: Rank, A: Allocator + Clone, L: Ledger>(
 /// Makes the products of a row, each with its first solution, in place of those in `products`.
 /// `NoMemory` if memory is refused.
 pub(crate) fn make_products<R: Rank, A: Allocator + Clone, L: Ledger>(
-    alloc: &A,
     tree: &Tree<R>,
     nodes: &[NodeStreams<R, A>],
     entries: &Store<Found<R>, A>,
@@ -106,7 +105,7 @@ pub(crate) fn make_products<R: Rank, A: Allocator + Clone, L: Ledger>(
     for child in 0..children {
         let head = child_head(tree, nodes, entries, node, row, child, steps);
         rank = R::join(rank, entries.get(head, steps).solution.rank, steps);
-        let product = Product::new(alloc, rank, head, child + 1 < children)?;
+        let product = Product::new(products.allocator(), rank, head, child + 1 < children)?;
         products.push(product)?;
     }
     Ok(())
@@ -145,26 +144,26 @@ fn cell_rank<R: Rank, A: Allocator + Clone, L: Ledger>(
     tree: &Tree<R>,
     nodes: &[NodeStreams<R, A>],
     entries: &Store<Found<R>, A>,
-    node: u32,
-    row: u32,
-    child: usize,
+    part: RowPart,
     cell: &Cell,
     steps: &mut Steps<L>,
 ) -> R
     requires formed { IsFormed R.KEYS R.key tree.now }
-    requires node { node < length tree.now }
-    requires row { row < rows tree.now node }
-    requires parts { HasParts R.KEYS R.key tree.now entries.now.entries nodes.now node row child }
-    requires cell { IsCell R.KEYS R.key tree.now entries.now.entries nodes.now node row child
+    requires node { part.node < length tree.now }
+    requires row { part.row < rows tree.now part.node }
+    requires parts { HasParts R.KEYS R.key tree.now entries.now.entries nodes.now part.node part.row part.child }
+    requires cell { IsCell R.KEYS R.key tree.now entries.now.entries nodes.now part.node part.row part.child
         cell.now }
     ensures key { R.key result
         ≡ pair_key (key_add R.KEYS 16) (key_none R.KEYS 16)
-        (part_list R.KEYS R.key tree.now node row child)
-        (group_list R.KEYS R.key tree.now (child_node tree.now node child)
-        (group_named tree.now node row child)) (pair_of entries.now.entries cell.now) }
+        (part_list R.KEYS R.key tree.now part.node part.row part.child)
+        (group_list R.KEYS R.key tree.now (child_node tree.now part.node part.child)
+        (group_named tree.now part.node part.row part.child)) (pair_of entries.now.entries cell.now) }
     ensures cost { steps.new ≤ steps.old + 3 }
 {
-    let left = part_rank(tree, nodes, node, row, child, cell.left, steps);
+    let left = part_rank(
+        tree, nodes, part.node, part.row, part.child, cell.left, steps,
+    );
     let right = entries.get(cell.right, steps);
     R::join(left, right.solution.rank, steps)
 }
@@ -174,23 +173,21 @@ pub(crate) fn offered<R: Rank, A: Allocator + Clone, L: Ledger>(
     tree: &Tree<R>,
     nodes: &[NodeStreams<R, A>],
     entries: &Store<Found<R>, A>,
-    node: u32,
-    row: u32,
-    child: usize,
+    part: RowPart,
     cell: Option<Cell>,
     steps: &mut Steps<L>,
 ) -> Option<Entry<R, Cell>>
     requires formed { IsFormed R.KEYS R.key tree.now }
-    requires node { node < length tree.now }
-    requires row { row < rows tree.now node }
-    requires parts { HasParts R.KEYS R.key tree.now entries.now.entries nodes.now node row child }
+    requires node { part.node < length tree.now }
+    requires row { part.row < rows tree.now part.node }
+    requires parts { HasParts R.KEYS R.key tree.now entries.now.entries nodes.now part.node part.row part.child }
     requires cell { IfSome cell
-        (IsCell R.KEYS R.key tree.now entries.now.entries nodes.now node row child) }
-    ensures offer { IsOffer R.KEYS R.key tree.now entries.now.entries node row child cell result }
+        (IsCell R.KEYS R.key tree.now entries.now.entries nodes.now part.node part.row part.child) }
+    ensures offer { IsOffer R.KEYS R.key tree.now entries.now.entries part.node part.row part.child cell result }
     ensures cost { steps.new ≤ steps.old + 3 }
 {
     let cell = cell?;
-    let rank = cell_rank(tree, nodes, entries, node, row, child, &cell, steps);
+    let rank = cell_rank(tree, nodes, entries, part, &cell, steps);
     Some(Entry { rank, tag: cell })
 }
 
@@ -223,82 +220,107 @@ fn known_sum<R: Rank, A: Allocator + Clone, L: Ledger>(
     tree: &Tree<R>,
     nodes: &[NodeStreams<R, A>],
     entries: &Store<Found<R>, A>,
-    node: u32,
-    row: u32,
-    child: usize,
+    part: RowPart,
     place: u32,
     steps: &mut Steps<L>,
 ) -> Entry<R, Cell>
     requires formed { IsStreams R.KEYS R.key tree.now entries.now.entries nodes.now }
-    requires node { node < length tree.now }
-    requires row { row < rows tree.now node }
-    requires child { child < length (products_of nodes.now node row) }
-    requires place { place < part_known nodes.now node row (child + 1) }
-    ensures sum { IsSumOf R.KEYS R.key tree.now entries.now.entries nodes.now node row child place
+    requires node { part.node < length tree.now }
+    requires row { part.row < rows tree.now part.node }
+    requires child { part.child < length (products_of nodes.now part.node part.row) }
+    requires place { place < part_known nodes.now part.node part.row (part.child + 1) }
+    ensures sum { IsSumOf R.KEYS R.key tree.now entries.now.entries nodes.now part.node part.row part.child place
         result.tag }
     ensures key { R.key result.rank
-        ≡ slice_index_or (part_list R.KEYS R.key tree.now node row (child + 1)) place
+        ≡ slice_index_or (part_list R.KEYS R.key tree.now part.node part.row (part.child + 1)) place
         (key_none R.KEYS 16) }
     ensures cost { steps.new ≤ steps.old + 3 }
 {
-    let lists = &nodes[node as usize];
-    if lists.known(row, child + 1) == place + 1 {
-        if let Some(top) = lists.product_top(row, child) {
+    let lists = &nodes[part.node as usize];
+    if lists.known(part.row, part.child + 1) == place + 1 {
+        if let Some(top) = lists.product_top(part.row, part.child) {
             return top;
         }
     }
-    let cell = lists.cell(row, child, place);
-    let rank = cell_rank(tree, nodes, entries, node, row, child, &cell, steps);
+    let cell = lists.cell(part.row, part.child, place);
+    let rank = cell_rank(tree, nodes, entries, part, &cell, steps);
     Entry { rank, tag: cell }
 }
 
-/// The solution of an opened row at a place, as the next one of the member of a group that the row
-/// is. `number` is the row's number, from 1. `None` if the solution is not known.
+/// The solution of an opened row at the place of a source, whose parts are not known yet. `None` if
+/// the solution is not known.
 pub(crate) fn row_offer<R: Rank, A: Allocator + Clone, L: Ledger>(
     tree: &Tree<R>,
     nodes: &[NodeStreams<R, A>],
     entries: &Store<Found<R>, A>,
     node: u32,
-    row: u32,
-    number: u32,
-    member: u32,
-    place: u32,
+    next: Source,
     steps: &mut Steps<L>,
 ) -> Option<Entry<R, Source>>
     requires formed { IsStreams R.KEYS R.key tree.now entries.now.entries nodes.now }
     requires node { node < length tree.now }
-    requires row { row < rows tree.now node }
-    requires number { number ≡ row_number tree.now node row }
-    requires opened { length (products_of nodes.now node row) ≡ child_count tree.now node }
-    requires place { 0 < place }
-    ensures none { IfNone result (row_known nodes.now node row ≤ place) }
-    ensures source { IfSome result (λ e. (e.tag.member ≡ member) × (e.tag.place ≡ place)) }
-    ensures known { IfSome result (λ e. place < row_known nodes.now node row) }
-    ensures parts { IfSome result (λ e. (e.tag.row ≡ row)
-        × (e.tag.number ≡ row_number tree.now node row)
-        × ((c : ℕ) → child_count tree.now node ≡ c + 1
-        → IsSumOf R.KEYS R.key tree.now entries.now.entries nodes.now node row c place
-        e.tag.cell)) }
+    requires row { next.row < rows tree.now node }
+    requires opened { length (products_of nodes.now node next.row) ≡ child_count tree.now node }
+    requires place { 0 < next.place }
+    ensures none { IfNone result (row_known nodes.now node next.row ≤ next.place) }
+    ensures source { IfSome result (λ e. (e.tag.member ≡ next.member) × (e.tag.place ≡ next.place)
+        × (e.tag.row ≡ next.row) × (e.tag.number ≡ next.number)) }
+    ensures known { IfSome result (λ e. next.place < row_known nodes.now node next.row) }
+    ensures parts { IfSome result (λ e. (c : ℕ) → child_count tree.now node ≡ c + 1
+        → IsSumOf R.KEYS R.key tree.now entries.now.entries nodes.now node next.row c next.place
+        e.tag.cell) }
     ensures key { IfSome result (λ e. R.key e.rank
-        ≡ slice_index_or
-        (part_list R.KEYS R.key tree.now node row (length (products_of nodes.now node row)))
-        place (key_none R.KEYS 16)) }
+        ≡ slice_index_or (part_list R.KEYS R.key tree.now node next.row
+        (length (products_of nodes.now node next.row))) next.place (key_none R.KEYS 16)) }
     ensures cost { steps.new ≤ steps.old + 3 * child_count tree.now node }
 {
     let lists = &nodes[node as usize];
     let count = lists.child_count();
-    if count == 0 || lists.known(row, count) <= place {
+    if count == 0 || lists.known(next.row, count) <= next.place {
         return None;
     }
-    let sum = known_sum(tree, nodes, entries, node, row, count - 1, place, steps);
+    let last = RowPart {
+        node,
+        row: next.row,
+        child: count - 1,
+    };
+    let sum = known_sum(tree, nodes, entries, last, next.place, steps);
     Some(Entry {
         rank: sum.rank,
         tag: Source {
-            member,
-            place,
-            row,
-            number,
             cell: sum.tag,
+            ..next
+        },
+    })
+}
+
+/// The solution after `top` of a row with one child, at this place: the one with the entry `below`
+/// of the child's group as its part. `None` if there is no such entry.
+pub(crate) fn child_offer<R: Rank, A: Allocator + Clone, L: Ledger>(
+    entries: &Store<Found<R>, A>,
+    top: &Entry<R, Source>,
+    place: u32,
+    below: Option<EntryId>,
+    steps: &mut Steps<L>,
+) -> Option<Entry<R, Source>>
+    requires right { top.now.tag.cell.right < length entries.now.entries }
+    requires below { IfSome below (λ b. b < length entries.now.entries) }
+    requires exchange { IfSome below (CanExchange R.KEYS R.key entries.now.entries
+        (record { rank = top.now.rank; tag = top.now.tag.cell })) }
+    ensures offer { IsChildOffer R.KEYS R.key entries.now.entries top.now place below result }
+    ensures cost { steps.new ≤ steps.old + 3 }
+{
+    let sum = Entry {
+        rank: top.rank,
+        tag: top.tag.cell,
+    };
+    let next = offer_below(entries, &sum, below, steps)?;
+    Some(Entry {
+        rank: next.rank,
+        tag: Source {
+            place,
+            cell: next.tag,
+            ..top.tag
         },
     })
 }

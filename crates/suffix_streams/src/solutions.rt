@@ -1,8 +1,7 @@
 //! The next solution of a stream, and the steps at the nodes below it.
 ghost use Rattle.std.specs.Prelude.{◌≡◌, ◌≢◌, ℕ, ◌+◌, ◌*◌, ◌<◌, ◌≤◌, ◌↔◌, Option, cond, nat_eq, length, slice_set, slice_index, slice_index_or, IfOk, MatchOption, IfSome, OnOk, OnErr, IsOk, IsSome, IsTrue, IsFalse};
 ghost use Rattle.take2_heap.specs.declared.entry.Entry.{Entry};
-ghost use Rattle.take2_heap.specs.Order.{IsLeast};
-ghost use Rattle.tdp_core.specs.TreeView.{parent, rows, child_count, group_count, group_named, members};
+ghost use Rattle.tdp_core.specs.TreeView.{parent, rows, child_count, group_count, group_named, members, number as row_number};
 ghost use Rattle.tdp_core.specs.WellFormed.{IsTieFreeTree};
 ghost use Rattle.tdp_model.specs.Below.{is_below};
 ghost use Rattle.rank_key.specs.Bits.{bit_length};
@@ -10,19 +9,21 @@ ghost use Rattle.suffix_streams.specs.Rankings.{child as child_node};
 ghost use Rattle.suffix_streams.specs.declared.source.Source.{Source};
 ghost use Rattle.suffix_streams.specs.TreeStreams.{IsStreams, node_of, next_of, node_size, lists_of, stream_of, product_of, products_of, part_known, row_known};
 ghost use Rattle.suffix_streams.specs.NodeStreamsView.{HasHead, with_queue};
-ghost use Rattle.suffix_streams.specs.Firsts.{can_enter};
-ghost use Rattle.suffix_streams.specs.LastEntries.{IsLast, IsRowReady};
+ghost use Rattle.suffix_streams.specs.Firsts.{AreFirstsGiven, can_enter};
+ghost use Rattle.stream_store.specs.declared.linked.Linked.{Linked};
+ghost use Rattle.suffix_streams.specs.declared.stream.Found.{Found};
+ghost use Rattle.suffix_streams.specs.LastEntries.{IsLast, IsRowNext, IsRowTop};
 ghost use Rattle.suffix_streams.specs.ProductTops.{IsStepReady};
 ghost use Rattle.suffix_streams.specs.Refusals.{AreUnstepped};
 ghost use Rattle.suffix_streams.specs.Growing.{IsStoreGrown, IsGrown, IsExtended, IsReached, IsAnswered, HasOtherProduct, AreQueuesGrown, IsWithinSteps, below_kids, kids_size};
 
-use crate::cell::{Cell, cell_beside};
-use crate::members::pass_last;
+use crate::cell::{Cell, RowPart, cell_beside};
+use crate::members::firsts_below;
 use crate::node::NodeStreams;
 use crate::product::Product;
-use crate::reads::{make_products, offer_below, offered, row_offer};
+use crate::reads::{child_offer, make_products, offer_below, offered, row_offer};
 use crate::source::Source;
-use crate::stream::{Found, kept_solution};
+use crate::stream::Found;
 use rank_key::Rank;
 use std::alloc::Allocator;
 use std::sync::ledger::Ledger;
@@ -35,7 +36,6 @@ use tdp_core::Tree;
 #[derive(Drop)]
 pub(crate) struct Solutions<'t, R: Rank, A: Allocator + Clone> {
     pub(crate) tree: &'t Tree<R>,
-    pub(crate) alloc: A,
     pub(crate) entries: Store<Found<R>, A>,
     pub(crate) nodes: Vec<NodeStreams<R, A>, A>,
     /// The products of one row, while they are made. Its room serves one row after another.
@@ -78,24 +78,61 @@ impl<'t, R: Rank, A: Allocator + Clone> Solutions<'t, R, A> {
         if let Some(next) = self.entries.next_of(entry, steps) {
             return Ok(Some(next));
         }
-        let Found { node, group, .. } = *self.entries.get(entry, steps);
-        let Some(top) = self.top(node, group) else {
-            return Ok(None);
+        let found = *self.entries.get(entry, steps);
+        let (node, group, top) = (found.node, found.group, found.solution);
+        self.open_row(node, group, top.tag.row, top.tag.place, steps)?;
+        let next = self.row_after(node, group, &top, steps)?;
+        Ok(self.advance(entry, node, group, &top, next, steps))
+    }
+
+    /// The solution of a row after `top`, which is the last of the group's stream and comes from an
+    /// open row, or `None` if it is the row's last. Room is made for one more entry. If the node has
+    /// one child, the row's solutions are those of the child's group, in their order. `NoMemory` if
+    /// memory is refused, or if there are as many solutions as a place can name.
+    #[cycle(growth)]
+    fn row_after<L: Ledger>(
+        &mut self,
+        node: u32,
+        group: u32,
+        top: &Entry<R, Source>,
+        steps: &mut Steps<L>,
+    ) -> Result<Option<Entry<R, Source>>, NoMemory>
+        requires formed { IsStreams R.KEYS R.key self.old.tree.now self.old.entries.entries
+            self.old.nodes.items }
+        requires tie_free { IsTieFreeTree self.old.tree.now }
+        requires top { IsRowTop R.KEYS R.key self.old.tree.now self.old.entries.entries
+            self.old.nodes.items node group top.now }
+        ensures formed { IsStreams R.KEYS R.key self.new.tree.now self.new.entries.entries
+            self.new.nodes.items }
+        ensures tree { self.new.tree.now ≡ self.old.tree.now }
+        ensures extended { IsExtended self.old.tree.now node top.now.tag.row
+            (child_count self.old.tree.now node) self.old.entries.entries self.old.nodes.items
+            self.new.entries.entries self.new.nodes.items }
+        ensures next { IfOk result (IsRowNext R.KEYS R.key self.old.tree.now
+            self.new.entries.entries self.new.nodes.items node top.now.tag) }
+        ensures room { OnOk result (0 < self.new.entries.spare) }
+        ensures queues { AreQueuesGrown
+            (λ v. below_kids self.old.tree.now node (child_count self.old.tree.now node) v
+            + cond (nat_eq v node) 1 0) self.old.nodes.items self.new.nodes.items }
+        ensures cost { IsWithinSteps self.old.tree.now self.old.nodes.items
+            (λ v. below_kids self.old.tree.now node (child_count self.old.tree.now node) v
+            + cond (nat_eq v node) 1 0)
+            (λ b. 20 * kids_size self.old.tree.now node (child_count self.old.tree.now node)
+            * (1 + b)) steps.old (steps.new + 3 * child_count self.old.tree.now node) }
+    {
+        let Some(place) = top.tag.place.checked_add(1) else {
+            return Err(NoMemory);
         };
-        let source = top.tag;
-        self.open_row(node, group, source.row, source.place, steps)?;
-        let (count, place) = self.place_after(node, source.row, source.place);
-        self.extend(node, source.row, count, place, steps)?;
-        Ok(self.advance(
-            entry,
-            node,
-            group,
-            source.row,
-            source.number,
-            source.member,
-            place,
-            steps,
-        ))
+        let count = self.nodes[node as usize].child_count();
+        if count == 1 {
+            let below = self.after(top.tag.cell.right, steps)?;
+            self.entries.reserve(1)?;
+            return Ok(child_offer(&self.entries, top, place, below, steps));
+        }
+        self.extend(node, top.tag.row, count, place, steps)?;
+        let next = Source { place, ..top.tag };
+        let nodes = self.nodes.as_slice();
+        Ok(row_offer(self.tree, nodes, &self.entries, node, next, steps))
     }
 
     /// Finds the solution at `place` of a row with its first `count` children, unless it is known
@@ -183,47 +220,17 @@ impl<'t, R: Rank, A: Allocator + Clone> Solutions<'t, R, A> {
             return self.entries.reserve(1);
         };
         let cell = top.tag;
-        make_room(&self.alloc, &mut self.nodes, node, row, child)?;
+        make_room(&mut self.nodes, node, row, child)?;
         let below = self.after(cell.right, steps)?;
         let beside = has_beside(self.nodes.as_slice(), node, child, cell.right);
         let (earlier, next) = self.left_search(node, row, child, &cell, beside);
         self.extend(node, row, earlier, next, steps)?;
-        self.step(node, row, child, &top, below, beside, steps);
+        self.step(RowPart { node, row, child }, &top, below, beside, steps);
         Ok(())
     }
 }
 
 impl<'t, R: Rank, A: Allocator + Clone> Solutions<'t, R, A> {
-    /// The last solution that the stream of a group found, or `None` if no further one follows.
-    fn top(&self, node: u32, group: u32) -> Option<Entry<R, Source>>
-        requires node { node < length self.now.nodes.items }
-        requires group { group < length (lists_of self.now.nodes.items node).streams }
-        ensures variant { IsSome result
-            ↔ (0 < length (stream_of self.now.nodes.items node group).queue) }
-        ensures top { IfSome result (λ e. (d : Entry R Source)
-            → e ≡ slice_index_or (stream_of self.now.nodes.items node group).queue 0 d) }
-        ensures least { IfSome result
-            (λ e. IsLeast R.KEYS R.key e (stream_of self.now.nodes.items node group).queue) }
-    {
-        self.nodes[node as usize].top(group)
-    }
-
-    /// The number of children of a node, and the place after this one in the ranking of an opened
-    /// row with all of them.
-    fn place_after(&self, node: u32, row: u32, place: u32) -> (usize, u32)
-        requires node { node < length self.now.nodes.items }
-        requires opened { length (products_of self.now.nodes.items node row)
-            ≡ length (lists_of self.now.nodes.items node).children }
-        requires known { place < row_known self.now.nodes.items node row }
-        ensures count { result.0 ≡ length (lists_of self.now.nodes.items node).children }
-        ensures place { result.1 ≡ place + 1 }
-    {
-        let lists = &self.nodes[node as usize];
-        let count = lists.child_count();
-        prove!(place < lists.known(row, count));
-        (count, place + 1)
-    }
-
     /// The search in the product before number `child` that a step from `cell` needs, as a number
     /// of children and a place. It is for the next left part if the step can go `beside` the cell,
     /// else for none.
@@ -251,8 +258,8 @@ impl<'t, R: Rank, A: Allocator + Clone> Solutions<'t, R, A> {
 
     /// Before a known solution of a row is passed, of which this is the place. If it is the first
     /// one, what follows needs room in the queue of the group, and the products of the row, one for
-    /// each child. Both are made then, unless they are there already. `NoMemory` if memory is
-    /// refused.
+    /// each child if there are several. Both are made then, unless they are there already.
+    /// `NoMemory` if memory is refused.
     fn open_row<L: Ledger>(
         &mut self,
         node: u32,
@@ -267,7 +274,8 @@ impl<'t, R: Rank, A: Allocator + Clone> Solutions<'t, R, A> {
         requires node { node < length self.old.tree.now }
         requires group { group < group_count self.old.tree.now node }
         requires row { row < rows self.old.tree.now node }
-        requires place { place < row_known self.old.nodes.items node row }
+        requires place { child_count self.old.tree.now node ≢ 1
+            → place < row_known self.old.nodes.items node row }
         ensures formed { IsStreams R.KEYS R.key self.new.tree.now self.new.entries.entries
             self.new.nodes.items }
         ensures tree { self.new.tree.now ≡ self.old.tree.now }
@@ -281,8 +289,8 @@ impl<'t, R: Rank, A: Allocator + Clone> Solutions<'t, R, A> {
         ensures room { OnOk result
             (place ≡ 0 → can_enter (length (members self.old.tree.now node group))
             ≤ (stream_of self.new.nodes.items node group).room) }
-        ensures count { OnOk result
-            (length (products_of self.new.nodes.items node row)
+        ensures count { OnOk result (child_count self.old.tree.now node ≢ 1
+            → length (products_of self.new.nodes.items node row)
             ≡ child_count self.old.tree.now node) }
         ensures queues { AreQueuesGrown (λ _. 0) self.old.nodes.items self.new.nodes.items }
         ensures cost { steps.new ≤ steps.old + 1 + 3 * child_count self.old.tree.now node }
@@ -291,13 +299,11 @@ impl<'t, R: Rank, A: Allocator + Clone> Solutions<'t, R, A> {
             return Ok(());
         }
         let members = self.tree.group_len(node, group);
-        make_queue_room(&self.alloc, &mut self.nodes, node, group, members)?;
-        let lists = &self.nodes[node as usize];
-        if lists.product_count(row) >= lists.child_count() {
+        make_queue_room(&mut self.nodes, node, group, members)?;
+        if !self.nodes[node as usize].lacks_products(row) {
             return Ok(());
         }
         make_products(
-            &self.alloc,
             self.tree,
             self.nodes.as_slice(),
             &self.entries,
@@ -314,9 +320,7 @@ impl<'t, R: Rank, A: Allocator + Clone> Solutions<'t, R, A> {
     /// first entry of the child's stream. It says nothing if the product is the row's first.
     fn step<L: Ledger>(
         &mut self,
-        node: u32,
-        row: u32,
-        child: usize,
+        part: RowPart,
         top: &Entry<R, Cell>,
         below: Option<EntryId>,
         beside: bool,
@@ -325,60 +329,113 @@ impl<'t, R: Rank, A: Allocator + Clone> Solutions<'t, R, A> {
         requires formed { IsStreams R.KEYS R.key self.old.tree.now self.old.entries.entries
             self.old.nodes.items }
         requires tie_free { IsTieFreeTree self.old.tree.now }
-        requires node { node < length self.old.tree.now }
-        requires row { row < rows self.old.tree.now node }
-        requires child { child < length (products_of self.old.nodes.items node row) }
+        requires node { part.node < length self.old.tree.now }
+        requires row { part.row < rows self.old.tree.now part.node }
+        requires child { part.child < length (products_of self.old.nodes.items part.node part.row) }
         requires step { IsStepReady R.KEYS R.key self.old.tree.now self.old.entries.entries
-            self.old.nodes.items node row child top.now below beside }
+            self.old.nodes.items part.node part.row part.child top.now below beside }
         ensures formed { IsStreams R.KEYS R.key self.new.tree.now self.new.entries.entries
             self.new.nodes.items }
         ensures tree { self.new.tree.now ≡ self.old.tree.now }
         ensures entries { self.new.entries ≡ self.old.entries }
-        ensures changed { HasOtherProduct self.old.nodes.items node row child self.new.nodes.items }
-        ensures reached { IsReached R.KEYS R.key self.old.tree.now self.new.nodes.items node row
-            (child + 1) (part_known self.old.nodes.items node row (child + 1)) }
-        ensures queue { length (product_of self.new.nodes.items node row child).frontier
-            ≤ length (product_of self.old.nodes.items node row child).frontier + 1 }
+        ensures changed { HasOtherProduct self.old.nodes.items part.node part.row part.child self.new.nodes.items }
+        ensures reached { IsReached R.KEYS R.key self.old.tree.now self.new.nodes.items part.node part.row
+            (part.child + 1) (part_known self.old.nodes.items part.node part.row (part.child + 1)) }
+        ensures queue { length (product_of self.new.nodes.items part.node part.row part.child).frontier
+            ≤ length (product_of self.old.nodes.items part.node part.row part.child).frontier + 1 }
         ensures cost { steps.new
             ≤ steps.old + 9 + 3
-            * bit_length (length (product_of self.old.nodes.items node row child).frontier + 1) }
+            * bit_length (length (product_of self.old.nodes.items part.node part.row part.child).frontier + 1) }
     {
         let down = offer_below(&self.entries, top, below, steps);
-        let known = self.nodes[node as usize].known(row, child);
+        let known = self.nodes[part.node as usize].known(part.row, part.child);
         let across = cell_beside(&top.tag, beside, known);
         let across = offered(
             self.tree,
             self.nodes.as_slice(),
             &self.entries,
-            node,
-            row,
-            child,
+            part,
             across,
             steps,
         );
-        self.nodes[node as usize].step_product(row, child, down, across, steps);
+        self.nodes[part.node as usize].step_product(part.row, part.child, down, across, steps);
     }
 
-    /// Passes the last solution of a group, which `last` stands for, and links the one that
-    /// follows, if there is one. The last solution comes from this member, whose row is `row` and
-    /// has this number, and `place` is the place of the row's next solution.
+    /// The solution that follows `top`, the last one of a group, or `None` if there is none. `next`
+    /// is the solution of the row after `top`. If `top` is the first one of its row, the first
+    /// solutions of the members below enter the queue.
+    fn give<L: Ledger>(
+        &mut self,
+        node: u32,
+        group: u32,
+        top: &Entry<R, Source>,
+        next: Option<Entry<R, Source>>,
+        steps: &mut Steps<L>,
+    ) -> Option<Entry<R, Source>>
+        requires formed { IsStreams R.KEYS R.key self.old.tree.now self.old.entries.entries
+            self.old.nodes.items }
+        requires node { node < length self.old.tree.now }
+        requires group { group < group_count self.old.tree.now node }
+        requires room { top.now.tag.place ≡ 0
+            → can_enter (length (members self.old.tree.now node group))
+            ≤ (stream_of self.old.nodes.items node group).room }
+        ensures tree { self.new.tree.now ≡ self.old.tree.now }
+        ensures entries { self.new.entries ≡ self.old.entries }
+        ensures changed { self.new.nodes.items
+            ≡ slice_set self.old.nodes.items node (with_queue
+            (lists_of self.old.nodes.items node) group
+            (stream_of self.new.nodes.items node group).queue
+            (stream_of self.new.nodes.items node group).room) }
+        ensures given { AreFirstsGiven R.KEYS R.key self.old.tree.now self.old.entries.entries
+            node group top.now.tag.member (top.now.tag.place + 1) next
+            (stream_of self.old.nodes.items node group).queue
+            (stream_of self.new.nodes.items node group).queue result }
+        ensures none { result ≡ None → self.new.nodes.items ≡ self.old.nodes.items }
+        ensures cost { steps.new
+            ≤ steps.old + 9 + 4
+            * bit_length (length (stream_of self.new.nodes.items node group).queue + 1) }
+    {
+        if top.tag.place > 0 {
+            return self.nodes[node as usize].give(group, next, None, None, steps);
+        }
+        let (left, right) = firsts_below(
+            self.tree,
+            self.nodes.as_slice(),
+            &self.entries,
+            node,
+            group,
+            top.tag.member,
+            steps,
+        );
+        self.nodes[node as usize].give(group, next, left, right, steps)
+    }
+
+    /// Links the solution that follows `top`, if there is one. `top` is the last solution of a group,
+    /// which `last` stands for, and `next` is the solution of the row after it.
     fn advance<L: Ledger>(
         &mut self,
         last: EntryId,
         node: u32,
         group: u32,
-        row: u32,
-        number: u32,
-        member: u32,
-        place: u32,
+        top: &Entry<R, Source>,
+        next: Option<Entry<R, Source>>,
         steps: &mut Steps<L>,
     ) -> Option<EntryId>
         requires formed { IsStreams R.KEYS R.key self.old.tree.now self.old.entries.entries
             self.old.nodes.items }
         requires tie_free { IsTieFreeTree self.old.tree.now }
         requires last { IsLast self.old.entries.entries last node group }
-        requires row { IsRowReady R.KEYS R.key self.old.tree.now self.old.nodes.items node group row
-            number member place }
+        requires top { (x : Linked (Found R))
+            → (slice_index_or self.old.entries.entries last x).value.solution ≡ top.now }
+        requires row { top.now.tag.row
+            ≡ slice_index (members self.old.tree.now node group) top.now.tag.member }
+        requires number { top.now.tag.number
+            ≡ row_number self.old.tree.now node top.now.tag.row }
+        requires next { IsRowNext R.KEYS R.key self.old.tree.now self.old.entries.entries
+            self.old.nodes.items node top.now.tag next }
+        requires queue_room { top.now.tag.place ≡ 0
+            → can_enter (length (members self.old.tree.now node group))
+            ≤ (stream_of self.old.nodes.items node group).room }
         requires room { 0 < self.old.entries.spare }
         ensures formed { IsStreams R.KEYS R.key self.new.tree.now self.new.entries.entries
             self.new.nodes.items }
@@ -394,48 +451,25 @@ impl<'t, R: Rank, A: Allocator + Clone> Solutions<'t, R, A> {
         ensures answer { IsAnswered R.KEYS R.key self.old.tree.now self.new.entries.entries last
             result }
         ensures cost { steps.new
-            ≤ steps.old + 10 + 3 * child_count self.old.tree.now node
-            + 4 * bit_length (length (members self.old.tree.now node group) + 1) }
+            ≤ steps.old + 11 + 4 * bit_length (length (members self.old.tree.now node group) + 1) }
     {
-        let offer = row_offer(
-            self.tree,
-            self.nodes.as_slice(),
-            &self.entries,
-            node,
-            row,
-            number,
-            member,
-            place,
-            steps,
-        );
-        pass_last(
-            self.tree,
-            &mut self.nodes,
-            &self.entries,
-            node,
-            group,
-            member,
-            place,
-            offer,
-            steps,
-        );
-        let top = self.top(node, group)?;
-        let next = self.entries.push_reserved(
+        let found = self.give(node, group, top, next, steps)?;
+        let entry = self.entries.push_reserved(
             Found {
                 node,
                 group,
-                solution: kept_solution(top),
+                solution: found,
             },
             steps,
         );
-        self.entries.set_next(last, next, steps);
-        Some(next)
+        self.entries.set_next(last, entry, steps);
+        Some(entry)
     }
 }
 
-/// Makes room in the queue of a group for what can follow its top. `NoMemory` if memory is refused.
+/// Makes room in the queue of a group for the first solutions that can enter at once. `NoMemory` if
+/// memory is refused.
 fn make_queue_room<R: Rank, A: Allocator + Clone>(
-    alloc: &A,
     nodes: &mut Vec<NodeStreams<R, A>, A>,
     node: u32,
     group: u32,
@@ -443,7 +477,6 @@ fn make_queue_room<R: Rank, A: Allocator + Clone>(
 ) -> Result<(), NoMemory>
     requires node { node < length nodes.old.items }
     requires group { group < length (lists_of nodes.old.items node).streams }
-    requires few { length (stream_of nodes.old.items node group).queue ≤ members }
     ensures changed { nodes.new.items
         ≡ slice_set nodes.old.items node (with_queue (lists_of nodes.old.items node) group
         (stream_of nodes.old.items node group).queue
@@ -451,12 +484,11 @@ fn make_queue_room<R: Rank, A: Allocator + Clone>(
     ensures room { OnOk result
         (can_enter members ≤ (stream_of nodes.new.items node group).room) }
 {
-    nodes[node as usize].reserve_queue(alloc, group, members)
+    nodes[node as usize].reserve_queue(group, members)
 }
 
 /// Makes room for one more solution in a product of a row. `NoMemory` if memory is refused.
 fn make_room<R: Rank, A: Allocator + Clone>(
-    alloc: &A,
     nodes: &mut Vec<NodeStreams<R, A>, A>,
     node: u32,
     row: u32,
@@ -475,7 +507,7 @@ fn make_room<R: Rank, A: Allocator + Clone>(
     ensures frontier_room { OnOk result (0 < child
         → 0 < (product_of nodes.new.items node row child).frontier_room) }
 {
-    nodes[node as usize].reserve_product(alloc, row, child)
+    nodes[node as usize].reserve_product(row, child)
 }
 
 /// Whether the sums with this right part have others beside them in a row's product number `child`,

@@ -68,7 +68,6 @@ impl<'t, R: Rank, A: Allocator + Clone> Streams<'t, R, A> {
         begin_nodes(&alloc, tree, &mut nodes, &mut entries, steps)?;
         let solutions = Solutions {
             tree,
-            alloc,
             entries,
             nodes,
             made: Vec::new(of_made),

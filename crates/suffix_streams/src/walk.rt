@@ -10,7 +10,7 @@ ghost use Rattle.suffix_streams.specs.TreeStreams.{IsKnownPart, IsSumOf, IsStrea
 ghost use Rattle.suffix_streams.specs.Growing.{subtree_size, kids_size};
 ghost use Rattle.suffix_streams.specs.RowNumbers.{AreAddable, AreAdded};
 
-use crate::cell::Cell;
+use crate::cell::{Cell, RowPart};
 use crate::reads::child_head;
 use crate::solutions::Solutions;
 use rank_key::Rank;
@@ -53,27 +53,22 @@ impl<'t, R: Rank, A: Allocator + Clone> Solutions<'t, R, A> {
         if count == 0 {
             add_own_row(self.tree, found.node, row, solved.number, numbers);
         } else {
-            self.add_sum_rows(
-                found.node,
+            let part = RowPart {
+                node: found.node,
                 row,
-                solved.number,
-                count - 1,
-                &solved.cell,
-                numbers,
-                steps,
-            );
+                child: count - 1,
+            };
+            self.add_sum_rows(part, solved.number, &solved.cell, numbers, steps);
         }
     }
 
-    /// Adds the row numbers of a solution of a row with its first `count` children, at a known
-    /// place. `number` is the row's own.
+    /// Adds the row numbers of a solution of a row with its first children, at a known place.
+    /// `number` is the row's own.
     #[cycle(walk)]
     fn add_part_rows<L: Ledger>(
         &self,
-        node: u32,
-        row: u32,
+        part: RowPart,
         number: u32,
-        count: usize,
         place: u32,
         numbers: &mut [u32; 16],
         steps: &mut Steps<L>,
@@ -81,36 +76,37 @@ impl<'t, R: Rank, A: Allocator + Clone> Solutions<'t, R, A> {
         requires formed { IsStreams R.KEYS R.key self.now.tree.now self.now.entries.entries
             self.now.nodes.items }
         requires tie_free { IsTieFreeTree self.now.tree.now }
-        requires node { node < length self.now.tree.now }
-        requires row { row < rows self.now.tree.now node }
-        requires number { number ≡ row_number self.now.tree.now node row }
-        requires count { count ≤ child_count self.now.tree.now node }
-        requires place { IsKnownPart self.now.nodes.items node row count place }
+        requires node { part.node < length self.now.tree.now }
+        requires row { part.row < rows self.now.tree.now part.node }
+        requires number { number ≡ row_number self.now.tree.now part.node part.row }
+        requires count { part.child ≤ child_count self.now.tree.now part.node }
+        requires place { IsKnownPart self.now.nodes.items part.node part.row part.child place }
         requires fits { AreAddable R.KEYS numbers.old
-            (slice_index_or (part_list R.KEYS R.key self.now.tree.now node row count) place
+            (slice_index_or (part_list R.KEYS R.key self.now.tree.now part.node part.row part.child) place
             (key_none R.KEYS 16)) }
         ensures added { AreAdded R.KEYS numbers.old
-            (slice_index_or (part_list R.KEYS R.key self.now.tree.now node row count) place
+            (slice_index_or (part_list R.KEYS R.key self.now.tree.now part.node part.row part.child) place
             (key_none R.KEYS 16)) numbers.new }
-        ensures cost { steps.new ≤ steps.old + 1 + 4 * kids_size self.now.tree.now node count }
+        ensures cost { steps.new ≤ steps.old + 1 + 4 * kids_size self.now.tree.now part.node part.child }
     {
+        let RowPart { node, row, .. } = part;
+        let count = part.child;
         if count == 0 {
             add_own_row(self.tree, node, row, number, numbers);
         } else {
-            let cell = self.part_cell(node, row, count - 1, place, steps);
-            self.add_sum_rows(node, row, number, count - 1, &cell, numbers, steps);
+            let child = count - 1;
+            let cell = self.part_cell(node, row, child, place, steps);
+            self.add_sum_rows(RowPart { node, row, child }, number, &cell, numbers, steps);
         }
     }
 
     /// Adds the row numbers of the sum of a cell's parts: a known solution of a row with its first
-    /// `child` children, and an entry of the next child's group. `number` is the row's own.
+    /// children, and an entry of the next child's group. `number` is the row's own.
     #[cycle(walk)]
     fn add_sum_rows<L: Ledger>(
         &self,
-        node: u32,
-        row: u32,
+        part: RowPart,
         number: u32,
-        child: usize,
         cell: &Cell,
         numbers: &mut [u32; 16],
         steps: &mut Steps<L>,
@@ -118,29 +114,29 @@ impl<'t, R: Rank, A: Allocator + Clone> Solutions<'t, R, A> {
         requires formed { IsStreams R.KEYS R.key self.now.tree.now self.now.entries.entries
             self.now.nodes.items }
         requires tie_free { IsTieFreeTree self.now.tree.now }
-        requires node { node < length self.now.tree.now }
-        requires row { row < rows self.now.tree.now node }
-        requires number { number ≡ row_number self.now.tree.now node row }
-        requires child { child < child_count self.now.tree.now node }
+        requires node { part.node < length self.now.tree.now }
+        requires row { part.row < rows self.now.tree.now part.node }
+        requires number { number ≡ row_number self.now.tree.now part.node part.row }
+        requires child { part.child < child_count self.now.tree.now part.node }
         requires parts { (place : ℕ)
             × IsSumOf R.KEYS R.key self.now.tree.now self.now.entries.entries self.now.nodes.items
-            node row child place cell.now }
+            part.node part.row part.child place cell.now }
         requires fits { AreAddable R.KEYS numbers.old
             (pair_key (key_add R.KEYS 16) (key_none R.KEYS 16)
-            (part_list R.KEYS R.key self.now.tree.now node row child)
-            (group_list R.KEYS R.key self.now.tree.now (child_node self.now.tree.now node child)
-            (group_named self.now.tree.now node row child))
+            (part_list R.KEYS R.key self.now.tree.now part.node part.row part.child)
+            (group_list R.KEYS R.key self.now.tree.now (child_node self.now.tree.now part.node part.child)
+            (group_named self.now.tree.now part.node part.row part.child))
             (pair_of self.now.entries.entries cell.now)) }
         ensures added { AreAdded R.KEYS numbers.old
             (pair_key (key_add R.KEYS 16) (key_none R.KEYS 16)
-            (part_list R.KEYS R.key self.now.tree.now node row child)
-            (group_list R.KEYS R.key self.now.tree.now (child_node self.now.tree.now node child)
-            (group_named self.now.tree.now node row child))
+            (part_list R.KEYS R.key self.now.tree.now part.node part.row part.child)
+            (group_list R.KEYS R.key self.now.tree.now (child_node self.now.tree.now part.node part.child)
+            (group_named self.now.tree.now part.node part.row part.child))
             (pair_of self.now.entries.entries cell.now)) numbers.new }
         ensures cost { steps.new
-            ≤ steps.old + 4 * kids_size self.now.tree.now node (child + 1) }
+            ≤ steps.old + 4 * kids_size self.now.tree.now part.node (part.child + 1) }
     {
-        self.add_part_rows(node, row, number, child, cell.left, numbers, steps);
+        self.add_part_rows(part, number, cell.left, numbers, steps);
         self.add_entry_rows(cell.right, numbers, steps);
     }
 

@@ -1,10 +1,8 @@
 use Rattle.std.proofs.Common.{[], ◌∷◌, ◌++◌, ◌≡◌, ◌≢◌, ℕ, ◌+◌, ◌<◌, ◌≤◌, None, List, length, get_or, slice_set, refl, sym, ap, ◌∙◌, subst, arith}
 use Rattle.stream_store.specs.declared.linked.Linked.{Linked}
-use Rattle.take2_heap.specs.declared.entry.Entry.{Entry}
 use Rattle.tdp_core.specs.TreeView.{members}
 use Rattle.tdp_core.proofs.TreeFacts.{member_is_row}
 use Rattle.suffix_streams.specs.declared.stream.Found.{Found}
-use Rattle.suffix_streams.specs.declared.stream.Solved.{Solved}
 use Rattle.suffix_streams.specs.StreamView.{StreamView, IsNextHead}
 use Rattle.suffix_streams.specs.NodeStreamsView.{NodeStreamsView}
 use Rattle.suffix_streams.specs.TreeStreams.{lists_of, IsHeaded}
@@ -28,10 +26,10 @@ in_same v n m l e = omega arith
 module _ (g : Over) where
   -- the entry that was added, and the stream that it heads
   abbrev entry : After-add_stream g → Linked (Found g.row.R.Denot)
-  entry c = record { value = record { node = c.args.node; group = c.args.group; solution = c.kept_solution.result }; next = None }
+  entry c = record { value = record { node = c.args.node; group = c.args.group; solution = c.first_solution-first.result }; next = None }
 
   abbrev stream : After-add_stream g → StreamView g.row.R.Denot
-  stream c = record { head = c.push_reserved-head.result; queue = c.first_solution-first.result ∷ []; room = 0 }
+  stream c = record { head = c.push_reserved-head.result; queue = []; room = 0 }
 
   added : (c : After-add_stream g) → c.push_reserved-head.new.self.entries ≡ c.args.entries.now.entries ++ (entry c ∷ [])
   added c = c.push_reserved-head.ensures.entries ∙ ap (λ es. es ++ (entry c ∷ [])) c.reserve.ensures.entries
@@ -56,8 +54,8 @@ module _ (g : Over) where
       subst (λ es. IsBegunIn d key t es (slice_set c.args.nodes.now.items c.args.node c.add_stream.new.self) c.args.node (c.args.group + 1)) (sym (added c))
       (in_more d key t c.args.entries.now.entries c.args.nodes.now.items (slice_set c.args.nodes.now.items c.args.node c.add_stream.new.self) c.args.node c.args.group (c.args.group + 1) (entry c) (stream c)
       set.0 set.1 set.2 c.requires.node c.requires.group refl refl refl refl (head_is c)
-      (ap (λ (z : Entry g.row.R.Denot Solved). key z.rank) c.kept_solution.ensures ∙ first.1 ∙ first_best d key t c.requires.formed c.args.node c.args.group c.requires.node c.requires.group ∙ first_member d key t c.requires.formed c.args.node c.args.group c.requires.node c.requires.group)
-      (λ x. c.kept_solution.ensures) (c.first_solution-first.result, refl, first) c.requires.begun)
+      (first.1 ∙ first_best d key t c.requires.formed c.args.node c.args.group c.requires.node c.requires.group ∙ first_member d key t c.requires.formed c.args.node c.args.group c.requires.node c.requires.group)
+      refl first c.requires.begun)
 
   heads : (c : After-add_stream g) → c.add_stream.new.self ≡ with_stream c.index_mut.result.now (stream c)
       → IsNextHead (lists_of (slice_set c.args.nodes.now.items c.args.node c.add_stream.new.self) c.args.node).streams (length c.push_reserved-head.new.self.entries)

@@ -12,7 +12,7 @@ pub join-requires : goal.join-requires
 join-requires g c =
     let r = c.requires.parts.rights c.args.cell.now.right c.requires.cell.right c.requires.cell.node c.requires.cell.group in
     let k = head_key g.R.Rank.KEYS g.R.Rank.key c.args.entries.now.entries c.args.cell.now.right c.args.cell.now.right c.get-right.result.now _ refl c.get-right.ensures.value r.1 in
-    cell_fits g.R.Rank.KEYS g.R.Rank.key c.args.tree.now c.requires.formed c.args.entries.now.entries c.args.nodes.now c.args.node c.args.row c.args.child c.args.cell.now c.requires.node c.requires.parts c.requires.cell _ _ c.part_rank-left.ensures.key k
+    cell_fits g.R.Rank.KEYS g.R.Rank.key c.args.tree.now c.requires.formed c.args.entries.now.entries c.args.nodes.now c.args.part.node c.args.part.row c.args.part.child c.args.cell.now c.requires.node c.requires.parts c.requires.cell _ _ c.part_rank-left.ensures.key k
 
 pub returns : goal.returns
 returns g c =
@@ -21,7 +21,7 @@ returns g c =
     record {
       key =
           c.join.ensures.sum ∙ ap (λ z. key_add g.R.Rank.KEYS 16 z (g.R.Rank.key c.get-right.result.now.solution.rank)) c.part_rank-left.ensures.key
-          ∙ ap (λ z. key_add g.R.Rank.KEYS 16 (get_or (part_list g.R.Rank.KEYS g.R.Rank.key c.args.tree.now c.args.node c.args.row c.args.child) c.args.cell.now.left (key_none g.R.Rank.KEYS 16)) z) k;
+          ∙ ap (λ z. key_add g.R.Rank.KEYS 16 (get_or (part_list g.R.Rank.KEYS g.R.Rank.key c.args.tree.now c.args.part.node c.args.part.row c.args.part.child) c.args.cell.now.left (key_none g.R.Rank.KEYS 16)) z) k;
       cost = three_steps _ _ _ _ c.part_rank-left.ensures.cost c.get-right.ensures.cost c.join.ensures.counted;
     }
 

@@ -17,18 +17,18 @@ module _ (g : Over) where
   next : (c : After-push_reserved g) → IsNextHead (headed c.self.inside.heads.first c.self.inside.streams.items) c.args.head
   next c = subst (λ (n : NodeStreamsView g.row.R.Denot). IsNextHead n.streams c.args.head) (sym c.self.view_is) c.requires
 
-  -- the stream has the solution alone
-  alone : (c : After-add g) → stream_at_head c.args.head c.of.result ≡ record { head = c.args.head; queue = c.args.first ∷ []; room = 0 }
-  alone c =
-      ap (λ es. (let s : StreamView g.row.R.Denot = record { head = c.args.head; queue = es; room = c.of.result.spare } in s)) c.of.ensures.entries
-      ∙ ap (λ n. (let s : StreamView g.row.R.Denot = record { head = c.args.head; queue = c.args.first ∷ []; room = n } in s)) c.of.ensures.spare
+  -- its queue is empty
+  empty : (c : After-add g) → stream_at_head c.args.head c.new.result ≡ record { head = c.args.head; queue = []; room = 0 }
+  empty c =
+      ap (λ es. (let s : StreamView g.row.R.Denot = record { head = c.args.head; queue = es; room = c.new.result.spare } in s)) c.new.ensures.entries
+      ∙ ap (λ n. (let s : StreamView g.row.R.Denot = record { head = c.args.head; queue = []; room = n } in s)) c.new.ensures.spare
 
   streams : (c : After-add g) → IsNextHead (headed c.self.inside.heads.first c.self.inside.streams.items) c.args.head
-      → headed c.add.new.self.first c.push_reserved.new.self.items ≡ headed c.self.inside.heads.first c.self.inside.streams.items ++ (record { head = c.args.head; queue = c.args.first ∷ []; room = 0 } ∷ [])
+      → headed c.add.new.self.first c.push_reserved.new.self.items ≡ headed c.self.inside.heads.first c.self.inside.streams.items ++ (record { head = c.args.head; queue = []; room = 0 } ∷ [])
   streams c before =
-      ap (λ qs. headed c.add.new.self.first qs) (c.push_reserved.ensures.items ∙ ap (λ qs. qs ++ (c.of.result ∷ [])) c.in_ok-reserve.ensures.items)
-      ∙ headed_next c.self.inside.heads.first c.add.new.self.first c.args.head c.self.inside.streams.items c.of.result before (begins_at _ _ _ _ c.self.invariant.1 c.add.ensures.last)
-      ∙ ap (λ s. headed c.self.inside.heads.first c.self.inside.streams.items ++ (s ∷ [])) (alone c)
+      ap (λ qs. headed c.add.new.self.first qs) (c.push_reserved.ensures.items ∙ ap (λ qs. qs ++ (c.new.result ∷ [])) c.in_ok-reserve.ensures.items)
+      ∙ headed_next c.self.inside.heads.first c.add.new.self.first c.args.head c.self.inside.streams.items c.new.result before (begins_at _ _ _ _ c.self.invariant.1 c.add.ensures.last)
+      ∙ ap (λ s. headed c.self.inside.heads.first c.self.inside.streams.items ++ (s ∷ [])) (empty c)
 
 pub add-requires : goal.add-requires
 add-requires g c = record {
@@ -38,6 +38,6 @@ add-requires g c = record {
 pub returns : goal.returns
 returns g c =
     let at = goal.at.returns g c in
-    let s : StreamView g.row.R.Denot = record { head = c.args.head; queue = c.args.first ∷ []; room = 0 } in
+    let s : StreamView g.row.R.Denot = record { head = c.args.head; queue = []; room = 0 } in
     ap (λ (z : List (StreamView g.row.R.Denot)). (let n : NodeStreamsView g.row.R.Denot = record { children = c.self.inside.children.items; streams = z; products = c.self.inside.products.rows } in n)) (streams g at.After-add (next g at.After-push_reserved))
     ∙ ap (λ (n : NodeStreamsView g.row.R.Denot). (let m : NodeStreamsView g.row.R.Denot = record n { streams = n.streams ++ (s ∷ []) } in m)) c.self.view_is

@@ -1,32 +1,21 @@
-use Rattle.std.proofs.Common.{◌<◌, ℕ, ◌≡◌, ◌≤◌, OnOk, length, sym, ap, ◌∙◌, subst, arith}
+use Rattle.std.proofs.Common.{◌<◌, ℕ, ◌≡◌, ◌≤◌, OnOk, sym, ap, ◌∙◌, subst, arith}
 use Rattle.suffix_streams.specs.Firsts.{can_enter}
 use Rattle.suffix_streams.specs.StreamView.{StreamView}
 use Rattle.suffix_streams.specs.NodeStreamsView.{stream_at, with_queue}
-use Rattle.suffix_streams.proofs.Errors.{ok_then}
-use Rattle.suffix_streams.proofs.NodeFacts.{in_queues, queue_read, queue_changed}
+use Rattle.suffix_streams.proofs.NodeFacts.{in_queues, queue_changed}
 use Rattle.suffix_streams.proofs.node.NodeStreams.reserve_queue.Goals as goal
 
 in_same : (v n m : ℕ) → v < n → m ≡ n → v < m
 in_same v n m l e = omega arith
 
-few_read : (n l m : ℕ) → n ≡ l → l ≤ m → n ≤ m
-few_read n l m e few = omega arith
-
-at_most : (n k m : ℕ) → n ≤ k → k ≤ m → n ≤ m
-at_most n k m a b = omega arith
-
 pub index_mut-queue-requires : goal.index_mut-queue-requires
 index_mut-queue-requires g c = in_same _ _ _ (in_queues _ c.self.inside.heads.first c.self.inside.streams.items _ c.args.self.now c.self.view_is c.args.group c.requires.group) c.self.inside.streams.ok.0
-
-pub queue_room-count-requires : goal.queue_room-count-requires
-queue_room-count-requires g c =
-    few_read _ _ _ c.len.ensures (subst (λ (s : StreamView g.row.R.Denot). length s.queue ≤ c.args.members) (queue_read _ c.self.inside.heads.first c.self.inside.streams.items _ c.args.self.now c.self.view_is c.args.group c.requires.group c.index_mut-queue.result.now c.index_mut-queue.ensures.value) c.requires.few)
 
 pub returns : goal.returns
 returns g c =
     let o = queue_changed _ c.self.inside.heads.first c.self.inside.streams.items _ c.args.self.now c.self.view_is c.args.group c.requires.group c.reserve.new.self c.index_mut-queue.result.now c.index_mut-queue.ensures.value in
     record {
-      room = subst (λ (s : StreamView g.row.R.Denot). OnOk c.reserve.result (can_enter c.args.members ≤ s.room)) (sym o.1) (ok_then c.reserve.result (λ more. at_most _ _ _ c.queue_room-count.ensures more) c.reserve.ensures.ok);
+      room = subst (λ (s : StreamView g.row.R.Denot). OnOk c.reserve.result (can_enter c.args.members ≤ s.room)) (sym o.1) (subst (λ n. OnOk c.reserve.result (n ≤ c.reserve.new.self.spare)) c.entering.ensures c.reserve.ensures.ok);
       changed =
           o.2
           ∙ ap (λ q. with_queue c.args.self.now c.args.group q c.reserve.new.self.spare) (c.reserve.ensures.entries ∙ sym (ap (λ (s : StreamView g.row.R.Denot). s.queue) o.0))

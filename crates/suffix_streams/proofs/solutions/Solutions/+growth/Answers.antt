@@ -1,7 +1,5 @@
-use Rattle.std.proofs.Common.{◌≡◌, ◌≢◌, ◌↔◌, ◌⊎◌, IsTrue, ℕ, suc, ◌+◌, ◌-◌, ◌*◌, ◌<◌, ◌≤◌, max, cond, nat_eq, Some, None, is_some, OnOk, List, [], length, get_or, slice_index, refl, sym, ap, ◌∙◌, subst, inl, inr, arith}
+use Rattle.std.proofs.Common.{◌≡◌, ◌≢◌, ◌↔◌, ◌⊎◌, IsTrue, ℕ, suc, ◌+◌, ◌-◌, ◌*◌, ◌<◌, ◌≤◌, max, cond, nat_eq, Some, None, is_some, OnOk, IfSome, List, length, get_or, slice_index, refl, sym, ap, ◌∙◌, subst, inl, inr, arith}
 use Rattle.stream_store.specs.declared.linked.Linked.{Linked}
-use Rattle.take2_heap.specs.declared.entry.Entry.{Entry}
-use Rattle.suffix_streams.specs.declared.source.Source.{Source}
 use Rattle.tdp_model.specs.Below.{is_below}
 use Rattle.rank_key.specs.Bits.{bit_length}
 use Rattle.tdp_core.specs.TreeView.{NodeView, parent, rows, number, members, child_count, group_named}
@@ -11,17 +9,20 @@ use Rattle.suffix_streams.specs.declared.stream.Found.{Found}
 use Rattle.suffix_streams.specs.ProductView.{ProductView}
 use Rattle.suffix_streams.specs.ProductTops.{IsProductTop}
 use Rattle.suffix_streams.specs.StreamView.{StreamView}
-use Rattle.suffix_streams.specs.NodeStreamsView.{HasHead, product_at, known_of}
+use Rattle.suffix_streams.specs.NodeStreamsView.{NodeStreamsView, HasHead, product_at, known_of}
 use Rattle.suffix_streams.specs.Firsts.{can_enter}
+use Rattle.suffix_streams.specs.LastEntries.{IsRowTop, IsRowNext}
 use Rattle.suffix_streams.specs.Rankings.{child}
-use Rattle.suffix_streams.specs.TreeStreams.{group_of, next_of, node_of, product_of, stream_of, part_known, row_known, lists_of, products_of, IsStreams}
-use Rattle.suffix_streams.specs.Growing.{IsGrown, IsExtended, IsReached, IsAnswered, below_kids, kids_size}
-use Rattle.suffix_streams.proofs.Along.{chain, along, back, same}
+use Rattle.suffix_streams.specs.TreeStreams.{next_of, node_of, product_of, stream_of, part_known, lists_of, products_of, IsStreams}
+use Rattle.suffix_streams.specs.Growing.{IsGrown, IsExtended, IsReached, IsAnswered, AreQueuesGrown, IsWithinSteps, below_kids, kids_size}
+use Rattle.suffix_streams.specs.Exchanges.{CanExchange, IsChildOffer}
+use Rattle.suffix_streams.proofs.ChildSteps.{IsOnlyChild, only_child, child_below, child_exchange, child_next, child_extended, child_steps}
+use Rattle.suffix_streams.proofs.RowOffers.{IsRowOffer, row_next}
+use Rattle.suffix_streams.proofs.Along.{along, back, same}
 use Rattle.suffix_streams.proofs.Heads.{lists_at}
-use Rattle.suffix_streams.proofs.Stores.{any_default}
 use Rattle.suffix_streams.proofs.StepCells.{no_top}
-use Rattle.suffix_streams.proofs.Searching.{answered_stays, extended_none, last_of_all, sums_done, reached_none}
-use Rattle.suffix_streams.proofs.NextCall.{IsOwned, IsTopRead, IsRowOpen, IsRowCounted, IsRowSearched, owned, top_read, row_within, row_open, row_counted, row_searched, only_opened, searched_grown, searched_queues, searched_steps, searched_stream, searched_queue, linked_grown, linked_queues}
+use Rattle.suffix_streams.proofs.Searching.{answered_stays, extended_none, sums_done, reached_none}
+use Rattle.suffix_streams.proofs.NextCall.{IsOwned, IsRowOpen, IsRowSearched, owned, row_open, row_searched, only_opened, searched_grown, searched_queues, searched_steps, searched_stream, linked_grown, linked_queues}
 use Rattle.suffix_streams.proofs.RowSearch.{IsRoomMade, IsChildAsked, IsLeftSearched, room_made, made_none, made_queues, made_unstepped, child_asked, asked_extended, asked_queues, asked_within, asked_unstepped, asked_beside, left_searched, left_extended, left_queues, left_steps, one_more_extended, one_more_queues}
 use Rattle.suffix_streams.proofs.Errors.{none_given, none_done}
 use Rattle.suffix_streams.proofs.SearchCosts.{none_within}
@@ -29,7 +30,7 @@ use Rattle.suffix_streams.proofs.SearchRoom.{unstepped_on}
 use Rattle.suffix_streams.proofs.SearchSteps.{searched, left_or_none, all_or_none, left_reached, left_few, left_within, count_few}
 use Rattle.suffix_streams.proofs.SearchCalls.{on_ok, on_err, not_some, next_read, opened_grown}
 use Rattle.suffix_streams.proofs.solutions.Solutions.+growth.Given.{Over}
-use Rattle.suffix_streams.proofs.solutions.Solutions.+growth.Goals.{after-After-extend, after-After-get, after-After-open_row, after-After-place_after-count, after-In-Some-top, search-After-after, search-After-extend, search-After-make_room, extend-then-place-known-via-then-place-known, extend-then-place-known-via-else-place-known+then-count-eq0}
+use Rattle.suffix_streams.proofs.solutions.Solutions.+growth.Goals.{after-After-row_after, row_after-After-child_count-count, row_after-After-after, after-After-get-found, after-In_ok-open_row, search-After-after, search-After-extend, search-After-make_room, extend-then-place-known-via-then-place-known, extend-then-place-known-via-else-place-known+then-count-eq0}
 use Rattle.suffix_streams.proofs.solutions.Solutions.+growth.Goals as goal
 
 -- # Numbers
@@ -54,6 +55,9 @@ few_below v u n few l = omega arith
 
 some_is : (n : ℕ) → n ≢ 0 → 0 < n
 some_is n h = omega arith
+
+at_most_same : (n m : ℕ) → n ≡ m → n ≤ m
+at_most_same n m e = omega arith
 
 one_within : (n : ℕ) → 0 < n → 1 ≤ n
 one_within n h = omega arith
@@ -98,7 +102,7 @@ first_step s s' b n e = omega arith
 second_step : (s s' s'' b n : ℕ) → s' ≡ s + 1 → s'' ≡ s' + 1 → s'' ≤ s + (14 + 4 * b + n)
 second_step s s' s'' b n e e' = omega arith
 
-opened_steps : (s s' s'' s3 n : ℕ) → s' ≡ s + 1 → s'' ≡ s' + 1 → s3 ≤ s'' + 1 + n → s3 ≤ s + 4 + n
+opened_steps : (s s' s'' s3 n : ℕ) → s' ≡ s + 1 → s'' ≡ s' + 1 → s3 ≤ s'' + 1 + n → s3 ≤ s + 3 + n
 opened_steps s s' s'' s3 n e e' h = omega arith
 
 one_later : (s : ℕ) → s ≤ s + 1
@@ -107,8 +111,8 @@ one_later s = omega arith
 later_digits : (s n : ℕ) → s ≤ s + 9 + n
 later_digits s n = omega arith
 
-later_steps : (s n b : ℕ) → s ≤ s + 10 + n + b
-later_steps s n b = omega arith
+later_steps : (s b : ℕ) → s ≤ s + 11 + b
+later_steps s b = omega arith
 
 fewer_digits : (s n b b' : ℕ) → s ≤ n + 4 * b → b ≤ b' → s ≤ n + 4 * b'
 fewer_digits s n b b' h l = omega arith
@@ -128,8 +132,14 @@ kids_few : (count kids n most : ℕ) → count ≡ kids → kids ≤ n → n ≤
 kids_few count kids n most e h few = omega arith
 
 -- a search in a row with all its children, for the entry after one
-row_smaller : (t n n' v w count : ℕ) → 64 * (n - w) + 63 ≡ t → w ≡ v → n' ≡ n → v < n → count ≤ 16 → 64 * (n' - v) + 2 * count + 1 < t
-row_smaller t n n' v w count h e same l few = omega arith
+row_smaller : (t n n' v w : ℕ) → 64 * (n - w) + 63 ≡ t → w ≡ v → n' ≡ n → v < n → 64 * (n' - v) + 40 < t
+row_smaller t n n' v w h e same l = omega arith
+
+extend_smaller : (t n v count : ℕ) → 64 * (n - v) + 40 ≡ t → v < n → count ≤ 16 → 64 * (n - v) + 2 * count + 1 < t
+extend_smaller t n v count h l few = omega arith
+
+only_smaller : (t n v u w : ℕ) → 64 * (n - v) + 40 ≡ t → w ≡ u → v < u → u < n → 64 * (n - w) + 63 < t
+only_smaller t n v u w h e below within = omega arith
 
 search_smaller : (t n v count : ℕ) → 64 * (n - v) + 2 * count + 1 ≡ t → 64 * (n - v) + 2 * count < t
 search_smaller t n v count h = omega arith
@@ -143,22 +153,19 @@ left_smaller t n n' v count k h last same few = omega arith
 -- # What the proofs share about a call for the next entry
 
 module _ (g : Over) (t : ℕ) where
-  entry_owned : (c : after-After-get g t) → IsOwned g.R.Rank.KEYS g.R.Rank.key c.args.self.now.tree.now c.args.self.now.entries.entries c.args.self.now.nodes.items c.args.entry c.get.result.now
-  entry_owned c = owned g.R.Rank.KEYS g.R.Rank.key c.args.self.now.tree.now c.args.self.now.entries.entries c.args.self.now.nodes.items c.args.entry c.get.result.now c.requires.formed c.requires.entry c.get.ensures.value
+  entry_owned : (c : after-After-get-found g t) → IsOwned g.R.Rank.KEYS g.R.Rank.key c.args.self.now.tree.now c.args.self.now.entries.entries c.args.self.now.nodes.items c.args.entry c.get-found.result.now
+  entry_owned c = owned g.R.Rank.KEYS g.R.Rank.key c.args.self.now.tree.now c.args.self.now.entries.entries c.args.self.now.nodes.items c.args.entry c.get-found.result.now c.requires.formed c.requires.entry c.get-found.ensures.value
 
-  top_of : (c : after-In-Some-top g t) → IsOwned g.R.Rank.KEYS g.R.Rank.key c.args.self.now.tree.now c.args.self.now.entries.entries c.args.self.now.nodes.items c.args.entry c.get.result.now → IsTopRead c.args.self.now.tree.now c.args.self.now.nodes.items c.get.result.now c.in-Some-top.top
-  top_of c o = top_read o c.in-Some-top.top (c.top.ensures.variant.0 (ap is_some c.in-Some-top.is)) (c.in-Some-top.ensures.top c.in-Some-top.top)
+  row_of : (c : after-In_ok-open_row g t) → IsOwned g.R.Rank.KEYS g.R.Rank.key c.args.self.now.tree.now c.args.self.now.entries.entries c.args.self.now.nodes.items c.args.entry c.get-found.result.now
+      → IsRowOpen g.R.Rank.KEYS g.R.Rank.key c.args.self.now.tree.now c.args.self.now.entries.entries c.args.self.now.nodes.items c.open_row.new.self.nodes.items c.get-found.result.now c.args.steps.now c.open_row.new.steps
+  row_of c o =
+      row_open o c.open_row.new.self.tree.now c.open_row.new.self.entries.entries c.open_row.new.self.nodes.items c.args.steps.now c.open_row.new.steps c.open_row.ensures.tree (ap (λ z. z.entries) c.open_row.ensures.entries) c.open_row.ensures.formed c.open_row.ensures.above c.open_row.ensures.queues
+      (opened_steps c.args.steps.now c.next_of.new.steps c.get-found.new.steps c.open_row.new.steps (3 * child_count c.args.self.now.tree.now c.get-found.result.now.node) c.next_of.ensures.cost c.get-found.ensures.cost c.open_row.ensures.cost) c.in_ok-open_row.ensures.count
 
-  row_of : (c : after-After-open_row g t) → IsOwned g.R.Rank.KEYS g.R.Rank.key c.args.self.now.tree.now c.args.self.now.entries.entries c.args.self.now.nodes.items c.args.entry c.get.result.now → IsTopRead c.args.self.now.tree.now c.args.self.now.nodes.items c.get.result.now c.in-Some-top.top → IsRowOpen g.R.Rank.KEYS g.R.Rank.key c.args.self.now.tree.now c.args.self.now.entries.entries c.args.self.now.nodes.items c.open_row.new.self.nodes.items c.get.result.now c.in-Some-top.top c.in-Some-top.top.tag.row c.args.steps.now c.open_row.new.steps
-  row_of c o p =
-      row_open o p c.open_row.new.self.tree.now c.open_row.new.self.entries.entries c.open_row.new.self.nodes.items c.in-Some-top.top.tag.row c.args.steps.now c.open_row.new.steps p.row c.open_row.ensures.tree (ap (λ z. z.entries) c.open_row.ensures.entries) c.open_row.ensures.formed c.open_row.ensures.above c.open_row.ensures.streams c.open_row.ensures.queues (opened_steps c.args.steps.now c.next_of.new.steps c.get.new.steps c.open_row.new.steps (3 * child_count c.args.self.now.tree.now c.get.result.now.node) c.next_of.ensures.cost c.get.ensures.cost c.open_row.ensures.cost)
-
-  counted_of : (c : after-After-place_after-count g t) → IsOwned g.R.Rank.KEYS g.R.Rank.key c.args.self.now.tree.now c.args.self.now.entries.entries c.args.self.now.nodes.items c.args.entry c.get.result.now → IsRowOpen g.R.Rank.KEYS g.R.Rank.key c.args.self.now.tree.now c.args.self.now.entries.entries c.args.self.now.nodes.items c.open_row.new.self.nodes.items c.get.result.now c.in-Some-top.top c.in-Some-top.top.tag.row c.args.steps.now c.open_row.new.steps → IsRowCounted c.args.self.now.tree.now c.open_row.new.self.nodes.items c.get.result.now c.in-Some-top.top c.in-Some-top.top.tag.row c.place_after-count.result.0
-  counted_of c o a = row_counted o a c.place_after-count.result.0 c.place_after-count.ensures.count c.in_ok-open_row.ensures.count
-
-  search_of : (c : after-After-extend g t) → IsRowSearched g.R.Rank.KEYS g.R.Rank.key c.args.self.now.tree.now c.args.self.now.entries.entries c.extend.new.self.entries.entries c.open_row.new.self.nodes.items c.extend.new.self.nodes.items c.get.result.now.node c.in-Some-top.top.tag.row c.place_after-count.result.0 c.open_row.new.steps c.extend.new.steps
+  search_of : (c : after-After-row_after g t) → IsRowSearched g.R.Rank.KEYS g.R.Rank.key c.args.self.now.tree.now c.args.self.now.entries.entries c.row_after.new.self.entries.entries c.open_row.new.self.nodes.items c.row_after.new.self.nodes.items c.get-found.result.now.node c.get-found.result.now.solution.tag.row c.open_row.new.steps c.row_after.new.steps
   search_of c =
-      row_searched g.R.Rank.KEYS g.R.Rank.key c.args.self.now.tree.now c.open_row.new.self.tree.now c.extend.new.self.tree.now c.args.self.now.entries.entries c.open_row.new.self.entries.entries c.extend.new.self.entries.entries c.open_row.new.self.nodes.items c.extend.new.self.nodes.items c.get.result.now.node c.in-Some-top.top.tag.row c.place_after-count.result.0 c.open_row.new.steps c.extend.new.steps c.open_row.ensures.tree (ap (λ z. z.entries) c.open_row.ensures.entries) c.extend.ensures.tree c.extend.ensures.formed c.extend.ensures.extended c.extend.ensures.queues c.extend.ensures.cost
+      row_searched g.R.Rank.KEYS g.R.Rank.key c.args.self.now.tree.now c.open_row.new.self.tree.now c.row_after.new.self.tree.now c.args.self.now.entries.entries c.open_row.new.self.entries.entries c.row_after.new.self.entries.entries c.open_row.new.self.nodes.items c.row_after.new.self.nodes.items c.get-found.result.now.node c.get-found.result.now.solution.tag.row c.open_row.new.steps c.row_after.new.steps
+      c.open_row.ensures.tree (ap (λ z. z.entries) c.open_row.ensures.entries) c.row_after.ensures.tree c.row_after.ensures.formed c.row_after.ensures.extended c.row_after.ensures.queues c.row_after.ensures.cost
 
   -- # What they share about a search in a row
 
@@ -177,108 +184,90 @@ module _ (g : Over) (t : ℕ) where
       let kids : c.args.count ≤ child_count c.args.self.now.tree.now c.args.node = count_few g.R.Rank.KEYS g.R.Rank.key c.args.self.now.tree.now c.args.self.now.entries.entries c.args.self.now.nodes.items c.requires.formed c.args.node c.args.row c.args.count c.requires.node c.requires.row c.requires.count in
       left_searched a b (searched g.R.Rank.KEYS g.R.Rank.key c.args.self.now.tree.now c.after.new.self.tree.now c.args.node c.args.row (c.args.count - 1) c.after.new.self.entries.entries c.after.new.self.nodes.items c.extend.new.self.tree.now c.extend.new.self.entries.entries c.extend.new.self.nodes.items c.left_search-earlier.result.0 c.after.new.steps c.extend.new.steps c.after.ensures.tree c.extend.ensures.tree (omega (arith, kids)) (all_or_none c.left_search-earlier.result.0 (c.args.count - 1) c.left_search-earlier.result.1 (c.in-Some.top.tag.left + 1) (left_is c)) c.extend.ensures.formed c.extend.ensures.extended c.extend.ensures.queues c.extend.ensures.cost)
 
-pub after-top-requires-clause-node : goal.after-top-requires-clause-node
-after-top-requires-clause-node g t c =
-    let at = goal.at.after-top-requires-clause-node g t c in
-    let o = entry_owned g t at.After-get in
-    o.in_nodes
-
-pub after-top-requires-clause-group : goal.after-top-requires-clause-group
-after-top-requires-clause-group g t c =
-    let at = goal.at.after-top-requires-clause-group g t c in
-    let o = entry_owned g t at.After-get in
-    in_same _ _ _ o.group (o.formed.all_streams c.get.result.now.node o.node)
-
 pub after-open_row-requires-clause-node : goal.after-open_row-requires-clause-node
 after-open_row-requires-clause-node g t c =
     let at = goal.at.after-open_row-requires-clause-node g t c in
-    let o = entry_owned g t at.After-get in
+    let o = entry_owned g t at.After-get-found in
     o.node
 
 pub after-open_row-requires-clause-group : goal.after-open_row-requires-clause-group
 after-open_row-requires-clause-group g t c =
     let at = goal.at.after-open_row-requires-clause-group g t c in
-    let o = entry_owned g t at.After-get in
+    let o = entry_owned g t at.After-get-found in
     o.group
 
 pub after-open_row-requires-clause-row : goal.after-open_row-requires-clause-row
 after-open_row-requires-clause-row g t c =
     let at = goal.at.after-open_row-requires-clause-row g t c in
-    let o = entry_owned g t at.After-get in
-    let p = top_of g t at.In-Some-top o in
-    row_within o p c.in-Some-top.top.tag.row p.row
+    let o = entry_owned g t at.After-get-found in
+    o.known.row
 
 pub after-open_row-requires-clause-place : goal.after-open_row-requires-clause-place
 after-open_row-requires-clause-place g t c =
     let at = goal.at.after-open_row-requires-clause-place g t c in
-    let o = entry_owned g t at.After-get in
-    let p = top_of g t at.In-Some-top o in
-    subst (λ r. c.in-Some-top.top.tag.place < row_known c.args.self.now.nodes.items c.get.result.now.node r) (sym p.row) p.known
+    let o = entry_owned g t at.After-get-found in
+    o.known.known
 
-pub after-place_after-count-requires-clause-node : goal.after-place_after-count-requires-clause-node
-after-place_after-count-requires-clause-node g t c =
-    let at = goal.at.after-place_after-count-requires-clause-node g t c in
-    let o = entry_owned g t at.After-get in
-    let p = top_of g t at.In-Some-top o in
-    let a = row_of g t at.After-open_row o p in
-    a.in_nodes
+pub after-row_after-requires : goal.after-row_after-requires
+after-row_after-requires g t c κs within =
+    let at = goal.at.after-row_after-requires g t c in
+    let o = entry_owned g t at.After-get-found in
+    let a = row_of g t at.In_ok-open_row o in (
+      row_smaller _ _ _ _ _ c.decreases o.node_is (same (λ (z : List (NodeView g.row.R.Denot)). length z) c.open_row.new.self.tree.now c.args.self.now.tree.now c.open_row.ensures.tree) o.node,
+      (
+        within.0,
+        (
+          within.1.0,
+          (
+            within.1.1,
+            (
+              c.open_row.ensures.formed,
+              (
+                subst IsTieFreeTree (sym c.open_row.ensures.tree) c.requires.tie_free,
+                subst (λ (z : List (NodeView g.row.R.Denot)). IsRowTop g.R.Rank.KEYS g.R.Rank.key z c.open_row.new.self.entries.entries c.open_row.new.self.nodes.items c.get-found.result.now.node c.get-found.result.now.group c.get-found.result.now.solution) (sym c.open_row.ensures.tree)
+                    (subst (λ (z : List (Linked (Found g.row.R.Denot))). IsRowTop g.R.Rank.KEYS g.R.Rank.key c.args.self.now.tree.now z c.open_row.new.self.nodes.items c.get-found.result.now.node c.get-found.result.now.group c.get-found.result.now.solution) (sym (ap (λ z. z.entries) c.open_row.ensures.entries)) a.row_top),
+              ),
+            ),
+          ),
+        ),
+      ),
+    )
 
-pub after-place_after-count-requires-clause-opened : goal.after-place_after-count-requires-clause-opened
-after-place_after-count-requires-clause-opened g t c =
-    let at = goal.at.after-place_after-count-requires-clause-opened g t c in
-    let o = entry_owned g t at.After-get in
-    let p = top_of g t at.In-Some-top o in
-    let a = row_of g t at.After-open_row o p in
-    chain (length (products_of c.open_row.new.self.nodes.items c.get.result.now.node c.in-Some-top.top.tag.row)) (child_count c.args.self.now.tree.now c.get.result.now.node) (length (lists_of c.open_row.new.self.nodes.items c.get.result.now.node).children) c.in_ok-open_row.ensures.count (sym (a.formed.all_children c.get.result.now.node o.node))
+-- the top of the queue, and the tree, when it is passed
+passed_tree : (g : Over) (t : ℕ) (c : after-After-row_after g t) → c.row_after.new.self.tree.now ≡ c.args.self.now.tree.now
+passed_tree g t c = two_calls c.args.self.now.tree.now c.open_row.new.self.tree.now c.row_after.new.self.tree.now c.open_row.ensures.tree c.row_after.ensures.tree
 
-pub after-place_after-count-requires-clause-known : goal.after-place_after-count-requires-clause-known
-after-place_after-count-requires-clause-known g t c =
-    let at = goal.at.after-place_after-count-requires-clause-known g t c in
-    let o = entry_owned g t at.After-get in
-    let p = top_of g t at.In-Some-top o in
-    let a = row_of g t at.After-open_row o p in
-    a.known
-
-pub after-extend-requires : goal.after-extend-requires
-after-extend-requires g t c κs within =
-    let at = goal.at.after-extend-requires g t c in
-    let o = entry_owned g t at.After-get in
-    let p = top_of g t at.In-Some-top o in
-    let a = row_of g t at.After-open_row o p in
-    let k = counted_of g t at.After-place_after-count o a in
-    (row_smaller _ _ _ _ _ _ c.decreases o.node_is (same (λ (z : List (NodeView g.row.R.Denot)). length z) c.open_row.new.self.tree.now c.args.self.now.tree.now c.open_row.ensures.tree) o.node (kids_few _ _ _ _ k.all (kids_below_most (parent c.args.self.now.tree.now) c.get.result.now.node (length c.args.self.now.tree.now)) o.formed.tree.shaped.few_nodes), (within.0, (within.1.0, (within.1.1, (c.open_row.ensures.formed, (back IsTieFreeTree c.args.self.now.tree.now c.open_row.new.self.tree.now c.open_row.ensures.tree c.requires.tie_free, (back (λ (z : List (NodeView g.row.R.Denot)). c.get.result.now.node < length z) c.args.self.now.tree.now c.open_row.new.self.tree.now c.open_row.ensures.tree o.node, (back (λ (z : List (NodeView g.row.R.Denot)). c.in-Some-top.top.tag.row < rows z c.get.result.now.node) c.args.self.now.tree.now c.open_row.new.self.tree.now c.open_row.ensures.tree a.row, (k.within, next_within _ _ _ k.known c.place_after-count.ensures.place)))))))))
+pub after-advance-requires-clause-top : goal.after-advance-requires-clause-top
+after-advance-requires-clause-top g t c x =
+    let at = goal.at.after-advance-requires-clause-top g t c in
+    let o = entry_owned g t at.After-get-found in
+    let s = search_of g t at.After-row_after in
+    ap (λ z. z.solution) (s.extended.store.values c.args.entry x c.requires.entry ∙ o.value x)
 
 pub after-advance-requires-clause-row : goal.after-advance-requires-clause-row
 after-advance-requires-clause-row g t c =
     let at = goal.at.after-advance-requires-clause-row g t c in
-    let o = entry_owned g t at.After-get in
-    let p = top_of g t at.In-Some-top o in
-    let a = row_of g t at.After-open_row o p in
-    let k = counted_of g t at.After-place_after-count o a in
-    let s = search_of g t at.After-extend in
-    let tree : c.args.self.now.tree.now ≡ c.extend.new.self.tree.now = sym (two_calls c.args.self.now.tree.now c.open_row.new.self.tree.now c.extend.new.self.tree.now c.open_row.ensures.tree c.extend.ensures.tree) in
-    let kids : child_count c.args.self.now.tree.now c.get.result.now.node ≡ child_count c.extend.new.self.tree.now c.get.result.now.node = ap (λ (z : List (NodeView g.row.R.Denot)). child_count z c.get.result.now.node) tree in
-    let queue = searched_queue o a k s in
-    let first : (x : Entry g.row.R.Denot Source) → get_or (stream_of c.extend.new.self.nodes.items c.get.result.now.node c.get.result.now.group).queue 0 x ≡ c.in-Some-top.top = λ x. ap (λ z. get_or z 0 x) queue ∙ any_default (stream_of c.args.self.now.nodes.items c.get.result.now.node c.get.result.now.group).queue 0 x c.in-Some-top.top p.some ∙ sym p.first in
-    record {
-      top = record {
-        some = subst (λ z. 0 < length z) (sym queue) p.some;
-        member = λ x. ap (λ e. e.tag.member) (first x);
-        after = λ x. ap (λ e. e.tag.place + 1) (first x) ∙ sym c.place_after-count.ensures.place;
-      };
-      row = along (λ (z : List (NodeView g.row.R.Denot)). c.in-Some-top.top.tag.row ≡ get_or (members z c.get.result.now.node c.get.result.now.group) c.in-Some-top.top.tag.member 0) c.args.self.now.tree.now c.extend.new.self.tree.now tree p.row;
-      number = p.numbered ∙ ap (number c.args.self.now.tree.now c.get.result.now.node) (sym p.row) ∙ ap (λ (z : List (NodeView g.row.R.Denot)). number z c.get.result.now.node c.in-Some-top.top.tag.row) tree;
-      count =
-          chain (length (products_of c.extend.new.self.nodes.items c.get.result.now.node c.in-Some-top.top.tag.row)) (length (products_of c.open_row.new.self.nodes.items c.get.result.now.node c.in-Some-top.top.tag.row)) (child_count c.extend.new.self.tree.now c.get.result.now.node) c.extend.ensures.extended.count
-          (chain (length (products_of c.open_row.new.self.nodes.items c.get.result.now.node c.in-Some-top.top.tag.row)) (child_count c.args.self.now.tree.now c.get.result.now.node) (child_count c.extend.new.self.tree.now c.get.result.now.node) c.in_ok-open_row.ensures.count kids);
-      place =
-          along (λ z. IsReached g.R.Rank.KEYS g.R.Rank.key c.extend.new.self.tree.now c.extend.new.self.nodes.items c.get.result.now.node c.in-Some-top.top.tag.row z c.place_after-count.result.1) c.place_after-count.result.0 (child_count c.extend.new.self.tree.now c.get.result.now.node) (k.all ∙ kids)
-          (back (λ (z : List (NodeView g.row.R.Denot)). IsReached g.R.Rank.KEYS g.R.Rank.key z c.extend.new.self.nodes.items c.get.result.now.node c.in-Some-top.top.tag.row c.place_after-count.result.0 c.place_after-count.result.1) c.open_row.new.self.tree.now c.extend.new.self.tree.now c.extend.ensures.tree c.in_ok-extend.ensures.reached);
-      queue_room =
-          λ one.
-          subst (λ (z : List (NodeView g.row.R.Denot)). can_enter (length (members z c.get.result.now.node c.get.result.now.group)) ≤ (stream_of c.extend.new.self.nodes.items c.get.result.now.node c.get.result.now.group).room) tree
-          (subst (λ (z : StreamView g.row.R.Denot). can_enter (length (members c.args.self.now.tree.now c.get.result.now.node c.get.result.now.group)) ≤ z.room) (sym (searched_stream o a k s)) (c.in_ok-open_row.ensures.room (none_before _ _ one c.place_after-count.ensures.place)));
-    }
+    let o = entry_owned g t at.After-get-found in
+    back (λ (z : List (NodeView g.row.R.Denot)). c.get-found.result.now.solution.tag.row ≡ get_or (members z c.get-found.result.now.node c.get-found.result.now.group) c.get-found.result.now.solution.tag.member 0) c.args.self.now.tree.now c.row_after.new.self.tree.now (passed_tree g t at.After-row_after) o.known.parts.0
+
+pub after-advance-requires-clause-number : goal.after-advance-requires-clause-number
+after-advance-requires-clause-number g t c =
+    let at = goal.at.after-advance-requires-clause-number g t c in
+    let o = entry_owned g t at.After-get-found in
+    let a = row_of g t at.In_ok-open_row o in
+    back (λ (z : List (NodeView g.row.R.Denot)). c.get-found.result.now.solution.tag.number ≡ number z c.get-found.result.now.node c.get-found.result.now.solution.tag.row) c.args.self.now.tree.now c.row_after.new.self.tree.now (passed_tree g t at.After-row_after) a.row_top.number
+
+pub after-advance-requires-clause-next : goal.after-advance-requires-clause-next
+after-advance-requires-clause-next g t c =
+    back (λ (z : List (NodeView g.row.R.Denot)). IsRowNext g.R.Rank.KEYS g.R.Rank.key z c.row_after.new.self.entries.entries c.row_after.new.self.nodes.items c.get-found.result.now.node c.get-found.result.now.solution.tag c.in_ok-next.next) c.open_row.new.self.tree.now c.row_after.new.self.tree.now c.row_after.ensures.tree c.in_ok-next.ensures.next
+
+pub after-advance-requires-clause-queue_room : goal.after-advance-requires-clause-queue_room
+after-advance-requires-clause-queue_room g t c first =
+    let at = goal.at.after-advance-requires-clause-queue_room g t c in
+    let o = entry_owned g t at.After-get-found in
+    let a = row_of g t at.In_ok-open_row o in
+    back (λ (z : List (NodeView g.row.R.Denot)). can_enter (length (members z c.get-found.result.now.node c.get-found.result.now.group)) ≤ (stream_of c.row_after.new.self.nodes.items c.get-found.result.now.node c.get-found.result.now.group).room) c.args.self.now.tree.now c.row_after.new.self.tree.now (passed_tree g t at.After-row_after)
+    (subst (λ (z : StreamView g.row.R.Denot). can_enter (length (members c.args.self.now.tree.now c.get-found.result.now.node c.get-found.result.now.group)) ≤ z.room) (sym (searched_stream o a (search_of g t at.After-row_after))) (c.in_ok-open_row.ensures.room first))
 
 pub search-after-requires : goal.search-after-requires
 search-after-requires g t c κs within =
@@ -433,17 +422,17 @@ after-open_row-requires-clause-tie_free g t c =
 
 pub after-advance-requires-clause-formed : goal.after-advance-requires-clause-formed
 after-advance-requires-clause-formed g t c =
-    c.extend.ensures.formed
+    c.row_after.ensures.formed
 
 pub after-advance-requires-clause-tie_free : goal.after-advance-requires-clause-tie_free
 after-advance-requires-clause-tie_free g t c =
-    tie_free_twice c.args.self.now.tree.now c.open_row.new.self.tree.now c.extend.new.self.tree.now c.open_row.ensures.tree c.extend.ensures.tree c.requires.tie_free
+    tie_free_twice c.args.self.now.tree.now c.open_row.new.self.tree.now c.row_after.new.self.tree.now c.open_row.ensures.tree c.row_after.ensures.tree c.requires.tie_free
 
 pub after-advance-requires-clause-last : goal.after-advance-requires-clause-last
 after-advance-requires-clause-last g t c =
     let at = goal.at.after-advance-requires-clause-last g t c in
-    let o = entry_owned g t at.After-get in
-    let s = search_of g t at.After-extend in
+    let o = entry_owned g t at.After-get-found in
+    let s = search_of g t at.After-row_after in
     let none = next_read c.args.self.now.entries.entries c.args.entry c.next_of.result None c.requires.entry c.next_of.ensures.next c.in_default.is in
     record {
       within = in_longer _ _ _ c.requires.entry s.extended.store.longer;
@@ -454,32 +443,30 @@ after-advance-requires-clause-last g t c =
 
 pub after-advance-requires-clause-room : goal.after-advance-requires-clause-room
 after-advance-requires-clause-room g t c =
-    c.in_ok-extend.ensures.room
+    c.in_ok-next.ensures.room
 
 pub after-returns : goal.after-returns
 after-returns g t c =
     let at = goal.at.after-returns g t c in
-    let o = entry_owned g t at.After-get in
-    let p = top_of g t at.In-Some-top o in
-    let a = row_of g t at.After-open_row o p in
-    let k = counted_of g t at.After-place_after-count o a in
-    let s = search_of g t at.After-extend in
-    let tree : c.extend.new.self.tree.now ≡ c.args.self.now.tree.now = two_calls c.args.self.now.tree.now c.open_row.new.self.tree.now c.extend.new.self.tree.now c.open_row.ensures.tree c.extend.ensures.tree in
-    let stays : c.advance.new.self.tree.now ≡ c.args.self.now.tree.now = two_calls c.args.self.now.tree.now c.extend.new.self.tree.now c.advance.new.self.tree.now tree c.advance.ensures.tree in
+    let o = entry_owned g t at.After-get-found in
+    let a = row_of g t at.In_ok-open_row o in
+    let s = search_of g t at.After-row_after in
+    let tree : c.row_after.new.self.tree.now ≡ c.args.self.now.tree.now = two_calls c.args.self.now.tree.now c.open_row.new.self.tree.now c.row_after.new.self.tree.now c.open_row.ensures.tree c.row_after.ensures.tree in
+    let stays : c.advance.new.self.tree.now ≡ c.args.self.now.tree.now = two_calls c.args.self.now.tree.now c.row_after.new.self.tree.now c.advance.new.self.tree.now tree c.advance.ensures.tree in
     let formed = subst (λ z. IsStreams g.R.Rank.KEYS g.R.Rank.key z c.advance.new.self.entries.entries c.advance.new.self.nodes.items) stays c.advance.ensures.formed in
     record {
       formed = c.advance.ensures.formed;
       tree = stays;
-      grown = linked_grown o a k s c.advance.new.self.entries.entries c.advance.new.self.nodes.items formed c.advance.ensures.store c.advance.ensures.above c.advance.ensures.products c.advance.ensures.growth;
+      grown = linked_grown o a s c.advance.new.self.entries.entries c.advance.new.self.nodes.items formed c.advance.ensures.store c.advance.ensures.above c.advance.ensures.products c.advance.ensures.growth;
       answer = subst (λ (z : List (NodeView g.row.R.Denot)). IsAnswered g.R.Rank.KEYS g.R.Rank.key z c.advance.new.self.entries.entries c.args.entry c.advance.result) stays (subst (λ (z : List (NodeView g.row.R.Denot)). IsAnswered g.R.Rank.KEYS g.R.Rank.key z c.advance.new.self.entries.entries c.args.entry c.advance.result) (sym c.advance.ensures.tree) c.advance.ensures.answer);
       known =
           let none = next_read c.args.self.now.entries.entries c.args.entry c.next_of.result None c.requires.entry c.next_of.ensures.next c.in_default.is in
           λ some. not_some (next_of c.args.self.now.entries.entries c.args.entry) none some;
-      queues = linked_queues o a k s c.advance.new.self.entries.entries c.advance.new.self.nodes.items formed c.advance.ensures.store c.advance.ensures.above c.advance.ensures.products c.advance.ensures.growth;
+      queues = linked_queues o a s c.advance.new.self.entries.entries c.advance.new.self.nodes.items formed c.advance.ensures.store c.advance.ensures.above c.advance.ensures.products c.advance.ensures.growth;
       cost =
-          let last : c.advance.new.steps ≤ c.extend.new.steps + 10 + 3 * child_count c.args.self.now.tree.now c.get.result.now.node + 4 * bit_length (length (members c.args.self.now.tree.now c.get.result.now.node c.get.result.now.group) + 1) =
-          subst (λ (z : List (NodeView g.row.R.Denot)). c.advance.new.steps ≤ c.extend.new.steps + 10 + 3 * child_count z c.get.result.now.node + 4 * bit_length (length (members z c.get.result.now.node c.get.result.now.group) + 1)) tree c.advance.ensures.cost in
-          searched_steps o a k s c.advance.new.steps (λ b members. fewer_digits _ _ _ _ last (members c.get.result.now.node c.get.result.now.group));
+          let last : c.advance.new.steps ≤ c.row_after.new.steps + 11 + 4 * bit_length (length (members c.args.self.now.tree.now c.get-found.result.now.node c.get-found.result.now.group) + 1) =
+          subst (λ (z : List (NodeView g.row.R.Denot)). c.advance.new.steps ≤ c.row_after.new.steps + 11 + 4 * bit_length (length (members z c.get-found.result.now.node c.get-found.result.now.group) + 1)) tree c.advance.ensures.cost in
+          searched_steps o a s c.advance.new.steps (λ b members. fewer_digits _ _ _ _ last (members c.get-found.result.now.node c.get-found.result.now.group));
     }
 
 pub search-overflow_sub-child : goal.search-overflow_sub-child
@@ -522,39 +509,37 @@ search-returns-in_err-extend g t c =
 pub after-returns-in_err-open_row : goal.after-returns-in_err-open_row
 after-returns-in_err-open_row g t c =
     let at = goal.at.after-returns-in_err-open_row g t c in
-    let o = entry_owned g t at.After-get in
+    let o = entry_owned g t at.After-get-found in
     record {
       formed = c.open_row.ensures.formed;
       tree = c.open_row.ensures.tree;
       grown =
           subst (λ v. IsGrown (parent c.args.self.now.tree.now) v c.args.self.now.entries.entries c.args.self.now.nodes.items c.open_row.new.self.entries.entries c.open_row.new.self.nodes.items) (sym o.node_is)
-          (opened_grown c.args.self.now.tree.now c.get.result.now.node c.args.self.now.entries.entries c.open_row.new.self.entries.entries c.args.self.now.nodes.items c.open_row.new.self.nodes.items (ap (λ z. z.entries) c.open_row.ensures.entries) c.open_row.ensures.above);
+          (opened_grown c.args.self.now.tree.now c.get-found.result.now.node c.args.self.now.entries.entries c.open_row.new.self.entries.entries c.args.self.now.nodes.items c.open_row.new.self.nodes.items (ap (λ z. z.entries) c.open_row.ensures.entries) c.open_row.ensures.above);
       answer = none_given (IsAnswered g.R.Rank.KEYS g.R.Rank.key c.args.self.now.tree.now c.open_row.new.self.entries.entries c.args.entry) c.from_residual.result c.from_residual.ensures.0;
       known =
           let none = next_read c.args.self.now.entries.entries c.args.entry c.next_of.result None c.requires.entry c.next_of.ensures.next c.in_default.is in
           λ some. not_some (next_of c.args.self.now.entries.entries c.args.entry) none some;
       queues = λ v r k. queue_grown (length (product_of c.open_row.new.self.nodes.items v r k).frontier) (max 1 (length (product_of c.args.self.now.nodes.items v r k).frontier)) (is_below (parent c.args.self.now.tree.now) (node_of c.args.self.now.entries.entries c.args.entry) v) (c.open_row.ensures.queues v r k);
-      cost = only_opened o c.args.steps.now c.open_row.new.steps (opened_steps c.args.steps.now c.next_of.new.steps c.get.new.steps c.open_row.new.steps (3 * child_count c.args.self.now.tree.now c.get.result.now.node) c.next_of.ensures.cost c.get.ensures.cost c.open_row.ensures.cost);
+      cost = only_opened o c.args.steps.now c.open_row.new.steps (opened_steps c.args.steps.now c.next_of.new.steps c.get-found.new.steps c.open_row.new.steps (3 * child_count c.args.self.now.tree.now c.get-found.result.now.node) c.next_of.ensures.cost c.get-found.ensures.cost c.open_row.ensures.cost);
     }
 
-pub after-returns-in_err-extend : goal.after-returns-in_err-extend
-after-returns-in_err-extend g t c =
-    let at = goal.at.after-returns-in_err-extend g t c in
-    let o = entry_owned g t at.After-get in
-    let p = top_of g t at.In-Some-top o in
-    let a = row_of g t at.After-open_row o p in
-    let k = counted_of g t at.After-place_after-count o a in
-    let s = search_of g t at.After-extend in
+pub after-returns-in_err-next : goal.after-returns-in_err-next
+after-returns-in_err-next g t c =
+    let at = goal.at.after-returns-in_err-next g t c in
+    let o = entry_owned g t at.After-get-found in
+    let a = row_of g t at.In_ok-open_row o in
+    let s = search_of g t at.After-row_after in
     record {
-      formed = c.extend.ensures.formed;
-      tree = two_calls c.args.self.now.tree.now c.open_row.new.self.tree.now c.extend.new.self.tree.now c.open_row.ensures.tree c.extend.ensures.tree;
-      grown = searched_grown o a k s;
-      answer = none_given (IsAnswered g.R.Rank.KEYS g.R.Rank.key c.args.self.now.tree.now c.extend.new.self.entries.entries c.args.entry) c.from_residual-in_err-extend.result c.from_residual-in_err-extend.ensures.0;
+      formed = c.row_after.ensures.formed;
+      tree = two_calls c.args.self.now.tree.now c.open_row.new.self.tree.now c.row_after.new.self.tree.now c.open_row.ensures.tree c.row_after.ensures.tree;
+      grown = searched_grown o a s;
+      answer = none_given (IsAnswered g.R.Rank.KEYS g.R.Rank.key c.args.self.now.tree.now c.row_after.new.self.entries.entries c.args.entry) c.from_residual-in_err-next.result c.from_residual-in_err-next.ensures.0;
       known =
           let none = next_read c.args.self.now.entries.entries c.args.entry c.next_of.result None c.requires.entry c.next_of.ensures.next c.in_default.is in
           λ some. not_some (next_of c.args.self.now.entries.entries c.args.entry) none some;
-      queues = searched_queues o a k s;
-      cost = searched_steps o a k s c.extend.new.steps (λ b members. later_steps _ _ _);
+      queues = searched_queues o a s;
+      cost = searched_steps o a s c.row_after.new.steps (λ b members. later_steps _ _);
     }
 
 pub search-returns-in_err-make_room : goal.search-returns-in_err-make_room
@@ -615,25 +600,6 @@ extend-returns-then-place-known g t c =
           λ k b one bits members queues. none_within g.R.Rank.KEYS g.R.Rank.key c.args.self.now.tree.now c.requires.formed.tree c.args.node c.args.count b c.args.steps.now kids;
     }
 
-pub after-returns-in_default-top : goal.after-returns-in_default-top
-after-returns-in_default-top g t c =
-    let none = next_read c.args.self.now.entries.entries c.args.entry c.next_of.result None c.requires.entry c.next_of.ensures.next c.in_default.is in
-    record {
-      formed = c.requires.formed;
-      tree = refl {a = c.args.self.now.tree.now};
-      grown = opened_grown c.args.self.now.tree.now (node_of c.args.self.now.entries.entries c.args.entry) c.args.self.now.entries.entries c.args.self.now.entries.entries c.args.self.now.nodes.items c.args.self.now.nodes.items refl (λ w other. refl);
-      answer =
-          let at = goal.at.after-returns-in_default-top g t c in
-          let o = entry_owned g t at.After-get in
-          let empty : (stream_of c.args.self.now.nodes.items c.get.result.now.node c.get.result.now.group).queue ≡ [] =
-          no_top c.top.result (stream_of c.args.self.now.nodes.items c.get.result.now.node c.get.result.now.group).queue c.in_default-top.is c.top.ensures.variant in
-          last_of_all g.R.Rank.KEYS g.R.Rank.key c.args.self.now.tree.now c.args.self.now.entries.entries c.args.self.now.nodes.items c.requires.formed c.args.entry c.requires.entry none
-          (subst (λ v. (stream_of c.args.self.now.nodes.items v (group_of c.args.self.now.entries.entries c.args.entry)).queue ≡ []) (sym o.node_is) (subst (λ k. (stream_of c.args.self.now.nodes.items c.get.result.now.node k).queue ≡ []) (sym o.group_is) empty));
-      known = λ some. not_some (next_of c.args.self.now.entries.entries c.args.entry) none some;
-      queues = λ v r k. queue_itself (length (product_of c.args.self.now.nodes.items v r k).frontier) (is_below (parent c.args.self.now.tree.now) (node_of c.args.self.now.entries.entries c.args.entry) v);
-      cost = λ k b one bits few queues. second_step c.args.steps.now c.next_of.new.steps c.get.new.steps b (20 * kids_size c.args.self.now.tree.now (node_of c.args.self.now.entries.entries c.args.entry) (child_count c.args.self.now.tree.now (node_of c.args.self.now.entries.entries c.args.entry)) * (1 + b)) c.next_of.ensures.cost c.get.ensures.cost;
-    }
-
 pub after-returns-in-Some : goal.after-returns-in-Some
 after-returns-in-Some g t c =
     record {
@@ -668,3 +634,138 @@ search-returns g t c =
       queues = one_more_queues a b l c.step.new.self.nodes.items c.step.ensures.changed c.step.ensures.queue;
       cost = left_steps a b l c.step.new.steps (one_later _) c.step.ensures.cost;
     }
+
+-- # The next solution of a row
+
+module _ (g : Over) (t : ℕ) where
+  row_kids : (c : row_after-After-child_count-count g t) → c.child_count-count.result ≡ child_count c.args.self.now.tree.now c.args.node
+  row_kids c = c.child_count-count.ensures ∙ ap (λ n. length n.children) (sym (lists_at c.args.self.now.nodes.items c.args.node c.index.result.now c.index.ensures (in_same _ _ _ c.requires.top.node c.requires.formed.all_nodes))) ∙ c.requires.formed.all_children c.args.node c.requires.top.node
+
+  only_of : (c : row_after-After-child_count-count g t) → c.child_count-count.result ≡ 1 → IsOnlyChild g.R.Rank.KEYS g.R.Rank.key c.args.self.now.tree.now c.args.self.now.entries.entries c.args.self.now.nodes.items c.args.node c.args.top.now.tag
+  only_of c one = only_child c.requires.formed c.requires.top (sym (row_kids c) ∙ one)
+
+  asked_formed : (c : row_after-After-after g t) → IsStreams g.R.Rank.KEYS g.R.Rank.key c.args.self.now.tree.now c.after.new.self.entries.entries c.after.new.self.nodes.items
+  asked_formed c = subst (λ (z : List (NodeView g.row.R.Denot)). IsStreams g.R.Rank.KEYS g.R.Rank.key z c.after.new.self.entries.entries c.after.new.self.nodes.items) c.after.ensures.tree c.after.ensures.formed
+
+fewer_kids : (s s' k n : ℕ) → s + 6 * k ≤ s' + n → s + 3 * k ≤ s' + n
+fewer_kids s s' k n h = omega arith
+
+offered_steps : (s s' s'' k n : ℕ) → s' + 6 * k ≤ s + n → s'' ≤ s' + 3 * k → s'' + 3 * k ≤ s + n
+offered_steps s s' s'' k n h l = omega arith
+
+three_more : (s : ℕ) → s ≤ s + 3
+three_more s = omega arith
+
+pub row_after-after-requires : goal.row_after-after-requires
+row_after-after-requires g t c κs within =
+    let at = goal.at.row_after-after-requires g t c in
+    let o = only_of g t at.After-child_count-count c.if-count-eq1.true in
+    (only_smaller _ _ _ _ _ c.decreases o.sum.node o.below o.within, (within.0, (within.1.0, (within.1.1, (c.requires.formed, (c.requires.tie_free, o.sum.right))))))
+
+pub row_after-extend-requires : goal.row_after-extend-requires
+row_after-extend-requires g t c κs within =
+    let at = goal.at.row_after-extend-requires g t c in
+    let kids = row_kids g t at.After-child_count-count in
+    let many : child_count c.args.self.now.tree.now c.args.node ≢ 1 = λ e. c.if-count-eq1.false (kids ∙ e) in
+    let whole = kids ∙ sym (c.requires.top.opened many) in
+    let known = subst (λ k. c.args.top.now.tag.place < part_known c.args.self.now.nodes.items c.args.node c.args.top.now.tag.row k) (sym whole) (c.requires.top.known many) in
+    (extend_smaller _ _ _ _ c.decreases c.requires.top.node (kids_few _ _ _ _ kids (kids_below_most (parent c.args.self.now.tree.now) c.args.node (length c.args.self.now.tree.now)) c.requires.formed.tree.shaped.few_nodes), (within.0, (within.1.0, (within.1.1, (c.requires.formed, (c.requires.tie_free, (c.requires.top.node, (c.requires.top.row, (at_most_same _ _ whole, next_within _ _ _ known (omega (arith, c.in-Some.ensures)))))))))))
+
+pub row_after-row_offer-requires-clause-opened : goal.row_after-row_offer-requires-clause-opened
+row_after-row_offer-requires-clause-opened g t c =
+    let at = goal.at.row_after-row_offer-requires-clause-opened g t c in
+    let many : child_count c.args.self.now.tree.now c.args.node ≢ 1 = λ e. c.if-count-eq1.false (row_kids g t at.After-child_count-count ∙ e) in
+    ap (λ (z : List (NodeStreamsView g.row.R.Denot)). length (products_of z c.args.node c.args.top.now.tag.row)) c.as_slice-nodes.ensures.value ∙ c.extend.ensures.extended.count ∙ c.requires.top.opened many ∙ ap (λ (z : List (NodeView g.row.R.Denot)). child_count z c.args.node) (sym c.extend.ensures.tree)
+
+pub row_after-returns-in_default-clause-cost : goal.row_after-returns-in_default-clause-cost
+row_after-returns-in_default-clause-cost g t c k b one bits few queues = fewer_kids _ _ _ _ (none_within g.R.Rank.KEYS g.R.Rank.key c.args.self.now.tree.now c.requires.formed.tree c.args.node (child_count c.args.self.now.tree.now c.args.node) b c.args.steps.now (at_most_same _ _ refl))
+
+pub row_after-returns-in_err-below-clause-extended : goal.row_after-returns-in_err-below-clause-extended
+row_after-returns-in_err-below-clause-extended g t c =
+    let at = goal.at.row_after-returns-in_err-below-clause-extended g t c in
+    child_extended c.requires.top (only_of g t at.After-child_count-count c.if-count-eq1.true) (asked_formed g t at.After-after) c.after.ensures.grown
+
+pub row_after-returns-in_err-below-clause-cost : goal.row_after-returns-in_err-below-clause-cost
+row_after-returns-in_err-below-clause-cost g t c =
+    let at = goal.at.row_after-returns-in_err-below-clause-cost g t c in
+    child_steps c.requires.top (only_of g t at.After-child_count-count c.if-count-eq1.true) (asked_formed g t at.After-after) c.after.ensures.grown _ _ _ c.after.ensures.cost (three_more _)
+
+pub row_after-returns-in_err-reserve-clause-extended : goal.row_after-returns-in_err-reserve-clause-extended
+row_after-returns-in_err-reserve-clause-extended g t c =
+    let at = goal.at.row_after-returns-in_err-reserve-clause-extended g t c in
+    back (λ (z : List (Linked (Found g.row.R.Denot))). IsExtended c.args.self.now.tree.now c.args.node c.args.top.now.tag.row (child_count c.args.self.now.tree.now c.args.node) c.args.self.now.entries.entries c.args.self.now.nodes.items z c.after.new.self.nodes.items) c.after.new.self.entries.entries c.reserve.new.self.entries c.reserve.ensures.entries
+    (child_extended c.requires.top (only_of g t at.After-child_count-count c.if-count-eq1.true) (asked_formed g t at.After-after) c.after.ensures.grown)
+
+pub row_after-returns-in_err-reserve-clause-cost : goal.row_after-returns-in_err-reserve-clause-cost
+row_after-returns-in_err-reserve-clause-cost g t c =
+    let at = goal.at.row_after-returns-in_err-reserve-clause-cost g t c in
+    child_steps c.requires.top (only_of g t at.After-child_count-count c.if-count-eq1.true) (asked_formed g t at.After-after) c.after.ensures.grown _ _ _ c.after.ensures.cost (three_more _)
+
+pub row_after-child_offer-requires-clause-below : goal.row_after-child_offer-requires-clause-below
+row_after-child_offer-requires-clause-below g t c =
+    let at = goal.at.row_after-child_offer-requires-clause-below g t c in
+    back (λ (z : List (Linked (Found g.row.R.Denot))). IfSome c.in_ok-below.below (λ i. i < length z)) c.after.new.self.entries.entries c.reserve.new.self.entries c.reserve.ensures.entries
+    (child_below c.requires.top (only_of g t at.After-child_count-count c.if-count-eq1.true) (asked_formed g t at.After-after) c.after.ensures.grown c.in_ok-below.below c.in_ok-below.ensures.answer)
+
+pub row_after-child_offer-requires-clause-exchange : goal.row_after-child_offer-requires-clause-exchange
+row_after-child_offer-requires-clause-exchange g t c =
+    let at = goal.at.row_after-child_offer-requires-clause-exchange g t c in
+    back (λ (z : List (Linked (Found g.row.R.Denot))). IfSome c.in_ok-below.below (CanExchange g.R.Rank.KEYS g.R.Rank.key z (record { rank = c.args.top.now.rank; tag = c.args.top.now.tag.cell }))) c.after.new.self.entries.entries c.reserve.new.self.entries c.reserve.ensures.entries
+    (child_exchange c.requires.top (only_of g t at.After-child_count-count c.if-count-eq1.true) (asked_formed g t at.After-after) c.after.ensures.grown c.in_ok-below.below c.in_ok-below.ensures.answer)
+
+pub row_after-returns-then-count-eq1-clause-extended : goal.row_after-returns-then-count-eq1-clause-extended
+row_after-returns-then-count-eq1-clause-extended g t c =
+    let at = goal.at.row_after-returns-then-count-eq1-clause-extended g t c in
+    back (λ (z : List (Linked (Found g.row.R.Denot))). IsExtended c.args.self.now.tree.now c.args.node c.args.top.now.tag.row (child_count c.args.self.now.tree.now c.args.node) c.args.self.now.entries.entries c.args.self.now.nodes.items z c.after.new.self.nodes.items) c.after.new.self.entries.entries c.reserve.new.self.entries c.reserve.ensures.entries
+    (child_extended c.requires.top (only_of g t at.After-child_count-count c.if-count-eq1.true) (asked_formed g t at.After-after) c.after.ensures.grown)
+
+pub row_after-returns-then-count-eq1-clause-next : goal.row_after-returns-then-count-eq1-clause-next
+row_after-returns-then-count-eq1-clause-next g t c =
+    let at = goal.at.row_after-returns-then-count-eq1-clause-next g t c in
+    back (λ (z : List (Linked (Found g.row.R.Denot))). IsRowNext g.R.Rank.KEYS g.R.Rank.key c.args.self.now.tree.now z c.after.new.self.nodes.items c.args.node c.args.top.now.tag c.child_offer.result) c.after.new.self.entries.entries c.reserve.new.self.entries c.reserve.ensures.entries
+    (child_next c.requires.top (only_of g t at.After-child_count-count c.if-count-eq1.true) (asked_formed g t at.After-after) c.after.ensures.grown c.in_ok-below.below c.in-Some.place c.child_offer.result (omega (arith, c.in-Some.ensures)) c.in_ok-below.ensures.answer
+    (along (λ (z : List (Linked (Found g.row.R.Denot))). IsChildOffer g.R.Rank.KEYS g.R.Rank.key z c.args.top.now c.in-Some.place c.in_ok-below.below c.child_offer.result) c.reserve.new.self.entries c.after.new.self.entries.entries c.reserve.ensures.entries c.child_offer.ensures.offer))
+
+pub row_after-returns-then-count-eq1-clause-cost : goal.row_after-returns-then-count-eq1-clause-cost
+row_after-returns-then-count-eq1-clause-cost g t c =
+    let at = goal.at.row_after-returns-then-count-eq1-clause-cost g t c in
+    child_steps c.requires.top (only_of g t at.After-child_count-count c.if-count-eq1.true) (asked_formed g t at.After-after) c.after.ensures.grown _ _ _ c.after.ensures.cost c.child_offer.ensures.cost
+
+pub row_after-returns-in_err-extend-clause-cost : goal.row_after-returns-in_err-extend-clause-cost
+row_after-returns-in_err-extend-clause-cost g t c =
+    let at = goal.at.row_after-returns-in_err-extend-clause-cost g t c in
+    let kids = row_kids g t at.After-child_count-count in
+    let x = subst (λ z. IsWithinSteps c.args.self.now.tree.now c.args.self.now.nodes.items (λ v. below_kids c.args.self.now.tree.now c.args.node z v + cond (nat_eq v c.args.node) 1 0) (λ b. 20 * kids_size c.args.self.now.tree.now c.args.node z * (1 + b)) c.args.steps.now (c.extend.new.steps + 6 * z)) kids c.extend.ensures.cost in
+    λ k b one bits few queues. fewer_kids _ _ _ _ (x k b one bits few queues)
+
+pub row_after-returns-clause-extended : goal.row_after-returns-clause-extended
+row_after-returns-clause-extended g t c =
+    let at = goal.at.row_after-returns-clause-extended g t c in
+    subst (λ z. IsExtended c.args.self.now.tree.now c.args.node c.args.top.now.tag.row z c.args.self.now.entries.entries c.args.self.now.nodes.items c.extend.new.self.entries.entries c.extend.new.self.nodes.items) (row_kids g t at.After-child_count-count) c.extend.ensures.extended
+
+pub row_after-returns-clause-queues : goal.row_after-returns-clause-queues
+row_after-returns-clause-queues g t c =
+    let at = goal.at.row_after-returns-clause-queues g t c in
+    subst (λ z. AreQueuesGrown (λ v. below_kids c.args.self.now.tree.now c.args.node z v + cond (nat_eq v c.args.node) 1 0) c.args.self.now.nodes.items c.extend.new.self.nodes.items) (row_kids g t at.After-child_count-count) c.extend.ensures.queues
+
+pub row_after-returns-clause-cost : goal.row_after-returns-clause-cost
+row_after-returns-clause-cost g t c =
+    let at = goal.at.row_after-returns-clause-cost g t c in
+    let kids = row_kids g t at.After-child_count-count in
+    let x = subst (λ z. IsWithinSteps c.args.self.now.tree.now c.args.self.now.nodes.items (λ v. below_kids c.args.self.now.tree.now c.args.node z v + cond (nat_eq v c.args.node) 1 0) (λ b. 20 * kids_size c.args.self.now.tree.now c.args.node z * (1 + b)) c.args.steps.now (c.extend.new.steps + 6 * z)) kids c.extend.ensures.cost in
+    let offered = subst (λ (z : List (NodeView g.row.R.Denot)). c.row_offer.new.steps ≤ c.extend.new.steps + 3 * child_count z c.args.node) c.extend.ensures.tree c.row_offer.ensures.cost in
+    λ k b one bits few queues. offered_steps _ _ _ _ _ (x k b one bits few queues) offered
+
+pub row_after-returns-clause-next : goal.row_after-returns-clause-next
+row_after-returns-clause-next g t c =
+    let at = goal.at.row_after-returns-clause-next g t c in
+    let kids = row_kids g t at.After-child_count-count in
+    let many : child_count c.args.self.now.tree.now c.args.node ≢ 1 = λ e. c.if-count-eq1.false (kids ∙ e) in
+    let tree = c.extend.ensures.tree in
+    let place : c.in-Some.place ≡ c.args.top.now.tag.place + 1 = omega (arith, c.in-Some.ensures) in
+    let formed = subst (λ (z : List (NodeView g.row.R.Denot)). IsStreams g.R.Rank.KEYS g.R.Rank.key z c.extend.new.self.entries.entries c.extend.new.self.nodes.items) tree c.extend.ensures.formed in
+    let reached = subst (λ k. IsReached g.R.Rank.KEYS g.R.Rank.key c.args.self.now.tree.now c.extend.new.self.nodes.items c.args.node c.args.top.now.tag.row k c.in-Some.place) kids c.in_ok-extend.ensures.reached in
+    row_next g.R.Rank.KEYS g.R.Rank.key c.args.self.now.tree.now c.extend.new.self.entries.entries c.extend.new.self.nodes.items formed c.args.node c.args.top.now.tag c.in-Some.place c.row_offer.result c.requires.top.node c.requires.top.row many (c.extend.ensures.extended.count ∙ c.requires.top.opened many) place reached
+    (subst (λ (z : List (NodeView g.row.R.Denot)). IsRowOffer g.R.Rank.KEYS g.R.Rank.key z c.extend.new.self.entries.entries c.extend.new.self.nodes.items c.args.node (record c.args.top.now.tag { place = c.in-Some.place }) c.row_offer.result) tree
+    (subst (λ (z : List (NodeStreamsView g.row.R.Denot)). IsRowOffer g.R.Rank.KEYS g.R.Rank.key c.extend.new.self.tree.now c.extend.new.self.entries.entries z c.args.node (record c.args.top.now.tag { place = c.in-Some.place }) c.row_offer.result) c.as_slice-nodes.ensures.value
+    (record { none = c.row_offer.ensures.none; source = c.row_offer.ensures.source; known = c.row_offer.ensures.known; parts = c.row_offer.ensures.parts; rank = c.row_offer.ensures.key })))

@@ -10,3 +10,6 @@ decreases-extend g l = 64 * (length l.self.now.tree.now - l.node) + 2 * l.count 
 
 abbrev pub decreases-search : goal.decreases-search
 decreases-search g l = 64 * (length l.self.now.tree.now - l.node) + 2 * l.count
+
+abbrev pub decreases-row_after : goal.decreases-row_after
+decreases-row_after g l = 64 * (length l.self.now.tree.now - l.node) + 40

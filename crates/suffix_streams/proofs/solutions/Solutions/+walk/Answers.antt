@@ -117,7 +117,7 @@ module _ (g : Over) (t : ℕ) where
       let f = c.get-found.result.now in
       let kids = kids_of c s in
       let none : child_count tree f.node ≡ 0 = omega (arith, kids, zero) in
-      let known = known_own d key tree c.args.self.now.entries.entries n c.requires.formed f.node c.get-found.result.now.solution.tag.row (child_count tree f.node) s.place none s.known in
+      let known = known_own d key tree c.args.self.now.entries.entries n c.requires.formed f.node c.get-found.result.now.solution.tag.row (child_count tree f.node) s.place none (s.known (λ one. omega (arith, one, none))) in
       own_at d key tree c.requires.formed.tree n f.node c.get-found.result.now.solution.tag.row (child_count tree f.node) s.place (rank tree d key f.node c.get-found.result.now.solution.tag.row) s.node none known refl ∙ key_of c s
 
   -- with children it is the sum of its parts
@@ -131,13 +131,13 @@ module _ (g : Over) (t : ℕ) where
       ∙ ap (λ z. get_or (part_list g.R.Rank.KEYS g.R.Rank.key c.args.self.now.tree.now c.get-found.result.now.node c.get-found.result.now.solution.tag.row z) s.place (key_none g.R.Rank.KEYS 16)) more ∙ key_of c s
 
   -- the key of a solution is the sum of its parts
-  part_is : (c : add_part_rows-After-part_cell-cell g t) → c.args.count - 1 + 1 ≡ c.args.count
-      → pair_key (key_add g.R.Rank.KEYS 16) (key_none g.R.Rank.KEYS 16) (part_list g.R.Rank.KEYS g.R.Rank.key c.args.self.now.tree.now c.args.node c.args.row (c.args.count - 1))
-      (group_list g.R.Rank.KEYS g.R.Rank.key c.args.self.now.tree.now (child c.args.self.now.tree.now c.args.node (c.args.count - 1)) (group_named c.args.self.now.tree.now c.args.node c.args.row (c.args.count - 1))) (pair_of c.args.self.now.entries.entries c.part_cell-cell.result)
-      ≡ get_or (part_list g.R.Rank.KEYS g.R.Rank.key c.args.self.now.tree.now c.args.node c.args.row c.args.count) c.args.place (key_none g.R.Rank.KEYS 16)
+  part_is : (c : add_part_rows-After-part_cell-cell g t) → c.args.part.child - 1 + 1 ≡ c.args.part.child
+      → pair_key (key_add g.R.Rank.KEYS 16) (key_none g.R.Rank.KEYS 16) (part_list g.R.Rank.KEYS g.R.Rank.key c.args.self.now.tree.now c.args.part.node c.args.part.row (c.args.part.child - 1))
+      (group_list g.R.Rank.KEYS g.R.Rank.key c.args.self.now.tree.now (child c.args.self.now.tree.now c.args.part.node (c.args.part.child - 1)) (group_named c.args.self.now.tree.now c.args.part.node c.args.part.row (c.args.part.child - 1))) (pair_of c.args.self.now.entries.entries c.part_cell-cell.result)
+      ≡ get_or (part_list g.R.Rank.KEYS g.R.Rank.key c.args.self.now.tree.now c.args.part.node c.args.part.row c.args.part.child) c.args.place (key_none g.R.Rank.KEYS 16)
   part_is c more =
       sym c.part_cell-cell.ensures.sum.sum
-      ∙ ap (λ z. get_or (part_list g.R.Rank.KEYS g.R.Rank.key c.args.self.now.tree.now c.args.node c.args.row z) c.args.place (key_none g.R.Rank.KEYS 16)) more
+      ∙ ap (λ z. get_or (part_list g.R.Rank.KEYS g.R.Rank.key c.args.self.now.tree.now c.args.part.node c.args.part.row z) c.args.place (key_none g.R.Rank.KEYS 16)) more
 
 pub add_entry_rows-index-requires : goal.add_entry_rows-index-requires
 add_entry_rows-index-requires g t c =
@@ -242,15 +242,15 @@ add_part_rows-add_own_row-requires-clause-number g t c = c.requires.number
 
 pub add_part_rows-add_own_row-requires-clause-fits : goal.add_part_rows-add_own_row-requires-clause-fits
 add_part_rows-add_own_row-requires-clause-fits g t c =
-    let known = known_own g.R.Rank.KEYS g.R.Rank.key c.args.self.now.tree.now c.args.self.now.entries.entries c.args.self.now.nodes.items c.requires.formed c.args.node c.args.row c.args.count c.args.place (omega arith) c.requires.place in
+    let known = known_own g.R.Rank.KEYS g.R.Rank.key c.args.self.now.tree.now c.args.self.now.entries.entries c.args.self.now.nodes.items c.requires.formed c.args.part.node c.args.part.row c.args.part.child c.args.place (omega arith) c.requires.place in
     subst (AreAddable g.R.Rank.KEYS c.args.numbers.now)
-    (sym (own_at g.R.Rank.KEYS g.R.Rank.key c.args.self.now.tree.now c.requires.formed.tree c.args.self.now.nodes.items c.args.node c.args.row c.args.count c.args.place (rank c.args.self.now.tree.now g.R.Rank.KEYS g.R.Rank.key c.args.node c.args.row) c.requires.node (omega arith) known refl))
+    (sym (own_at g.R.Rank.KEYS g.R.Rank.key c.args.self.now.tree.now c.requires.formed.tree c.args.self.now.nodes.items c.args.part.node c.args.part.row c.args.part.child c.args.place (rank c.args.self.now.tree.now g.R.Rank.KEYS g.R.Rank.key c.args.part.node c.args.part.row) c.requires.node (omega arith) known refl))
     c.requires.fits
 
 pub add_part_rows-add_sum_rows-requires : goal.add_part_rows-add_sum_rows-requires
 add_part_rows-add_sum_rows-requires g t c κs within =
     let at = goal.at.add_part_rows-add_sum_rows-requires g t c in
-    let more = last_is c.args.count c.if-count-eq0.false in
+    let more = last_is c.args.part.child c.if-count-eq0.false in
     let fits = subst (AreAddable g.R.Rank.KEYS c.args.numbers.now) (sym (part_is g t at.After-part_cell-cell more)) c.requires.fits in
     (part_smaller _ _ _ _ c.decreases c.if-count-eq0.false, (within.0, (within.1.0, (within.1.1, (c.requires.formed, (c.requires.tie_free, (c.requires.node, (c.requires.row, (c.requires.number, (last_below _ _ c.if-count-eq0.false c.requires.count, ((c.args.place, c.part_cell-cell.ensures.sum), fits)))))))))))
 
@@ -263,14 +263,14 @@ add_sum_rows-add_part_rows-requires g t c κs within =
     let tree = c.args.self.now.tree.now in
     let es = c.args.self.now.entries.entries in
     let x = c.args.cell.now in
-    let fits = left_addable d c.args.numbers.now (get_or (part_list d key tree c.args.node c.args.row c.args.child) x.left (key_none d 16))
-    (get_or (group_list d key tree (child tree c.args.node c.args.child) (group_named tree c.args.node c.args.row c.args.child)) (place_of es x.right) (key_none d 16)) c.requires.fits in
+    let fits = left_addable d c.args.numbers.now (get_or (part_list d key tree c.args.part.node c.args.part.row c.args.part.child) x.left (key_none d 16))
+    (get_or (group_list d key tree (child tree c.args.part.node c.args.part.child) (group_named tree c.args.part.node c.args.part.row c.args.part.child)) (place_of es x.right) (key_none d 16)) c.requires.fits in
     (sum_smaller _ _ _ _ c.decreases, (within.0, (within.1.0, (within.1.1, (c.requires.formed, (c.requires.tie_free, (c.requires.node, (c.requires.row, (c.requires.number, (before_is _ _ c.requires.child, (c.requires.parts.1.left, fits)))))))))))
 
 module _ (g : Over) (t : ℕ) where
   -- the key of the right part, by its entry
   right_is : (c : add_sum_rows-After-add_part_rows g t) → get_or (group_list g.R.Rank.KEYS g.R.Rank.key c.args.self.now.tree.now (node_of c.args.self.now.entries.entries c.args.cell.now.right) (group_of c.args.self.now.entries.entries c.args.cell.now.right)) (place_of c.args.self.now.entries.entries c.args.cell.now.right) (key_none g.R.Rank.KEYS 16)
-      ≡ get_or (group_list g.R.Rank.KEYS g.R.Rank.key c.args.self.now.tree.now (child c.args.self.now.tree.now c.args.node c.args.child) (group_named c.args.self.now.tree.now c.args.node c.args.row c.args.child)) (place_of c.args.self.now.entries.entries c.args.cell.now.right) (key_none g.R.Rank.KEYS 16)
+      ≡ get_or (group_list g.R.Rank.KEYS g.R.Rank.key c.args.self.now.tree.now (child c.args.self.now.tree.now c.args.part.node c.args.part.child) (group_named c.args.self.now.tree.now c.args.part.node c.args.part.row c.args.part.child)) (place_of c.args.self.now.entries.entries c.args.cell.now.right) (key_none g.R.Rank.KEYS 16)
   right_is c =
       let d = g.R.Rank.KEYS in
       let key = g.R.Rank.key in
@@ -279,7 +279,7 @@ module _ (g : Over) (t : ℕ) where
       let cell = c.requires.parts.1 in
       let x = c.args.cell.now in
       ap (λ q. get_or (group_list d key tree q (group_of es x.right)) (place_of es x.right) (key_none d 16)) cell.node
-      ∙ ap (λ m. get_or (group_list d key tree (child tree c.args.node c.args.child) m) (place_of es x.right) (key_none d 16)) cell.group
+      ∙ ap (λ m. get_or (group_list d key tree (child tree c.args.part.node c.args.part.child) m) (place_of es x.right) (key_none d 16)) cell.group
 
 pub add_sum_rows-add_entry_rows-requires : goal.add_sum_rows-add_entry_rows-requires
 add_sum_rows-add_entry_rows-requires g t c κs within =
@@ -290,10 +290,10 @@ add_sum_rows-add_entry_rows-requires g t c κs within =
     let es = c.args.self.now.entries.entries in
     let cell = c.requires.parts.1 in
     let x = c.args.cell.now in
-    let k = kid d key tree c.requires.formed.tree c.args.node c.args.child c.requires.child in
-    let above = c.requires.formed.tree.shaped.parents_first (child tree c.args.node c.args.child) k.some k.within in
-    let fits = right_addable d c.args.numbers.now (get_or (part_list d key tree c.args.node c.args.row c.args.child) x.left (key_none d 16))
-    (get_or (group_list d key tree (child tree c.args.node c.args.child) (group_named tree c.args.node c.args.row c.args.child)) (place_of es x.right) (key_none d 16)) c.add_part_rows.new.numbers c.requires.fits c.add_part_rows.ensures.added in
+    let k = kid d key tree c.requires.formed.tree c.args.part.node c.args.part.child c.requires.child in
+    let above = c.requires.formed.tree.shaped.parents_first (child tree c.args.part.node c.args.part.child) k.some k.within in
+    let fits = right_addable d c.args.numbers.now (get_or (part_list d key tree c.args.part.node c.args.part.row c.args.part.child) x.left (key_none d 16))
+    (get_or (group_list d key tree (child tree c.args.part.node c.args.part.child) (group_named tree c.args.part.node c.args.part.row c.args.part.child)) (place_of es x.right) (key_none d 16)) c.add_part_rows.new.numbers c.requires.fits c.add_part_rows.ensures.added in
     (below_smaller _ _ _ _ _ _ _ c.decreases cell.node above k.parent_is k.within, (within.0, (within.1.0, (within.1.1, (c.requires.formed, (c.requires.tie_free, (cell.right, subst (AreAddable d c.add_part_rows.new.numbers) (sym (right_is g t at.After-add_part_rows)) fits)))))))
 
 pub add_sum_rows-returns : goal.add_sum_rows-returns
@@ -307,13 +307,13 @@ add_sum_rows-returns g t c =
           let tree = c.args.self.now.tree.now in
           let es = c.args.self.now.entries.entries in
           let x = c.args.cell.now in
-          both_added d c.args.numbers.now (get_or (part_list d key tree c.args.node c.args.row c.args.child) x.left (key_none d 16))
-          (get_or (group_list d key tree (child tree c.args.node c.args.child) (group_named tree c.args.node c.args.row c.args.child)) (place_of es x.right) (key_none d 16)) c.add_part_rows.new.numbers c.add_entry_rows.new.numbers c.add_part_rows.ensures.added
+          both_added d c.args.numbers.now (get_or (part_list d key tree c.args.part.node c.args.part.row c.args.part.child) x.left (key_none d 16))
+          (get_or (group_list d key tree (child tree c.args.part.node c.args.part.child) (group_named tree c.args.part.node c.args.part.row c.args.part.child)) (place_of es x.right) (key_none d 16)) c.add_part_rows.new.numbers c.add_entry_rows.new.numbers c.add_part_rows.ensures.added
           (subst (λ k. AreAdded d c.add_part_rows.new.numbers k c.add_entry_rows.new.numbers) (right_is g t at.After-add_part_rows) c.add_entry_rows.ensures.added);
       cost =
           let cell = c.requires.parts.1 in
           both_within _ _ _ _ _ _ _ _ c.add_part_rows.ensures.cost c.add_entry_rows.ensures.cost (ap (λ v. subtree_size tree v) cell.node)
-          (kids_size_more g.R.Rank.KEYS g.R.Rank.key tree c.requires.formed.tree c.args.node c.args.child) (ap (λ k. kids_size tree c.args.node k) (next_is c.args.child));
+          (kids_size_more g.R.Rank.KEYS g.R.Rank.key tree c.requires.formed.tree c.args.part.node c.args.part.child) (ap (λ k. kids_size tree c.args.part.node k) (next_is c.args.part.child));
     }
 
 pub add_part_rows-part_cell-cell-requires-clause-formed : goal.add_part_rows-part_cell-cell-requires-clause-formed
@@ -338,16 +338,8 @@ add_part_rows-part_cell-cell-requires-clause-child g t c =
 
 pub add_part_rows-part_cell-cell-requires-clause-place : goal.add_part_rows-part_cell-cell-requires-clause-place
 add_part_rows-part_cell-cell-requires-clause-place g t c =
-    let more : c.args.count ≡ c.args.count - 1 + 1 = sym (last_is _ c.if-count-eq0.false) in
-    subst (λ z. IsKnownPart c.args.self.now.nodes.items c.args.node c.args.row z c.args.place) more c.requires.place
-
-pub add_part_rows-overflow_sub-count : goal.add_part_rows-overflow_sub-count
-add_part_rows-overflow_sub-count g t c =
-    some_is _ c.if-count-eq0.false
-
-pub add_part_rows-overflow_sub-count-else-count-eq0 : goal.add_part_rows-overflow_sub-count-else-count-eq0
-add_part_rows-overflow_sub-count-else-count-eq0 g t c =
-    some_is _ c.if-count-eq0.false
+    let more : c.args.part.child ≡ c.args.part.child - 1 + 1 = sym (last_is _ c.if-count-eq0.false) in
+    subst (λ z. IsKnownPart c.args.self.now.nodes.items c.args.part.node c.args.part.row z c.args.place) more c.requires.place
 
 pub add_part_rows-add_own_row-requires-clause-formed : goal.add_part_rows-add_own_row-requires-clause-formed
 add_part_rows-add_own_row-requires-clause-formed g t c =
@@ -361,10 +353,6 @@ pub add_part_rows-add_own_row-requires-clause-row : goal.add_part_rows-add_own_r
 add_part_rows-add_own_row-requires-clause-row g t c =
     c.requires.row
 
-pub add_entry_rows-overflow_sub-count : goal.add_entry_rows-overflow_sub-count
-add_entry_rows-overflow_sub-count g t c =
-    some_is _ c.if-count-eq0.false
-
 pub add_entry_rows-add_own_row-requires-clause-formed : goal.add_entry_rows-add_own_row-requires-clause-formed
 add_entry_rows-add_own_row-requires-clause-formed g t c =
     c.requires.formed.tree
@@ -373,9 +361,9 @@ pub add_part_rows-returns-then-count-eq0 : goal.add_part_rows-returns-then-count
 add_part_rows-returns-then-count-eq0 g t c =
     record {
       added =
-          let known = known_own g.R.Rank.KEYS g.R.Rank.key c.args.self.now.tree.now c.args.self.now.entries.entries c.args.self.now.nodes.items c.requires.formed c.args.node c.args.row c.args.count c.args.place (omega arith) c.requires.place in
+          let known = known_own g.R.Rank.KEYS g.R.Rank.key c.args.self.now.tree.now c.args.self.now.entries.entries c.args.self.now.nodes.items c.requires.formed c.args.part.node c.args.part.row c.args.part.child c.args.place (omega arith) c.requires.place in
           subst (λ k. AreAdded g.R.Rank.KEYS c.args.numbers.now k c.add_own_row.new.numbers)
-          (own_at g.R.Rank.KEYS g.R.Rank.key c.args.self.now.tree.now c.requires.formed.tree c.args.self.now.nodes.items c.args.node c.args.row c.args.count c.args.place (rank c.args.self.now.tree.now g.R.Rank.KEYS g.R.Rank.key c.args.node c.args.row) c.requires.node (omega arith) known refl)
+          (own_at g.R.Rank.KEYS g.R.Rank.key c.args.self.now.tree.now c.requires.formed.tree c.args.self.now.nodes.items c.args.part.node c.args.part.row c.args.part.child c.args.place (rank c.args.self.now.tree.now g.R.Rank.KEYS g.R.Rank.key c.args.part.node c.args.part.row) c.requires.node (omega arith) known refl)
           c.add_own_row.ensures.added;
       cost = none_within _ _;
     }
@@ -384,9 +372,9 @@ pub add_part_rows-returns-else-count-eq0 : goal.add_part_rows-returns-else-count
 add_part_rows-returns-else-count-eq0 g t c =
     record {
       cost =
-          part_within _ _ _ _ _ c.part_cell-cell.ensures.cost c.add_sum_rows.ensures.cost (ap (λ z. kids_size c.args.self.now.tree.now c.args.node z) (last_is _ c.if-count-eq0.false));
+          part_within _ _ _ _ _ c.part_cell-cell.ensures.cost c.add_sum_rows.ensures.cost (ap (λ z. kids_size c.args.self.now.tree.now c.args.part.node z) (last_is _ c.if-count-eq0.false));
       added =
           let at = goal.at.add_part_rows-returns-else-count-eq0 g t c in
-          let more = last_is c.args.count c.if-count-eq0.false in
+          let more = last_is c.args.part.child c.if-count-eq0.false in
           subst (λ k. AreAdded g.R.Rank.KEYS c.args.numbers.now k c.add_sum_rows.new.numbers) (part_is g t at.After-part_cell-cell more) c.add_sum_rows.ensures.added;
     }

@@ -1,6 +1,7 @@
 use Rattle.suffix_streams.proofs.Errors.{none_done, ok_then}
 use Rattle.std.proofs.Common.{◌≡◌, ℕ, zero, suc, ◌+◌, ◌<◌, ◌≤◌, max, Result, Ok, Err, OnOk, OnErr, List, [], length, slice_set, get_or, refl, sym, ap, ◌∙◌, subst, arith}
 use Rattle.std.proofs.lemmas.List.{set-get_or}
+use Rattle.std.proofs.lemmas.Bool.{false≢true}
 use Rattle.tdp_core.specs.TreeView.{child_count, members, rows}
 use Rattle.suffix_streams.specs.ProductView.{ProductView}
 use Rattle.suffix_streams.specs.StreamView.{StreamView}
@@ -74,7 +75,7 @@ pub set_products-requires-clause-row : goal.set_products-requires-clause-row
 set_products-requires-clause-row g c =
     let at = goal.at.set_products-requires-clause-row g c in
     let inside : c.args.node < length c.make_queue_room.new.nodes.items = in_same _ _ _ c.requires.node (room_of g at.After-make_queue_room).formed.all_nodes in
-    let few = row_lacks g.R.Rank.KEYS g.R.Rank.key c.args.self.now.tree.now c.args.self.now.entries.entries c.make_queue_room.new.nodes.items (room_of g at.After-make_queue_room).formed c.args.node c.args.row c.requires.node c.requires.row c.index-lists.result.now c.index-lists.ensures c.product_count.result c.child_count.result c.product_count.ensures c.child_count.ensures c.if-product_count-child_count.false in
+    let few = row_lacks g.R.Rank.KEYS g.R.Rank.key c.args.self.now.tree.now c.args.self.now.entries.entries c.make_queue_room.new.nodes.items (room_of g at.After-make_queue_room).formed c.args.node c.args.row c.requires.node c.requires.row c.index.result.now c.index.ensures (c.lacks_products.ensures.0 c.if-not-lacks_products.false).0 (c.lacks_products.ensures.0 c.if-not-lacks_products.false).1 in
     subst (λ n. c.args.row < length n.products) (lists_at c.make_queue_room.new.nodes.items c.args.node c.index_mut.result.now c.index_mut.ensures.value inside)
     (in_rows _ _ _ _ c.requires.row ((room_of g at.After-make_queue_room).formed.all_rows c.args.node c.requires.node) (open_all (child_count c.args.self.now.tree.now c.args.node) (rows c.args.self.now.tree.now c.args.node) few.1))
 
@@ -96,10 +97,6 @@ make_queue_room-requires-clause-node g c =
 pub make_queue_room-requires-clause-group : goal.make_queue_room-requires-clause-group
 make_queue_room-requires-clause-group g c =
     in_same _ _ _ c.requires.group (c.requires.formed.all_streams c.args.node c.requires.node)
-
-pub make_queue_room-requires-clause-few : goal.make_queue_room-requires-clause-few
-make_queue_room-requires-clause-few g c =
-    omega (arith, (c.requires.formed.streams c.args.node c.args.group c.requires.node c.requires.group).few, c.group_len-members.ensures)
 
 pub index_mut-requires : goal.index_mut-requires
 index_mut-requires g c =
@@ -143,7 +140,7 @@ returns g c =
     let kept = refused g at.After-set_products in
     let inside : c.args.node < length c.make_queue_room.new.nodes.items = in_same _ _ _ c.requires.node (room_of g at.After-make_queue_room).formed.all_nodes in
     let stay = streams_stay c.make_queue_room.new.nodes.items c.args.node c.args.row c.index_mut.result.now c.set_products.new.self c.make_products.new.products.items inside c.index_mut.ensures.value in
-    let few = row_lacks g.R.Rank.KEYS g.R.Rank.key c.args.self.now.tree.now c.args.self.now.entries.entries c.make_queue_room.new.nodes.items (room_of g at.After-make_queue_room).formed c.args.node c.args.row c.requires.node c.requires.row c.index-lists.result.now c.index-lists.ensures c.product_count.result c.child_count.result c.product_count.ensures c.child_count.ensures c.if-product_count-child_count.false in
+    let few = row_lacks g.R.Rank.KEYS g.R.Rank.key c.args.self.now.tree.now c.args.self.now.entries.entries c.make_queue_room.new.nodes.items (room_of g at.After-make_queue_room).formed c.args.node c.args.row c.requires.node c.requires.row c.index.result.now c.index.ensures (c.lacks_products.ensures.0 c.if-not-lacks_products.false).0 (c.lacks_products.ensures.0 c.if-not-lacks_products.false).1 in
     let fresh = subst (λ (z : List (NodeStreamsView g.row.R.Denot)). AreFreshTo g.R.Rank.KEYS g.R.Rank.key c.args.self.now.tree.now z c.args.node c.args.row (child_count c.args.self.now.tree.now c.args.node) c.make_products.new.products.items) c.as_slice.ensures.value c.in_ok-make_products.ensures.fresh in
     let opened = opened_is c.make_queue_room.new.nodes.items c.args.node c.args.row c.index_mut.result.now c.set_products.new.self c.make_products.new.products.items inside c.index_mut.ensures.value in
     record {
@@ -170,19 +167,19 @@ returns g c =
       room = ok_then c.set_products.result (λ set none. subst (λ (z : List (StreamView g.row.R.Denot)). can_enter (length (members c.args.self.now.tree.now c.args.node c.args.group)) ≤ (get_or z c.args.group (record { head = 0; queue = []; room = 0 })).room) (sym (stay set)) (roomy g at.In_ok-make_queue_room)) c.set_products.ensures.set;
       count =
           ok_then c.set_products.result
-          (λ set. ap (λ (z : List (NodeStreamsView g.row.R.Denot)). length (products_of z c.args.node c.args.row)) (opened set)
+          (λ set many. ap (λ (z : List (NodeStreamsView g.row.R.Denot)). length (products_of z c.args.node c.args.row)) (opened set)
           ∙ ap length (opened_row g.R.Rank.KEYS g.R.Rank.key c.args.self.now.tree.now c.args.self.now.entries.entries c.make_queue_room.new.nodes.items (room_of g at.After-make_queue_room).formed c.requires.tie_free c.args.node c.args.row c.requires.node c.requires.row c.make_products.new.products.items fresh few.0 few.1)
           ∙ fresh.count) c.set_products.ensures.set;
     }
 
-pub returns-then-product_count-child_count : goal.returns-then-product_count-child_count
-returns-then-product_count-child_count g c =
-    let at = goal.at.returns-then-product_count-child_count g c in
+pub returns-then-not-lacks_products : goal.returns-then-not-lacks_products
+returns-then-not-lacks_products g c =
+    let at = goal.at.returns-then-not-lacks_products g c in
     record {
       room = λ none. roomy g at.In_ok-make_queue_room;
       above = (room_of g at.After-make_queue_room).above;
       tree = refl;
-      count = row_whole g.R.Rank.KEYS g.R.Rank.key c.args.self.now.tree.now c.args.self.now.entries.entries c.make_queue_room.new.nodes.items (room_of g at.After-make_queue_room).formed c.args.node c.args.row c.requires.node c.requires.row c.index-lists.result.now c.index-lists.ensures c.product_count.result c.child_count.result c.product_count.ensures c.child_count.ensures c.if-product_count-child_count.true;
+      count = row_whole g.R.Rank.KEYS g.R.Rank.key c.args.self.now.tree.now c.args.self.now.entries.entries c.make_queue_room.new.nodes.items (room_of g at.After-make_queue_room).formed c.args.node c.args.row c.requires.node c.requires.row c.index.result.now c.index.ensures (λ both. absurd (false≢true (sym c.if-not-lacks_products.true ∙ c.lacks_products.ensures.1 both)));
       streams = (room_of g at.After-make_queue_room).streams;
       queues = λ v r k. same_queue _ _ (room_queues g at.After-make_queue_room v r k);
       entries = refl;
@@ -208,7 +205,7 @@ returns-in_err-make_queue_room g c =
 pub returns-then-place-gt0 : goal.returns-then-place-gt0
 returns-then-place-gt0 g c =
     record {
-      count = c.requires.formed.whole_rows c.args.node c.args.row c.requires.node c.requires.row (products_of_second (lists_of c.args.self.now.nodes.items c.args.node) c.args.row (length (products_of c.args.self.now.nodes.items c.args.node c.args.row)) c.args.place c.if-place-gt0.true c.requires.place);
+      count = λ many. c.requires.formed.whole_rows c.args.node c.args.row c.requires.node c.requires.row (products_of_second (lists_of c.args.self.now.nodes.items c.args.node) c.args.row (length (products_of c.args.self.now.nodes.items c.args.node c.args.row)) c.args.place c.if-place-gt0.true (c.requires.place many));
       cost = no_steps _ _;
       tree = refl;
       queues = λ v r k. queue_itself _ _;
