@@ -1,6 +1,6 @@
 -- The structures of the queries, from their plans, and the steps of the preparation.
 use Rattle.std.proofs.Common.{◌≡◌, ◌≤◌, ◌<◌, ◌+◌, ◌^◌, ◌∙◌, ℕ, Bool, true, false, List, [], ◌∷◌, ◌++◌, length, take, drop}
-use Rattle.std.proofs.Common.{get_or, append_assoc, IfSome, Result, Vec, Option, None, Some, Ok, Err, refl, sym, ap, subst, arith}
+use Rattle.std.proofs.Common.{get_or, append_assoc, IfOk, IfSome, Result, Vec, Option, None, Some, Ok, Err, refl, sym, ap, subst, arith}
 use Rattle.std.specs.Prelude.{IsErrAnd}
 use Rattle.std.specs.Global.{Global}
 use Rattle.std.specs.List.{All, AllByRecursion, sum_by}
@@ -41,7 +41,7 @@ use Rattle.verdict.specs.UnionBound.{HaveShapes}
 use Rattle.verdict.specs.Verdict.{AreStructures, IsFlawed, IsShaped, IsStructure}
 use Rattle.verdict.proofs.Staging.{pure_refused}
 use Rattle.verdict.proofs.Structure.{shapes_found, structures_refused}
-use Rattle.anyk_top.specs.Plans.{IsOnePlan, IsOnePlanOf, found_by, plan_reason, shape_in, shapes_of, shapes_result_view}
+use Rattle.anyk_top.specs.Plans.{IsOnePlan, IsOnePlanOf, found_by, plan_reason, several_result_view, shape_in, shapes_of, shapes_result_view}
 use Rattle.anyk_top.specs.declared.planning.Unplanned.{Unplanned}
 
 -- # One query
@@ -232,6 +232,14 @@ several_refused input refusal more h =
     refusal
     (subst (λ (b : Bool). Pure (AreStructures b 1 input.tables (queries_in input.queries)) (Err refusal))
     (sym several) h)
+
+-- the plans of the queries, or the first refusal
+pub several_shaped : {R : Type 0} (d : ℕ) (key : R → KeyOf d 16) (input : InputView) (r : Result (Vec (PlanView R) Global) Unplanned)
+    → 1 < length input.queries → Pure (AreStructures true 1 input.tables (queries_in input.queries)) (shapes_result_view r)
+    → IfOk r (λ plans. HavePlans d key input.tables input.queries plans.items)
+    → Pure (IsShaped (loaded_of input)) (several_result_view (loaded_of input) r)
+several_shaped d key input (Ok plans) more shaped have = several_found d key input plans.items have
+several_shaped d key input (Err unplanned) more shaped have = several_refused input (plan_reason unplanned.branch unplanned.fault) more shaped
 
 -- as many keys as the first one has
 each_within : (keys most : ℕ) → keys ≤ most → (queries : List BoundQuery) → HaveKeys keys (queries_in queries)

@@ -30,7 +30,7 @@ use Rattle.verdict.specs.Words.{Command, a_command, run, plan, session, load, pr
 use Rattle.anyk_top.specs.declared.planning.Planned.{Planned}
 use Rattle.anyk_top.specs.declared.planning.Unplanned.{Unplanned}
 use Rattle.anyk_top.specs.declared.planning.Plans.{Plans}
-use Rattle.anyk_top.specs.declared.planning.Plans.TheVariants.{One, Sums, Lexes}
+use Rattle.anyk_top.specs.declared.planning.Plans.TheVariants.{One, PackedSums, MiddleSums, Sums, Lexes}
 
 -- ---- the structures that plans show
 
@@ -48,6 +48,8 @@ shapes_of plans = map shape_of plans
 
 abbrev pub shapes_in : Plans → List Shape
 shapes_in (One made) = shape_in made ∷ []
+shapes_in (PackedSums plans) = shapes_of plans.items
+shapes_in (MiddleSums plans) = shapes_of plans.items
 shapes_in (Sums plans) = shapes_of plans.items
 shapes_in (Lexes plans) = shapes_of plans.items
 
@@ -81,6 +83,11 @@ abbrev pub shapes_result_view : {R : Type 0} → Result (Vec (PlanView R) Global
 shapes_result_view (Ok plans) = Ok (shapes_of plans.items)
 shapes_result_view (Err unplanned) = Err (plan_reason unplanned.branch unplanned.fault)
 
+abbrev pub several_result_view : {R : Type 0} → Loaded
+    → Result (Vec (PlanView R) Global) Unplanned → Result AcceptedInput Reason
+several_result_view loaded (Ok plans) = Ok (found_of loaded (shapes_of plans.items))
+several_result_view loaded (Err unplanned) = Err (plan_reason unplanned.branch unplanned.fault)
+
 abbrev pub plans_result_view : Loaded → Result Plans Unplanned → Result AcceptedInput Reason
 plans_result_view loaded (Ok plans) = Ok (found_of loaded (shapes_in plans))
 plans_result_view loaded (Err unplanned) = Err (plan_reason unplanned.branch unplanned.fault)
@@ -105,14 +112,20 @@ IsOnePlan queries tables best (SmallLex made) =
     IsOnePlanOf 2 (fixed_key 2 4) queries tables best made
 IsOnePlan queries tables best (Lex made) = IsOnePlanOf 8 (fixed_key 8 16) queries tables best made
 
+-- the plans of the queries of an input, of which there are several
+abbrev pub AreSeveral : {R : Type 0} (d : ℕ) → (R → KeyOf d 16) → InputView → List (PlanView R)
+    → Type 0
+AreSeveral d key input plans = (1 < length input.queries)
+    × HavePlans d key input.tables input.queries plans
+
 -- the plans of the queries of an input: of one query with the item that is named, and of several by
 -- one rank type
 abbrev pub ArePlans : InputView → Plans → Type 0
 ArePlans input (One made) = IsOnePlan input.queries input.tables input.best made
-ArePlans input (Sums plans) =
-    (1 < length input.queries) × HavePlans 1 (fixed_key 1 16) input.tables input.queries plans.items
-ArePlans input (Lexes plans) =
-    (1 < length input.queries) × HavePlans 8 (fixed_key 8 16) input.tables input.queries plans.items
+ArePlans input (PackedSums plans) = AreSeveral 1 key_of_packed input plans.items
+ArePlans input (MiddleSums plans) = AreSeveral 1 (fixed_key 1 8) input plans.items
+ArePlans input (Sums plans) = AreSeveral 1 (fixed_key 1 16) input plans.items
+ArePlans input (Lexes plans) = AreSeveral 8 (fixed_key 8 16) input plans.items
 
 -- ---- the steps of the preparation
 

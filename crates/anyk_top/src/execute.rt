@@ -109,6 +109,12 @@ fn print_planned<S: Sink, L: Ledger>(
     let Planned { input, plans } = planned;
     match plans {
         Plans::One(plan) => print_one(alloc, task, plan, input, out, steps),
+        Plans::PackedSums(plans) => {
+            print_branches(alloc, task, plans.as_slice(), input, out, steps)
+        }
+        Plans::MiddleSums(plans) => {
+            print_branches(alloc, task, plans.as_slice(), input, out, steps)
+        }
         Plans::Sums(plans) => { print_branches(alloc, task, plans.as_slice(), input, out, steps) }
         Plans::Lexes(plans) => { print_branches(alloc, task, plans.as_slice(), input, out, steps) }
     }

@@ -15,15 +15,17 @@ ghost use Rattle.verdict.specs.Verdict.{AreStructures, IsShaped, IsStructure};
 ghost use Rattle.verdict.specs.Words.{a_command};
 ghost use Rattle.command_input.specs.Planned.{HasOne, IsJudged, IsPlanned};
 ghost use Rattle.anyk_top.specs.Plans.{ArePlans, IsEarlyWithin, plan_reason};
-ghost use Rattle.anyk_top.specs.Plans.{plans_result_view, planned_result_view, shapes_result_view};
+ghost use Rattle.anyk_top.specs.Plans.{plans_result_view, planned_result_view, several_result_view, shapes_result_view};
 ghost use Rattle.command_input.specs.Tasks.{command_of};
 
 use bound_query::Query;
 use command_input::{Input, Task, read_input};
 use hash_keys::Keys;
 use outer_io::Shelf;
-use plan_build::{Plan, PlanFault, RankedPlan, prepare, prepare_ranked};
-use rank_key::{LexRank, Rank, SumRank};
+use plan_build::{
+    Plan, PlanFault, RankedPlan, have_packed_room, have_places, prepare, prepare_ranked,
+};
+use rank_key::{LexRank, MiddleSumRank, PackedRank, Rank, SumRank};
 use refusals::Refusal;
 use std::alloc::{AllocError, AllocFailed, Global};
 use std::sync::ledger::Ledger;
@@ -42,7 +44,11 @@ pub struct Planned {
 pub enum Plans {
     /// The plan of the one query.
     One(RankedPlan),
-    /// The plans of several queries in order, with ranks of one sum.
+    /// The plans of several queries in order, with ranks in one number.
+    PackedSums(Vec<Plan<PackedRank>>),
+    /// The plans of several queries in order, with ranks of one sum, for at most eight items.
+    MiddleSums(Vec<Plan<MiddleSumRank>>),
+    /// The plans of several queries in order, with ranks of one sum, for up to 16 items.
     Sums(Vec<Plan<SumRank>>),
     /// The plans of several queries in order, with ranks of eight sums.
     Lexes(Vec<Plan<LexRank>>),
@@ -126,10 +132,9 @@ fn plans_of<L: Ledger>(
     ensures cost { ArePrepared (queries_in input.now.queries) input.now.tables steps.old steps.new }
 {
     let queries = input.queries.as_slice();
-    let tables = &input.tables;
     let first = &queries[0];
     if queries.len() == 1 {
-        return match prepare_ranked(alloc, first, tables, input.best, steps) {
+        return match prepare_ranked(alloc, first, &input.tables, input.best, steps) {
             Ok(plan) => Ok(Plans::One(plan)),
             Err(fault) => Err(Unplanned {
                 branch: None,
@@ -137,18 +142,40 @@ fn plans_of<L: Ledger>(
             }),
         };
     }
-    if first.keys() <= 1 {
-        let plans = plans_for::<SumRank, L>(alloc, queries, tables, steps)?;
-        Ok(Plans::Sums(plans))
+    if have_packed_room(queries) {
+        Ok(Plans::PackedSums(plans_for(alloc, input, steps)?))
+    } else if have_places(queries, 1, 8) {
+        Ok(Plans::MiddleSums(plans_for(alloc, input, steps)?))
+    } else if first.keys() <= 1 {
+        Ok(Plans::Sums(plans_for(alloc, input, steps)?))
     } else {
-        let plans = plans_for::<LexRank, L>(alloc, queries, tables, steps)?;
-        Ok(Plans::Lexes(plans))
+        Ok(Plans::Lexes(plans_for(alloc, input, steps)?))
     }
+}
+
+/// The plans of the input's queries, of which there are several, by one rank type that has room for
+/// each of them. The fault is that of the first query that has none, with its number.
+fn plans_for<R: Rank, L: Ledger>(
+    alloc: Global,
+    input: &Input,
+    steps: &mut Steps<L>,
+) -> Result<Vec<Plan<R>>, Unplanned>
+    requires several { 1 < length input.now.queries }
+    requires keys { All (λ q. length q.query.order ≤ R.KEYS) input.now.queries }
+    requires slots { R.ITEMS < 16 → All (λ q. length q.query.items ≤ R.ITEMS) input.now.queries }
+    requires limit { All (λ q. CapsBelow R.LIMIT q input.now.tables) input.now.queries }
+    ensures shaped { Pure (IsShaped (loaded_of input.now))
+        (several_result_view (loaded_of input.now) result) }
+    ensures plans { IfOk result
+        (λ v. HavePlans R.KEYS R.key input.now.tables input.now.queries v.items) }
+    ensures cost { ArePrepared (queries_in input.now.queries) input.now.tables steps.old steps.new }
+{
+    plans_over(alloc, &input.queries, &input.tables, steps)
 }
 
 /// The plan of each of several queries, by one rank type. The fault is that of the first query that
 /// has none, with its number.
-fn plans_for<R: Rank, L: Ledger>(
+fn plans_over<R: Rank, L: Ledger>(
     alloc: Global,
     queries: &[Query],
     tables: &Tables,
@@ -157,7 +184,7 @@ fn plans_for<R: Rank, L: Ledger>(
     requires few { length queries.now ≤ 8 }
     requires fits { All (λ q. Fits q tables.now) queries.now }
     requires keys { All (λ q. length q.query.order ≤ R.KEYS) queries.now }
-    requires slots { 16 ≤ R.ITEMS }
+    requires slots { R.ITEMS < 16 → All (λ q. length q.query.items ≤ R.ITEMS) queries.now }
     requires limit { All (λ q. CapsBelow R.LIMIT q tables.now) queries.now }
     ensures shaped { let all = queries_in queries.now in
         Pure (AreStructures true 1 tables.now all) (shapes_result_view result) }

@@ -57,6 +57,10 @@ room_of (Lex plan) = fixed_room 8 16
 abbrev pub rooms : List Room
 rooms = packed_room ∷ fixed_room 1 8 ∷ fixed_room 1 16 ∷ fixed_room 2 4 ∷ fixed_room 8 16 ∷ []
 
+-- the query has at most so many order keys, and at most so many items
+abbrev pub HasPlaces : BoundQuery → ℕ → ℕ → Type 0
+HasPlaces bound sums slots = (length bound.query.order ≤ sums) × (length bound.query.items ≤ slots)
+
 -- there is a sum for each order key and a slot for each item, and the sums are below the limit
 pub record HasRoom (bound : BoundQuery) (tables : List Table) (room : Room) : Type 0 where
   pub keys : length bound.query.order ≤ room.sums

@@ -1,5 +1,6 @@
 //! The plan of a query, with ranks that have room for its order keys.
 ghost use Rattle.std.specs.Prelude.{◌↔◌, ◌^◌, ◌<◌, ◌≤◌, IfErr, IfOk, IfSome, IsTrue, List, length};
+ghost use Rattle.std.specs.List.{All};
 ghost use Rattle.anyk_model.specs.Table.{Table};
 ghost use Rattle.bound_query.specs.WeighedQuery.{Fits};
 ghost use Rattle.node_build.specs.Nodes.{CapsBelow};
@@ -7,7 +8,7 @@ ghost use Rattle.bound_query.specs.RunBounds.{IsPrepared};
 ghost use Rattle.plan_build.specs.Making.{FitsRanks};
 ghost use Rattle.plan_build.specs.Plan.{IsPlanOf};
 ghost use Rattle.plan_build.specs.Faults.{TellsFlaw};
-ghost use Rattle.plan_build.specs.RankedPlan.{HasLeastRoom, HasRoom, IsRankedPlan, packed_room};
+ghost use Rattle.plan_build.specs.RankedPlan.{HasLeastRoom, HasPlaces, HasRoom, IsRankedPlan, packed_room};
 
 use crate::fault::PlanFault;
 use crate::plan::{Plan, prepare, prepare_at};
@@ -86,6 +87,32 @@ pub fn prepare_ranked<L: Ledger>(
     }
 }
 
+/// Whether packed ranks have room for each of the queries.
+pub fn have_packed_room(queries: &[Query]) -> bool
+    requires { (tables : List Table) × All (λ q. Fits q tables) queries.now }
+    ensures { (tables : List Table) → All (λ q. Fits q tables) queries.now
+        → IsTrue result ↔ All (λ q. HasRoom q tables packed_room) queries.now }
+{
+    for query in queries {
+        if !has_packed_room(query) {
+            return false;
+        }
+    }
+    true
+}
+
+/// Whether each of the queries has at most so many order keys, and at most so many items.
+pub fn have_places(queries: &[Query], sums: u32, slots: u32) -> bool
+    ensures { IsTrue result ↔ All (λ q. HasPlaces q sums slots) queries.now }
+{
+    for query in queries {
+        if !has_places(query, sums, slots) {
+            return false;
+        }
+    }
+    true
+}
+
 /// Whether packed ranks have room for the query.
 fn has_packed_room(query: &Query) -> bool
     requires { (tables : List Table) × Fits query.now tables }
@@ -97,8 +124,7 @@ fn has_packed_room(query: &Query) -> bool
 
 /// Whether there are as many sums as order keys, and as many slots as items.
 fn has_places(query: &Query, sums: u32, slots: u32) -> bool
-    ensures { IsTrue result
-        ↔ ((length query.now.query.order ≤ sums) × (length query.now.query.items ≤ slots)) }
+    ensures { IsTrue result ↔ HasPlaces query.now sums slots }
 {
     query.keys() <= sums && query.items() <= slots
 }

@@ -1,7 +1,10 @@
-use Rattle.std.proofs.Common.{◌<◌, ◌∷◌, [], ◌∙◌, Err, Ok, None, length, sym, subst, ap, arith}
+use Rattle.std.proofs.Common.{◌<◌, ◌≤◌, ◌^◌, ◌∷◌, [], ◌∙◌, Err, Ok, None, length, sym, subst, ap, arith}
 use Rattle.std.proofs.lemmas.Result.{IfOk-from_err}
 use Rattle.plan_build.specs.Plans.{ArePrepared, HavePlans}
-use Rattle.plan_build.specs.RankedPlan.{fixed_key}
+use Rattle.node_build.specs.Nodes.{CapsBelow}
+use Rattle.plan_build.specs.RankedPlan.{HasRoom, packed_room}
+use Rattle.std.specs.List.{All}
+use Rattle.std.proofs.lemmas.List.Elements.{All-weaker}
 use Rattle.bound_query.specs.WeighedQuery.{BoundQuery, Fits}
 use Rattle.command_input.specs.Input.{InputView, loaded_of}
 use Rattle.verdict.specs.AcceptedInput.{found_of, queries_in}
@@ -46,123 +49,68 @@ returns-in-Ok g c =
           (one_prepared input query only c.args.steps.now c.prepare_ranked.new.steps c.in-Ok.ensures.cost);
     }
 
+pub have_packed_room-requires : goal.have_packed_room-requires
+have_packed_room-requires g c = (c.input.inside.tables, rw c.as_slice-queries.ensures.value c.input.invariant.fits)
+
 pub plans_for-requires-clause-keys : goal.plans_for-requires-clause-keys
 plans_for-requires-clause-keys g c =
-    let keys = c.input.invariant.keys in
-    let some = c.input.invariant.some in
-    let few = c.if-keys-le1.true in
-    let count = c.keys.ensures.keys in
-    rw c.as_slice-queries.ensures.value
-    (keys_within keys.0 1 c.input.inside.queries.items c.index-queries-0.result keys.1
-    (rw c.as_slice-queries.ensures.value at c.index-queries-0.is) some
-    (omega (arith, few, count)))
+    let input = input_view c.input.inside in
+    let room : All (λ q. HasRoom q input.tables packed_room) input.queries =
+    rw c.as_slice-queries.ensures.value at
+    ((c.have_packed_room.ensures input.tables (rw c.as_slice-queries.ensures.value c.input.invariant.fits)).0 c.if-have_packed_room.true) in
+    subst (λ (i : InputView). All (λ q. length q.query.order ≤ 1) i.queries) c.input.view_is
+    (All-weaker (λ q. HasRoom q input.tables packed_room) (λ q. length q.query.order ≤ 1) (λ q r. r.keys) input.queries room)
+
+pub plans_for-requires-clause-slots : goal.plans_for-requires-clause-slots
+plans_for-requires-clause-slots g c few =
+    let input = input_view c.input.inside in
+    let room : All (λ q. HasRoom q input.tables packed_room) input.queries =
+    rw c.as_slice-queries.ensures.value at
+    ((c.have_packed_room.ensures input.tables (rw c.as_slice-queries.ensures.value c.input.invariant.fits)).0 c.if-have_packed_room.true) in
+    subst (λ (i : InputView). All (λ q. length q.query.items ≤ 4) i.queries) c.input.view_is
+    (All-weaker (λ q. HasRoom q input.tables packed_room) (λ q. length q.query.items ≤ 4) (λ q r. r.items) input.queries room)
 
 pub plans_for-requires-clause-limit : goal.plans_for-requires-clause-limit
 plans_for-requires-clause-limit g c =
-    rw c.as_slice-queries.ensures.value (caps_each c.input.inside.tables c.input.inside.queries.items c.input.invariant.fits)
+    let input = input_view c.input.inside in
+    let room : All (λ q. HasRoom q input.tables packed_room) input.queries =
+    rw c.as_slice-queries.ensures.value at
+    ((c.have_packed_room.ensures input.tables (rw c.as_slice-queries.ensures.value c.input.invariant.fits)).0 c.if-have_packed_room.true) in
+    subst (λ (i : InputView). All (λ q. CapsBelow (2 ^ 43) q i.tables) i.queries) c.input.view_is
+    (All-weaker (λ q. HasRoom q input.tables packed_room) (λ q. CapsBelow (2 ^ 43) q input.tables) (λ q r. r.limit) input.queries room)
 
-pub returns-in_err-plans : goal.returns-in_err-plans
-returns-in_err-plans g c = record {
-  shaped =
-      let e = handed_on c.from_residual.result c.in_err-plans.field-0.0 c.from_residual.ensures.1 in
-      let input = input_view c.input.inside in
-      let refusal = plan_reason c.in_err-plans.field-0.0.branch c.in_err-plans.field-0.0.fault in
-      let some = c.input.invariant.some in
-      let value = ap (length {A = BoundQuery}) c.as_slice-queries.ensures.value in
-      let more : 1 < length input.queries = omega (arith, some, value, c.if-queries-eq1.false) in
-      rw e (subst (λ (i : InputView). Pure (IsShaped (loaded_of i)) (Err refusal)) c.input.view_is
-      (several_refused input refusal more (rw c.as_slice-queries.ensures.value at c.in_err-plans.ensures.shaped)));
-  plans = IfOk-from_err c.from_residual.result _ c.from_residual.ensures.0;
-  cost =
-      subst (λ (i : InputView). ArePrepared (queries_in i.queries) i.tables c.args.steps.now c.plans_for.new.steps) c.input.view_is
-      (rw c.as_slice-queries.ensures.value at c.plans_for.ensures.cost);
-}
+pub plans_for-requires-then-have_places-clause-limit : goal.plans_for-requires-then-have_places-clause-limit
+plans_for-requires-then-have_places-clause-limit g c =
+    subst (λ (i : InputView). All (λ q. CapsBelow (2 ^ 127) q i.tables) i.queries) c.input.view_is
+    (caps_each c.input.inside.tables c.input.inside.queries.items c.input.invariant.fits)
+
+pub plans_for-requires-then-keys-le1-clause-keys : goal.plans_for-requires-then-keys-le1-clause-keys
+plans_for-requires-then-keys-le1-clause-keys g c =
+    let keys = c.input.invariant.keys in
+    let few = c.if-keys-le1.true in
+    let count = c.keys.ensures.keys in
+    subst (λ (i : InputView). All (λ q. length q.query.order ≤ 1) i.queries) c.input.view_is
+    (keys_within keys.0 1 c.input.inside.queries.items c.index-queries-0.result keys.1
+    (rw c.as_slice-queries.ensures.value at c.index-queries-0.is) c.input.invariant.some (omega (arith, few, count)))
+
+pub plans_for-requires-then-keys-le1-clause-limit : goal.plans_for-requires-then-keys-le1-clause-limit
+plans_for-requires-then-keys-le1-clause-limit g c =
+    subst (λ (i : InputView). All (λ q. CapsBelow (2 ^ 127) q i.tables) i.queries) c.input.view_is
+    (caps_each c.input.inside.tables c.input.inside.queries.items c.input.invariant.fits)
 
 pub plans_for-requires-else-keys-le1-clause-keys : goal.plans_for-requires-else-keys-le1-clause-keys
 plans_for-requires-else-keys-le1-clause-keys g c =
     let keys = c.input.invariant.keys in
-    let some = c.input.invariant.some in
     let few = c.keys.ensures.limit in
     let count = c.keys.ensures.keys in
-    rw c.as_slice-queries.ensures.value
+    subst (λ (i : InputView). All (λ q. length q.query.order ≤ 8) i.queries) c.input.view_is
     (keys_within keys.0 8 c.input.inside.queries.items c.index-queries-0.result keys.1
-    (rw c.as_slice-queries.ensures.value at c.index-queries-0.is) some
-    (omega (arith, few, count)))
+    (rw c.as_slice-queries.ensures.value at c.index-queries-0.is) c.input.invariant.some (omega (arith, few, count)))
 
 pub plans_for-requires-else-keys-le1-clause-limit : goal.plans_for-requires-else-keys-le1-clause-limit
 plans_for-requires-else-keys-le1-clause-limit g c =
-    rw c.as_slice-queries.ensures.value (caps_each c.input.inside.tables c.input.inside.queries.items c.input.invariant.fits)
-
-pub returns-in_err-plans-2 : goal.returns-in_err-plans-2
-returns-in_err-plans-2 g c = record {
-  shaped =
-      let e = handed_on c.from_residual-in_err-plans-2.result c.in_err-plans-2.field-0.0 c.from_residual-in_err-plans-2.ensures.1 in
-      let input = input_view c.input.inside in
-      let refusal = plan_reason c.in_err-plans-2.field-0.0.branch c.in_err-plans-2.field-0.0.fault in
-      let some = c.input.invariant.some in
-      let value = ap (length {A = BoundQuery}) c.as_slice-queries.ensures.value in
-      let more : 1 < length input.queries = omega (arith, some, value, c.if-queries-eq1.false) in
-      rw e (subst (λ (i : InputView). Pure (IsShaped (loaded_of i)) (Err refusal)) c.input.view_is
-      (several_refused input refusal more (rw c.as_slice-queries.ensures.value at c.in_err-plans-2.ensures.shaped)));
-  plans = IfOk-from_err c.from_residual-in_err-plans-2.result _ c.from_residual-in_err-plans-2.ensures.0;
-  cost =
-      subst (λ (i : InputView). ArePrepared (queries_in i.queries) i.tables c.args.steps.now c.plans_for-else-keys-le1.new.steps) c.input.view_is
-      (rw c.as_slice-queries.ensures.value at c.plans_for-else-keys-le1.ensures.cost);
-}
-
-pub returns-in_ok-plans : goal.returns-in_ok-plans
-returns-in_ok-plans g c = record {
-  shaped =
-      let input = input_view c.input.inside in
-      let plans = c.in_ok-plans.plans.items in
-      let have : HavePlans 1 (fixed_key 1 16) input.tables input.queries plans =
-      rw c.as_slice-queries.ensures.value at c.in_ok-plans.ensures.plans in
-      subst (λ (i : InputView). IsShaped (loaded_of i) (Ok (found_of (loaded_of i) (shapes_of plans)))) c.input.view_is
-      (several_found 1 (fixed_key 1 16) input plans have);
-  plans =
-      let input = input_view c.input.inside in
-      let plans = c.in_ok-plans.plans.items in
-      let have : HavePlans 1 (fixed_key 1 16) input.tables input.queries plans =
-      rw c.as_slice-queries.ensures.value at c.in_ok-plans.ensures.plans in
-      let some = c.input.invariant.some in
-      let value = ap (length {A = BoundQuery}) c.as_slice-queries.ensures.value in
-      let more : 1 < length input.queries = omega (arith, some, value, c.if-queries-eq1.false) in
-      subst (λ (i : InputView). (1 < length i.queries) × HavePlans 1 (fixed_key 1 16) i.tables i.queries plans)
-      c.input.view_is (more, have);
-  cost =
-      subst (λ (i : InputView). ArePrepared (queries_in i.queries) i.tables c.args.steps.now c.plans_for.new.steps) c.input.view_is
-      (rw c.as_slice-queries.ensures.value at c.plans_for.ensures.cost);
-}
-
-pub returns-in_ok-plans-2 : goal.returns-in_ok-plans-2
-returns-in_ok-plans-2 g c = record {
-  shaped =
-      let input = input_view c.input.inside in
-      let plans = c.in_ok-plans-2.plans.items in
-      let have : HavePlans 8 (fixed_key 8 16) input.tables input.queries plans =
-      rw c.as_slice-queries.ensures.value at c.in_ok-plans-2.ensures.plans in
-      subst (λ (i : InputView). IsShaped (loaded_of i) (Ok (found_of (loaded_of i) (shapes_of plans)))) c.input.view_is
-      (several_found 8 (fixed_key 8 16) input plans have);
-  plans =
-      let input = input_view c.input.inside in
-      let plans = c.in_ok-plans-2.plans.items in
-      let have : HavePlans 8 (fixed_key 8 16) input.tables input.queries plans =
-      rw c.as_slice-queries.ensures.value at c.in_ok-plans-2.ensures.plans in
-      let some = c.input.invariant.some in
-      let value = ap (length {A = BoundQuery}) c.as_slice-queries.ensures.value in
-      let more : 1 < length input.queries = omega (arith, some, value, c.if-queries-eq1.false) in
-      subst (λ (i : InputView). (1 < length i.queries) × HavePlans 8 (fixed_key 8 16) i.tables i.queries plans)
-      c.input.view_is (more, have);
-  cost =
-      subst (λ (i : InputView). ArePrepared (queries_in i.queries) i.tables c.args.steps.now c.plans_for-else-keys-le1.new.steps) c.input.view_is
-      (rw c.as_slice-queries.ensures.value at c.plans_for-else-keys-le1.ensures.cost);
-}
-
-pub plans_for-requires-clause-fits : goal.plans_for-requires-clause-fits
-plans_for-requires-clause-fits g c = rw c.as_slice-queries.ensures.value c.input.invariant.fits
-
-pub plans_for-requires-else-keys-le1-clause-fits : goal.plans_for-requires-else-keys-le1-clause-fits
-plans_for-requires-else-keys-le1-clause-fits g c = rw c.as_slice-queries.ensures.value c.input.invariant.fits
+    subst (λ (i : InputView). All (λ q. CapsBelow (2 ^ 127) q i.tables) i.queries) c.input.view_is
+    (caps_each c.input.inside.tables c.input.inside.queries.items c.input.invariant.fits)
 
 pub prepare_ranked-requires-clause-fits : goal.prepare_ranked-requires-clause-fits
 prepare_ranked-requires-clause-fits g c =
