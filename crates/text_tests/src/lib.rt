@@ -1,11 +1,13 @@
-//! Tests of what is read and of what is written: files and sinks, the words of the command line,
-//! scripts, tables, those that `load` makes, digits, the records of the output, and the lines of
-//! refusals. They are worked examples over the public calls of those crates, in a crate of their
+//! Tests of what is read and of what is written: files and sinks, framed requests, the words of the
+//! command line, scripts, tables, those that `load` makes, digits, the records of the output, and
+//! the lines of refusals. They are worked examples over the public calls of those crates, in a crate of their
 //! own so that none of those is proved twice for its tests.
 #![tactic(auto)]
 
 #[cfg(test)]
 mod fixtures;
+#[cfg(test)]
+mod frames;
 #[cfg(test)]
 mod inputs;
 #[cfg(test)]

@@ -1,0 +1,4 @@
+pub mod Frames
+pub mod Heads
+pub mod Lacking
+pub mod Taking
