@@ -11,7 +11,7 @@ use Rattle.take2_heap.specs.declared.entry.Entry.{Entry}
 use Rattle.rankings.specs.Order.{ranked}
 use Rattle.tdp_model.specs.KeyTuple.{KeyOf, key_below, key_add, key_none, slot_of}
 use Rattle.tdp_model.specs.Remains.{Remains}
-use Rattle.tdp_model.specs.Regions.{in_regions, opening, completes, stands}
+use Rattle.tdp_model.specs.Regions.{in_regions, opening, completes}
 use Rattle.tdp_model.proofs.Division.{times_pos, stands_place}
 use Rattle.tdp_model.specs.Queue.{whole_region, IsQueue}
 use Rattle.tdp_model.specs.TreeProblem.{sum_from, open_part}
@@ -93,8 +93,7 @@ module _ {R : Type 0} (d : ℕ) (key : R → KeyOf d 16) (t : List (NodeView R))
       × IsTreeRanking t d key (rest_keys d key t (regions_of links (length t) (first_entry r ∷ [])))
   unfolding chain
   part_first apart links r row e k =
-      let some = formed.shaped.some_node in
-      let size : suc (length t - 1) ≡ length t = omega (arith, some) in
+      let size : suc (length t - 1) ≡ length t = omega (arith, formed.shaped.some_node) in
       let whole : (ks : List K) × IsTreeRanking t d key ks = tree_ranking apart in
       let queue : IsQueue K (key_below d 16) (followers t) (least d key t) (Reached t) (whole_region (length t - 1) ∷ []) whole.0 =
       part_begins (key_below d 16) (key_add d 16) (key_none d 16) (tuple_keys d 16) (length t) (parent t) (rank t d key) (group t) (best t d key) (λ v r. r < rows t v) (tree d key t formed live)
@@ -115,8 +114,7 @@ module _ {R : Type 0} (d : ℕ) (key : R → KeyOf d 16) (t : List (NodeView R))
 pub one_alone : {X : Type 0} (e : X) (xs : List X) → IsPermutation (e ∷ []) xs → xs ≡ e ∷ []
 one_alone {X} e xs p =
     let long : length xs ≡ 1 = omega (arith, length_permutation (e ∷ []) xs p) in
-    let all : All (λ x. x ≡ e) xs = All-permutation (λ x. x ≡ e) (e ∷ []) xs p (All-cons (λ x. x ≡ e) e [] refl (All-nil (λ x. x ≡ e))) in
-    at xs long all
+    at xs long (All-permutation (λ x. x ≡ e) (e ∷ []) xs p (All-cons (λ x. x ≡ e) e [] refl (All-nil (λ x. x ≡ e))))
   where
     at : (ys : List X) → length ys ≡ 1 → All (λ x. x ≡ e) ys → ys ≡ e ∷ []
     at [] l a = absurd (omega arith)
@@ -129,8 +127,7 @@ unfolding completes
 none_completes members zero s l dead p = omega (arith, l)
 none_completes members (suc m) [] l dead p = omega (arith, p)
 none_completes members (suc m) (r ∷ rest) l dead p =
-    let both : (0 < stands r (members [])) × (0 < completes members m (r ∷ []) rest) = times_pos _ _ p in
-    omega (arith, dead, stands_place r (members []) both.0)
+    omega (arith, dead, stands_place r (members []) (times_pos _ _ p).0)
 
 module _ {R : Type 0} (d : ℕ) (key : R → KeyOf d 16) (t : List (NodeView R)) (formed : IsFormed d key t) (dead : group_count t 0 ≤ 0) where
   nothing_left : rest_keys d key t [] ≡ []

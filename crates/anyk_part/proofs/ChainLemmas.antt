@@ -1,5 +1,5 @@
 -- Chains of links stay what they are when the store grows.
-use Rattle.std.proofs.Common.{◌≡◌, ℕ, zero, suc, ◌+◌, ◌-◌, ◌<◌, ◌≤◌, Option, Some, None, is_some, List, [], ◌∷◌, ◌++◌, length, take, drop, refl, sym, ap, ◌∙◌, subst, arith}
+use Rattle.std.proofs.Common.{◌≡◌, ℕ, zero, suc, ◌+◌, ◌-◌, ◌<◌, ◌≤◌, Option, Some, None, is_some, List, [], ◌∷◌, ◌++◌, length, take, drop, refl, sym, ap, ◌∙◌, subst, arith, append_assoc}
 use Rattle.std.proofs.lemmas.Bool.{false≢true}
 use Rattle.std.proofs.Math.ListN.{get_or-append, set}
 use Rattle.std.proofs.lemmas.List.{get_or_at, length-append}
@@ -96,10 +96,6 @@ drop_set (x ∷ xs) (suc k) (suc count) r l h =
     let e : suc (k + 1) ≡ suc k + 1 = omega arith in
     drop_set xs k count r (omega arith) (omega arith) ∙ ap (λ z. r ∷ drop z (x ∷ take count xs)) e
 
-append_one : (xs : List ℕ) (r : ℕ) (ys : List ℕ) → (xs ++ (r ∷ [])) ++ ys ≡ xs ++ (r ∷ ys)
-append_one [] r ys = refl
-append_one (x ∷ xs) r ys = ap (λ z. x ∷ z) (append_one xs r ys)
-
 pub prefix_turn : (links : List (Linked Link)) (chosen all : List ℕ) (n count id : ℕ) → 0 < n → n ≤ count → count ≤ length chosen
     → all ≡ chain links n (Some id) ++ drop n (take count chosen)
     → all ≡ chain links (n - 1) (link_at links id).before ++ drop (n - 1) (take count (set chosen (n - 1) (link_at links id).row))
@@ -108,7 +104,7 @@ prefix_turn links chosen all n count id p l h h0 =
     let k : n ≡ (n - 1) + 1 = omega arith in
     h0
     ∙ ap (λ z. z ++ drop n (take count chosen)) (chain_split links n id p)
-    ∙ append_one (chain links (n - 1) (link_at links id).before) row (drop n (take count chosen))
+    ∙ append_assoc (chain links (n - 1) (link_at links id).before) (row ∷ []) (drop n (take count chosen))
     ∙ ap (λ m. chain links (n - 1) (link_at links id).before ++ (row ∷ drop m (take count chosen))) k
     ∙ ap (λ z. chain links (n - 1) (link_at links id).before ++ z) (sym (drop_set chosen (n - 1) count row (omega arith) h))
 

@@ -4,7 +4,7 @@ use Rattle.rank_key.specs.Bits.{bit_length}
 use Rattle.rank_key.proofs.BitLemmas.{bit_length_rises}
 use Rattle.std.specs.List.{All}
 use Rattle.std.specs.List.Sorted.{IsPermutation}
-use Rattle.std.proofs.lemmas.Bool.{false≢true}
+use Rattle.std.proofs.lemmas.Bool.{false≢true, cond-true, cond-false}
 use Rattle.std.proofs.lemmas.List.Sums.{sum_by-cons}
 use Rattle.std.proofs.lemmas.List.Sorted.{sum_by-IsPermutation, All-permutation, length_permutation}
 use Rattle.std.proofs.lemmas.List.Elements.{All-tail}
@@ -55,14 +55,6 @@ division_step true false whole i j dev top here_top now next a b p q = omega (ar
 division_step false true whole i j dev top here_top now next a b p q = absurd (false≢true (q refl))
 division_step false false whole i j dev top here_top now next a b p q = omega (arith, a, b)
 
-stands_yes : (b : Bool) (n : ℕ) → b ≡ true → cond {A = ℕ} b 0 n ≡ 0
-stands_yes true n e = refl
-stands_yes false n e = absurd (false≢true e)
-
-stands_no : (b : Bool) (n : ℕ) → b ≡ false → cond {A = ℕ} b 0 n ≡ n
-stands_no true n e = absurd (false≢true (sym e))
-stands_no false n e = refl
-
 module _ {R : Type 0} (d : ℕ) (key : R → KeyOf d 16) (t : List (NodeView R)) where
   pub division_init : (start : Descent) (links : List (Linked Link)) (before : List (Entry R Candidate)) → start.node < length t → start.top_stands ≡ true → All (IsEntry d key t links) before
       → IsDivision d key t start links before start links before
@@ -76,7 +68,7 @@ module _ {R : Type 0} (d : ℕ) (key : R → KeyOf d 16) (t : List (NodeView R))
         held = λ s.
             subst (λ n. in_regions F (divided F (start_region d key t links start)) s + held_by t links before s
             ≡ in_regions F (divided_from F n pre start.place) s + (cond start.top_stands 0 (held_by t links (take 1 before) s) + held_by t links before s)) one
-            (omega (arith, stands_yes start.top_stands (held_by t links (take 1 before) s) e));
+            (omega (arith, cond-true start.top_stands 0 (held_by t links (take 1 before) s) e));
         each = all;
         stands = λ _. (refl, λ s. refl);
         few = omega arith;
@@ -160,7 +152,7 @@ module _ {R : Type 0} (d : ℕ) (key : R → KeyOf d 16) (t : List (NodeView R))
 
     held_gone : w.top_stands ≡ false → (s : List ℕ) → in_regions (followers t) (divided (followers t) (start_region d key t old_links start)) s + held_by t old_links before s
         ≡ held_by t old_links (take 1 before) s + held_by t links entries s
-    held_gone e s = omega (arith, division_held s, stands_no w.top_stands (held_by t old_links (take 1 before) s) e)
+    held_gone e s = omega (arith, division_held s, cond-false w.top_stands 0 (held_by t old_links (take 1 before) s) e)
 
     held_popped : w.top_stands ≡ true → (top : Entry R Candidate) (new : List (Entry R Candidate)) → 0 < length entries → top ≡ get_or entries 0 top → IsPermutation entries (top ∷ new) → (s : List ℕ)
         → in_regions (followers t) (divided (followers t) (start_region d key t old_links start)) s + held_by t old_links before s ≡ held_by t old_links (take 1 before) s + held_by t links new s
@@ -169,7 +161,7 @@ module _ {R : Type 0} (d : ℕ) (key : R → KeyOf d 16) (t : List (NodeView R))
         omega (
           arith,
           division_held s,
-          stands_yes w.top_stands (held_by t old_links (take 1 before) s) e,
+          cond-true w.top_stands 0 (held_by t old_links (take 1 before) s) e,
           sum_by-IsPermutation f entries (top ∷ new) p,
           sum_by-cons f top new,
           sum_by_first f entries top some,

@@ -32,8 +32,7 @@ few_next n n' m calls calls' some few h limit more is = elim (cases_lt (calls + 
       omega (arith, product, h, more)
   | inr last ↦
       let stays : calls' ≡ 2 ^ 64 - 1 = is ∙ omega (arith, last) in
-      let product : m * calls' ≡ m * (2 ^ 64 - 1) = ap (λ k. m * k) stays in
-      omega (arith, product, some, few, limit, more)
+      omega (arith, ap (λ k. m * k) stays, some, few, limit, more)
 ]
 
 module _ {R : Type 0} (d : ℕ) (key : R → KeyOf d 16) (t : List (NodeView R)) (links links1 : List (Linked Link)) (entries entries1 : List (Entry R Candidate)) (calls : ℕ) (r : R) (tag : Candidate)
@@ -122,10 +121,7 @@ times_one m b h = omega (arith, times_more b 1 m h)
 
 -- a node's share of the steps
 node_share : (m b c : ℕ) → 1 ≤ m → c ≤ b + 1 → m + (m * (10 + 4 * c) + 2 * c) + m ≤ 24 * (m * (1 + b))
-node_share m b c some l =
-    let product : m * c ≤ m * (b + 1) = times_more m c (b + 1) l in
-    let own : b ≤ m * b = times_one m b some in
-    omega (arith, product, own, some, l)
+node_share m b c some l = omega (arith, times_more m c (b + 1) l, times_one m b some, some, l)
 
 -- the prefix, the division and the row numbers together
 pub steps_within : (m rows groups calls n start_node before s1 s2 after : ℕ) → 1 ≤ m → 0 < groups → n ≤ 1 + 2 * (m * calls) → start_node ≤ m → s1 ≤ before + start_node
@@ -133,6 +129,5 @@ pub steps_within : (m rows groups calls n start_node before s1 s2 after : ℕ) �
 steps_within m rows groups calls n start_node before s1 s2 after some live few below a b c =
     let x : ℕ = rows + (calls + 1) * m in
     let digits : bit_length (n + 2 * m) ≤ bit_length x + 1 = more_digits (n + 2 * m) x (omega (arith, few)) in
-    let share : m + (m * (10 + 4 * bit_length (n + 2 * m)) + 2 * bit_length (n + 2 * m)) + m ≤ 24 * (m * (1 + bit_length x)) = node_share m (bit_length x) (bit_length (n + 2 * m)) some digits in
     let is : most_steps m rows groups calls ≡ 24 * (m * (1 + bit_length x)) = cond-true (nat_lt 0 groups) (24 * (m * (1 + bit_length x))) 0 (lt-ltb 0 groups live) in
-    omega (arith, share, is, below, a, b, c)
+    omega (arith, node_share m (bit_length x) (bit_length (n + 2 * m)) some digits, is, below, a, b, c)

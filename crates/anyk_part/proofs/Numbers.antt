@@ -1,8 +1,8 @@
 -- The row numbers of a solution are the slots of its key.
-use Rattle.std.proofs.Common.{◌≡◌, ◌≢◌, ℕ, zero, suc, ◌+◌, ◌<◌, ◌⊎◌, nat_eq, List, [], ◌∷◌, length, take, get_or, refl, sym, ap, ◌∙◌, subst, inl, inr, arith}
+use Rattle.std.proofs.Common.{◌≡◌, ◌≢◌, ℕ, zero, suc, ◌+◌, ◌<◌, ◌⊎◌, nat_eq, List, length, take, get_or, sym, ap, ◌∙◌, subst, inl, inr, arith}
 use Rattle.std.proofs.lemmas.Bool.{cases_eq, ne_eqb, cond-false}
 use Rattle.std.proofs.Math.ListN.{set}
-use Rattle.std.proofs.lemmas.List.{get_or-take, length-take, get_or-set_same, get_or-set_other}
+use Rattle.std.proofs.lemmas.List.{get_or-take, length-take, get_or-set_same, get_or-set_other, ext_get_or}
 use Rattle.tdp_model.specs.KeyTuple.{KeyOf, key_add, key_none, slot_of}
 use Rattle.tdp_model.specs.TreeProblem.{rows_key}
 use Rattle.tdp_model.proofs.Ties.{slot_key, slot_zero}
@@ -11,12 +11,6 @@ use Rattle.tdp_core.specs.TreeView.{NodeView, parent, item, rows, number, group,
 use Rattle.tdp_core.specs.WellFormed.{IsFormed, IsTieFreeTree}
 use Rattle.tdp_core.proofs.AnswerFacts.{rows_of_key_length, rows_of_key_at}
 use Rattle.tdp_core.proofs.TreeFacts.{tie_free_of}
-
-pub same_places : (xs ys : List ℕ) → length xs ≡ length ys → ((i : ℕ) → i < length xs → get_or xs i 0 ≡ get_or ys i 0) → xs ≡ ys
-same_places [] [] e h = refl
-same_places [] (y ∷ ys) e h = absurd (omega arith)
-same_places (x ∷ xs) [] e h = absurd (omega arith)
-same_places (x ∷ xs) (y ∷ ys) e h = ap (λ z. z ∷ xs) (h 0 (omega arith)) ∙ ap (λ zs. y ∷ zs) (same_places xs ys (omega arith) (λ i l. h (suc i) (omega arith)))
 
 owner : (item : ℕ → ℕ) (i n : ℕ) → ((u : ℕ) × (u < n) × (i ≡ item u)) ⊎ ((u : ℕ) → u < n → i ≢ item u)
 owner item i zero = inr (λ u l. absurd (omega arith))
@@ -46,10 +40,9 @@ module _ {R : Type 0} (d : ℕ) (key : R → KeyOf d 16) (t : List (NodeView R))
       → numbers ≡ rows_of_key d 16 (rows_key (key_add d 16) (key_none d 16) (rank t d key) (take (length t) chosen))
   numbers_are numbers chosen long wide in_rows own others =
       let s : List ℕ = take (length t) chosen in
-      let few = formed.shaped.few_nodes in
-      let size : length s ≡ length t = length-take (length t) chosen ∙ omega (arith, few, wide) in
+      let size : length s ≡ length t = length-take (length t) chosen ∙ omega (arith, formed.shaped.few_nodes, wide) in
       let k : KeyOf d 16 = rows_key (key_add d 16) (key_none d 16) (rank t d key) s in
-      same_places numbers (rows_of_key d 16 k) (long ∙ sym (rows_of_key_length d 16 k))
+      ext_get_or 0 numbers (rows_of_key d 16 k) (long ∙ sym (rows_of_key_length d 16 k))
       (λ i l. elim (owner (item t) i (length t)) [
         | inl f ↦
             ap (λ z. get_or numbers z 0) f.2

@@ -6,7 +6,7 @@ use Rattle.std.proofs.Math.Seq.{take-suc-set}
 use Rattle.std.proofs.lemmas.List.{get_or-take, get_or_past}
 use Rattle.std.proofs.lemmas.Bool.{cases_eq, cases_lt, eq-eqb, cond-true}
 use Rattle.std.proofs.lemmas.List.Sums.{sum_by-cons}
-use Rattle.std.proofs.lemmas.List.Elements.{All-head, All-tail, All-cons, All-nil}
+use Rattle.std.proofs.lemmas.List.Elements.{All-head, All-tail, All-take}
 use Rattle.stream_store.specs.declared.linked.Linked.{Linked}
 use Rattle.take2_heap.specs.declared.entry.Entry.{Entry}
 use Rattle.tdp_model.specs.KeyTuple.{KeyOf, key_below}
@@ -53,10 +53,6 @@ held_kept d key t links more (e ∷ es) all u =
       sum_by-cons (λ x. in_region (followers t) (region_of (links ++ more) (length t) x.tag) u) e es,
       sum_by-cons (λ x. in_region (followers t) (region_of links (length t) x.tag) u) e es,
     )
-
-pub All-first : {X : Type 0} (P : X → Type 0) (xs : List X) → All P xs → All P (take 1 xs)
-All-first P [] all = all
-All-first P (x ∷ xs) all = All-cons P x [] (All-head P x xs all) (All-nil P)
 
 -- The candidates of two places put in, of which i and j hold a solution: how many of what the queue held, of its top, and of what it
 -- holds, do so too. The group may end before the first place,
@@ -228,4 +224,4 @@ module _ {R : Type 0} (d : ℕ) (key : R → KeyOf d 16) (t : List (NodeView R))
   top_after all e u =
       ap (λ ls. held_by t ls (take 1 entries) u) is
       ∙ ap (λ es. held_by t (links ++ more) (take 1 es) u) (h.stands e).1
-      ∙ held_kept d key t links more (take 1 before) (All-first (IsEntry d key t links) before all) u
+      ∙ held_kept d key t links more (take 1 before) (All-take (IsEntry d key t links) 1 before all) u

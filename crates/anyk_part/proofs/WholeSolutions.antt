@@ -1,12 +1,11 @@
 -- The solutions that regions hold have one row for each node, so that their bound is their key.
-use Rattle.std.proofs.Common.{◌≡◌, ℕ, suc, ◌+◌, ◌*◌, ◌<◌, List, [], ◌∷◌, ◌++◌, length, sym, ap, ◌∙◌, subst, inl, inr, arith}
+use Rattle.std.proofs.Common.{◌≡◌, ℕ, suc, ◌+◌, ◌<◌, List, [], ◌∷◌, ◌++◌, length, sym, ap, ◌∙◌, subst, inl, inr, arith}
 use Rattle.std.proofs.lemmas.Bool.{cases_lt}
 use Rattle.std.proofs.lemmas.List.{length-append}
 use Rattle.rankings.specs.Order.{IsMember}
 use Rattle.tdp_model.specs.KeyTuple.{KeyOf, key_below, key_add, key_none}
 use Rattle.tdp_model.specs.Remains.{AtMost, Remains}
-use Rattle.tdp_model.specs.Regions.{Region, held, stands, place_of, completes, in_region, in_regions, best_of}
-use Rattle.tdp_model.specs.Heap.{under}
+use Rattle.tdp_model.specs.Regions.{Region, held, in_region, in_regions, best_of}
 use Rattle.tdp_model.specs.Queue.{rank_of, IsOpen, AllOpen}
 use Rattle.tdp_model.proofs.KeyTuples.{tuple_keys}
 use Rattle.tdp_model.proofs.Cover.{region_division}
@@ -24,8 +23,7 @@ held_length : (members : List ℕ → List ℕ) (n : ℕ) (pre : List ℕ) (j : 
 unfolding held
 held_length members n pre j [] h = absurd (omega arith)
 held_length members n pre j (r ∷ rest) h =
-    let both : (0 < stands r (members pre) * under j (place_of r (members pre))) × (0 < completes members n (pre ++ (r ∷ [])) rest) = times_pos _ _ h in
-    ap suc (completes_length members n (pre ++ (r ∷ [])) rest both.1)
+    ap suc (completes_length members n (pre ++ (r ∷ [])) rest (times_pos _ _ h).1)
 
 region_length : (members : List ℕ → List ℕ) (r : Region) (s : List ℕ) → 0 < in_region members r s → length s ≡ suc r.left + length r.chosen
 unfolding in_region

@@ -44,8 +44,7 @@ pub call_within : (m rows groups n before s1 s2 s3 s4 after : ℕ) → 1 ≤ m �
     → after ≤ before + most_steps m rows groups 0
 call_within m rows groups n before s1 s2 s3 s4 after some live one few a b c d e =
     let x : ℕ = rows + (0 + 1) * m in
-    let less : bit_length n ≤ bit_length x = bit_length_rises n x (omega (arith, few)) in
     let more : bit_length (n + 1) ≤ bit_length x = bit_length_rises (n + 1) x (omega (arith, few, some)) in
     let own : bit_length x ≤ m * bit_length x = times_one m (bit_length x) some in
     let is : most_steps m rows groups 0 ≡ 24 * (m * (1 + bit_length x)) = cond-true (nat_lt 0 groups) (24 * (m * (1 + bit_length x))) 0 (lt-ltb 0 groups live) in
-    omega (arith, is, less, more, own, some, a, b, c, d, e)
+    omega (arith, is, bit_length_rises n x (omega (arith, few)), more, own, some, a, b, c, d, e)

@@ -107,8 +107,7 @@ module _ {R : Type 0} (d : ℕ) (key : R → KeyOf d 16) (t : List (NodeView R))
         let some : 0 < length t = omega (arith, formed.shaped.some_node) in
         let split : (i : ℕ) → held_by n entries i ≡ same i j + held_by n entries' i =
         λ i. let p = sum_by_popped (λ (x : Entry R ℕ). holds n x.tag i) e entries others popped in
-        let s = place_split n j i top_place.within in
-        omega (arith, p, s, held i)
+        omega (arith, p, place_split n j i top_place.within, held i)
         in
         let after : (i : ℕ) → 0 < held_by n entries i → AtMost (key_below d 16) (place_key d key t j) (place_key d key t i) =
         entries_after (key_below d 16) (tuple_keys d 16).order (place_key d key t) n (λ i p l. formed.heaps 0 0 i some p l) (place_key d key t j) entries

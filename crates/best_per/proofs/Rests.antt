@@ -1,8 +1,7 @@
 -- What a queue's entries hold is the ranking of the rows that are left.
 use Rattle.std.proofs.Common.{◌≡◌, ℕ, ◌<◌, ◌≤◌, Bool, true, false, cond, nat_lt, List, [], ◌∷◌, filter, length, map, get_or, refl, sym, ap, ◌∙◌, subst, inl, inr, arith}
 use Rattle.std.specs.List.{range_with_len}
-use Rattle.std.proofs.lemmas.Bool.{cases_lt, false≢true}
-use Rattle.std.proofs.lemmas.Bool.Decides.{nat_tests}
+use Rattle.std.proofs.lemmas.Bool.{cases_lt, false≢true, lt-ltb, ltb-true}
 use Rattle.std.proofs.lemmas.List.{length-map}
 use Rattle.std.proofs.lemmas.List.FromFn.{length-range_with_len, get_or-range_with_len}
 use Rattle.std.proofs.lemmas.List.Sums.{sum_by-cons}
@@ -45,12 +44,6 @@ filter_of p x (y ∷ xs) m = by (p y) refl m (filter_of p x xs)
     by true is (inr later) rest = rest later
     by false is later rest = rest later
 
-positive : (n : ℕ) → 0 < n → nat_lt 0 n ≡ true
-positive n l = grind (arith, nat_tests)
-
-is_positive : (n : ℕ) → nat_lt 0 n ≡ true → 0 < n
-is_positive n e = grind (arith, nat_tests)
-
 in_range : (n i : ℕ) → i < n → IsMember i (range_with_len 0 n)
 in_range n i l =
     contains_member i (range_with_len 0 n) i (omega (arith, length-range_with_len 0 n))
@@ -59,10 +52,10 @@ in_range n i l =
 module _ {R : Type 0} (n : ℕ) (es : List (Entry R ℕ)) (within : (i : ℕ) → 0 < held_by n es i → i < n) where
   -- the places left are those that the entries hold
   pub left_held : (i : ℕ) → IsMember i (places_left n es) → 0 < held_by n es i
-  left_held i m = is_positive (held_by n es i) (filter_of (λ j. nat_lt 0 (held_by n es j)) i (range_with_len 0 n) m)
+  left_held i m = ltb-true 0 (held_by n es i) (filter_of (λ j. nat_lt 0 (held_by n es j)) i (range_with_len 0 n) m)
 
   pub held_left : (i : ℕ) → 0 < held_by n es i → IsMember i (places_left n es)
-  held_left i h = filter_in (λ j. nat_lt 0 (held_by n es j)) i (range_with_len 0 n) (in_range n i (within i h)) (positive (held_by n es i) h)
+  held_left i h = filter_in (λ j. nat_lt 0 (held_by n es j)) i (range_with_len 0 n) (in_range n i (within i h)) (lt-ltb 0 (held_by n es i) h)
 
 pub entries_within : {R : Type 0} (n : ℕ) (es : List (Entry R ℕ)) (i : ℕ) → 0 < held_by n es i → i < n
 entries_within n [] i h = absurd (omega (arith, h))

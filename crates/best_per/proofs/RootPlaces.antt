@@ -1,8 +1,7 @@
 -- The places of a heap under one of its places, and what a queue of places holds.
-use Rattle.std.proofs.Common.{◌≡◌, ℕ, ◌+◌, ◌-◌, ◌*◌, ◌/◌, ◌<◌, ◌≤◌, cond, nat_lt, List, [], ◌∷◌, length, refl, ◌∙◌, inl, inr, arith}
+use Rattle.std.proofs.Common.{◌≡◌, ℕ, ◌+◌, ◌-◌, ◌*◌, ◌/◌, ◌<◌, ◌≤◌, List, [], ◌∷◌, length, refl, ◌∙◌, inl, inr, arith}
 use Rattle.std.specs.List.{All}
 use Rattle.std.proofs.lemmas.Bool.{cases_lt, cases_eq}
-use Rattle.std.proofs.lemmas.Bool.Decides.{nat_tests}
 use Rattle.std.proofs.lemmas.List.Elements.{All-head, All-tail}
 use Rattle.std.proofs.lemmas.List.Sums.{sum_by-cons}
 use Rattle.rankings.specs.Order.{IsOrder}
@@ -12,36 +11,31 @@ use Rattle.tdp_model.specs.Remains.{AtMost}
 use Rattle.tdp_model.proofs.Keys.{at_most_trans}
 use Rattle.tdp_model.proofs.Subtrees.{same, same_not, climbs_split, climbs_all, climbs_ordered, climbs_above}
 use Rattle.best_per.specs.RootHeap.{holds, held_by}
-
-out : (n i x : ℕ) → n ≤ i → cond (nat_lt i n) x 0 ≡ 0
-out n i x l = grind (arith, nat_tests)
-
-inside : (n i x : ℕ) → i < n → cond (nat_lt i n) x 0 ≡ x
-inside n i x l = grind (arith, nat_tests)
+use Rattle.tdp_model.proofs.Picks.{pick_ge, pick_lt}
 
 -- a place past the end of the heap holds nothing
 pub none_past : (n j i : ℕ) → n ≤ j → holds n j i ≡ 0
 unfolding holds
 none_past n j i l = elim (cases_lt i n) [
-  | inl less ↦ inside n i (under j i) less ∙ climbs_above i i j (omega (arith, less, l))
-  | inr past ↦ out n i (under j i) past
+  | inl less ↦ pick_lt i n (under j i) 0 less ∙ climbs_above i i j (omega (arith, less, l))
+  | inr past ↦ pick_ge i n (under j i) 0 past
 ]
 
 -- only places of the heap are held
 pub held_within : (n j i : ℕ) → 0 < holds n j i → i < n
 unfolding holds
-held_within n j i h = elim (cases_lt i n) [ inl less ↦ less | inr past ↦ absurd (omega (arith, h, out n i (under j i) past)) ]
+held_within n j i h = elim (cases_lt i n) [ inl less ↦ less | inr past ↦ absurd (omega (arith, h, pick_ge i n (under j i) 0 past)) ]
 
 -- the top holds each place once
 pub top_holds : (n i : ℕ) → i < n → holds n 0 i ≡ 1
 unfolding holds
-top_holds n i l = inside n i (under 0 i) l ∙ climbs_all i i (omega arith)
+top_holds n i l = pick_lt i n (under 0 i) 0 l ∙ climbs_all i i (omega arith)
 
 pub top_holds_once : (n i : ℕ) → holds n 0 i ≤ 1
 unfolding holds
 top_holds_once n i = elim (cases_lt i n) [
-  | inl less ↦ omega (arith, inside n i (under 0 i) less, climbs_all i i (omega arith))
-  | inr past ↦ omega (arith, out n i (under 0 i) past)
+  | inl less ↦ omega (arith, pick_lt i n (under 0 i) 0 less, climbs_all i i (omega arith))
+  | inr past ↦ omega (arith, pick_ge i n (under 0 i) 0 past)
 ]
 
 -- a place of the heap holds itself and what the two places below it hold
@@ -50,10 +44,10 @@ unfolding holds
 place_split n j i l = elim (cases_lt i n) [
   | inl less ↦
       (let s = climbs_split i i j (omega arith) in
-      omega (arith, s, inside n i (under j i) less, inside n i (under (2 * j + 1) i) less, inside n i (under (2 * j + 2) i) less))
+      omega (arith, s, pick_lt i n (under j i) 0 less, pick_lt i n (under (2 * j + 1) i) 0 less, pick_lt i n (under (2 * j + 2) i) 0 less))
   | inr past ↦
       (let d = same_not i j (λ e. omega (arith, e, l, past)) in
-      omega (arith, d, out n i (under j i) past, out n i (under (2 * j + 1) i) past, out n i (under (2 * j + 2) i) past))
+      omega (arith, d, pick_ge i n (under j i) 0 past, pick_ge i n (under (2 * j + 1) i) 0 past, pick_ge i n (under (2 * j + 2) i) 0 past))
 ]
 
 pub only_itself : (j i : ℕ) → 0 < same i j → i ≡ j
@@ -67,7 +61,7 @@ module _ {K : Type 0} (Below : K → K → Type 0) (o : IsOrder K Below) (key : 
   held_after j i h =
       let less = held_within n j i h in
       climbs_ordered (λ x y. AtMost Below (key x) (key y)) n (λ x. inr refl) (λ x y z p q. at_most_trans Below o (key x) (key y) (key z) p q) heap i i j less
-      (omega (arith, h, inside n i (under j i) less))
+      (omega (arith, h, pick_lt i n (under j i) 0 less))
 
   -- nor has a place that any of the entries holds, if none of these entries is before k
   pub entries_after : {R : Type 0} (k : K) (es : List (Entry R ℕ)) → All (λ e. AtMost Below k (key e.tag)) es → (i : ℕ) → 0 < held_by n es i → AtMost Below k (key i)

@@ -1,7 +1,7 @@
 -- The ends of answers, as those of the combinations that they stand for.
 use Rattle.std.proofs.Common.{◌≡◌, ◌+◌, ◌∷◌, ◌++◌, [], ℕ, zero, suc, List, length, map, take, nat_le, if◌then◌else◌, IfSome, option_map, Option, Some, None, codes, decimal, refl, sym, ap, subst, ◌∙◌}
 use Rattle.std.specs.List.{AllByRecursion, last_or, slice_get}
-use Rattle.std.proofs.lemmas.List.{length-map}
+use Rattle.std.proofs.lemmas.List.{length-map, take-map}
 use Rattle.anyk_model.specs.Table.{Table}
 use Rattle.anyk_model.specs.Query.{Query, IsCombination, row_counts}
 use Rattle.anyk_model.specs.Output.{cut}
@@ -13,11 +13,6 @@ use Rattle.command_output.specs.Ends.{HasEnds, ends_text}
 use Rattle.command_output.specs.declared.first_and_last.FirstAndLast.{FirstAndLast}
 
 -- ---- lists
-
-take-map : {A B : Type 0} (f : A → B) (n : ℕ) (xs : List A) → take n (map f xs) ≡ map f (take n xs)
-take-map f zero xs = refl
-take-map f (suc n) [] = refl
-take-map f (suc n) (x ∷ xs) = ap (λ l. f x ∷ l) (take-map f n xs)
 
 cut_map : {A B : Type 0} (f : A → B) (limit : Option ℕ) (xs : List A) → cut limit (map f xs) ≡ map f (cut limit xs)
 cut_map f None xs = refl

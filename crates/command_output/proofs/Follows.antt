@@ -42,8 +42,7 @@ pub given_less : (members : List (List ℕ)) (p given count : ℕ) → given ≤
     → length (take count (drop p members)) ≡ given
 given_less members p given count within less end =
     let all : length (drop p members) ≤ count = omega (arith, length-drop p members, end, less) in
-    let e = ap length (take_all count (drop p members) all) in
-    omega (arith, e, length-drop p members, end, within)
+    omega (arith, ap length (take_all count (drop p members) all), length-drop p members, end, within)
 
 -- ---- the list
 
@@ -71,9 +70,7 @@ cut_at (Some n) list p x below = get_or-take n list p x below
 
 -- the member at the place of an answer
 told_within : {A B : Type 0} (f : B → A) (answers : List B) (p : ℕ) (b : B) → slice_get answers p ≡ Some b → p < length (map f answers)
-told_within f answers p b at =
-    let inside = slice_get_within answers p b at in
-    omega (arith, inside, length-map answers f)
+told_within f answers p b at = omega (arith, slice_get_within answers p b at, length-map answers f)
 
 told_is : {A B : Type 0} (f : B → A) (answers : List B) (p : ℕ) (b : B) (x : A) → slice_get answers p ≡ Some b → f b ≡ get_or (map f answers) p x
 told_is f answers p b x at =

@@ -94,6 +94,4 @@ module _ (answers : List AnswerView) (i : ℕ) where
 pub calls_within : (share : List ℕ → ℕ → ℕ) (rises : (s : List ℕ) (c d : ℕ) → c ≤ d → share s c ≤ share s d) (size : List ℕ) (calls k most : ℕ) (size_now : List ℕ) (calls_now before now : ℕ)
     → HasCalled share size calls k size_now calls_now before now → k ≤ most → now ≤ before + steps_for (λ n. share size (calls + n)) most
 calls_within share rises size calls k most size_now calls_now before now h few =
-    let more = steps_more (λ n. share size (calls + n)) (rises_from share rises size calls) k most few in
-    let spent = h.spent in
-    omega (arith, more, spent)
+    omega (arith, steps_more (λ n. share size (calls + n)) (rises_from share rises size calls) k most few, h.spent)

@@ -1,8 +1,8 @@
 -- Cursors that are opened, moved and closed.
-use Rattle.std.proofs.Common.{◌≡◌, ◌≢◌, ◌<◌, ℕ, List, Bool, true, false, cond, Option, Some, None, IsSome, map, option_map, is_none, length, set, get_or, zero, suc, [], ◌∷◌, refl, sym, ap, subst, ◌∙◌, inl, inr, ◌⊎◌, arith}
+use Rattle.std.proofs.Common.{◌≡◌, ◌≢◌, ◌<◌, ℕ, List, Bool, true, false, Option, Some, None, IsSome, map, option_map, is_none, length, set, get_or, zero, suc, [], ◌∷◌, refl, sym, ap, subst, ◌∙◌, inl, inr, arith}
 use Rattle.std.specs.Prelude.{position}
 use Rattle.std.specs.Str.{bytes_eq}
-use Rattle.std.proofs.lemmas.Bool.{cases_order, false≢true}
+use Rattle.std.proofs.lemmas.Bool.{false≢true, cases_eq, cond-false, cond-true}
 use Rattle.std.proofs.lemmas.List.{get_or-map, get_or-set_other, get_or-set_same, length-map, map-set}
 use Rattle.std.proofs.lemmas.List.Quantifiers.{position-Some}
 use Rattle.cursor_set.specs.CursorSet.{CursorSet}
@@ -33,15 +33,6 @@ no_place e = cc
 pub only_places : (old new : CursorSet) (places : List (Option ℕ)) → new ≡ record old { places = places } → new ≡ record old { places = new.places }
 only_places old new places e = e ∙ ap (λ (p : List (Option ℕ)). record old { places = p }) (sym (ap (λ (s : CursorSet). s.places) e))
 
-apart : (i j : ℕ) → (i ≡ j) ⊎ (i ≢ j)
-apart i j = elim (cases_order i j) [ inl same ↦ inl same | inr (inl less) ↦ inr (λ e. omega (arith, less, e)) | inr (inr more) ↦ inr (λ e. omega (arith, more, e)) ]
-
-cond-true : {A : Type 0} (b : Bool) (x y : A) → b ≡ true → cond b x y ≡ x
-cond-true b x y e = rw e refl
-
-cond-false : {A : Type 0} (b : Bool) (x y : A) → b ≡ false → cond b x y ≡ y
-cond-false b x y e = rw e refl
-
 -- one cursor replaces what was there, with the one name that it has before or after
 module _ (old new : CursorSet) (cursors : List Cursor) (places : Places) (number : ℕ) (name : List ℕ) (now : Cursor) (held : HoldsCursors old cursors places)
     (within : number < length cursors) (only : (j : ℕ) (c : OpenCursor) → IsAt cursors j c → c.name.now ≡ name → j ≡ number)
@@ -57,7 +48,7 @@ module _ (old new : CursorSet) (cursors : List Cursor) (places : Places) (number
   other_at j c other at = get_or-set_other cursors number j now None other ∙ at
 
   placed_after : (j : ℕ) (c : OpenCursor) → IsAt (set cursors number now) j c → with_cursor places name (place_of_cursor now) c.name.now ≡ Some c.place
-  placed_after j c at = elim (apart j number) [ inl same ↦ at_it same | inr other ↦ at_another other ]
+  placed_after j c at = elim (cases_eq j number) [ inl same ↦ at_it same | inr other ↦ at_another other ]
     where
       at_it : j ≡ number → with_cursor places name (place_of_cursor now) c.name.now ≡ Some c.place
       at_it same =
@@ -94,14 +85,14 @@ module _ (old new : CursorSet) (cursors : List Cursor) (places : Places) (number
           (held.known wanted place (sym (cond-false (bytes_eq wanted name) (place_of_cursor now) (places wanted) e) ∙ known))
 
   distinct_after : (i j : ℕ) (a b : OpenCursor) → IsAt (set cursors number now) i a → IsAt (set cursors number now) j b → a.name.now ≡ b.name.now → i ≡ j
-  distinct_after i j a b at bt same = elim (apart i number) [
-    | inl first ↦ elim (apart j number) [
+  distinct_after i j a b at bt same = elim (cases_eq i number) [
+    | inl first ↦ elim (cases_eq j number) [
       | inl second ↦ first ∙ sym second
       | inr other ↦
           let is = named a (at_number a (subst (λ (k : ℕ). IsAt (set cursors number now) k a) first at)) in
           absurd (other (only j b (at_other j b other bt) (sym same ∙ is)))
     ]
-    | inr other ↦ elim (apart j number) [
+    | inr other ↦ elim (cases_eq j number) [
       | inl second ↦
           let is = named b (at_number b (subst (λ (k : ℕ). IsAt (set cursors number now) k b) second bt)) in
           absurd (other (only i a (at_other i a other at) (same ∙ is)))

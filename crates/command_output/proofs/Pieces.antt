@@ -19,17 +19,15 @@ one_whole : (piece : List ℕ) (left : List (List ℕ)) (text part : List ℕ) �
 unfolding whole_lines
 one_whole piece left text part is =
     let long = ap length is ∙ length-append piece part in
-    let fits : nat_le (length piece) (length text) ≡ true = le-leb (length piece) (length text) (omega (arith, long)) in
     let rest : drop (length piece) text ≡ part = ap (drop (length piece)) is ∙ drop-append_seam piece part in
-    rw (fits, rest) refl
+    rw (le-leb (length piece) (length text) (omega (arith, long)), rest) refl
 
 -- pieces that were written are whole
 all_whole : (done left : List (List ℕ)) (part : List ℕ) → whole_lines (done ++ left) (concat done ++ part) ≡ length done + whole_lines left part
 all_whole [] left part = omega arith
 all_whole (piece ∷ done) left part =
     let one = one_whole piece (done ++ left) ((piece ++ concat done) ++ part) (concat done ++ part) (append_assoc piece (concat done) part) in
-    let others = all_whole done left part in
-    omega (arith, one, others)
+    omega (arith, one, all_whole done left part)
 
 -- there may be more pieces
 more_whole : (pieces rest : List (List ℕ)) (part : List ℕ) → whole_lines pieces part ≤ whole_lines (pieces ++ rest) part
@@ -90,21 +88,17 @@ module _ (share : List ℕ → ℕ → ℕ) (rises : (s : List ℕ) (c d : ℕ) 
     sum w later cost =
         let x = seen_of mid - seen_of first in
         let many = h.many in
-        let rise = spent.rises in
-        let few = spent.few in
         let grown = spent.grown in
-        let steps = spent.steps in
-        let both = joined_at share rises first mid x (w + 1) spent.size (omega (arith, rise, few)) in
+        let both = joined_at share rises first mid x (w + 1) spent.size (omega (arith, spent.rises, spent.few)) in
         let total = more_steps share rises first (x + (w + 1)) (length h.done + w + 1) (omega (arith, grown, many)) in
-        omega (arith, steps, cost, both, total, many)
+        omega (arith, spent.steps, cost, both, total, many)
 
     -- the same, after a text that begins with the pieces so far
     counted : (w later : ℕ) (part : List ℕ) → length h.done + w ≤ whole_lines pieces part → later ≤ at + engine_steps share mid (w + 1) + 4 * (w + 1)
         → later ≤ before + engine_steps share first (whole_lines pieces part + 1) + 4 * (whole_lines pieces part + 1)
     counted w later part least cost =
-        let all = sum w later cost in
         let more = more_steps share rises first (length h.done + w + 1) (whole_lines pieces part + 1) (omega (arith, least)) in
-        omega (arith, all, more, least)
+        omega (arith, sum w later cost, more, least)
 
     -- the next pieces are paced too
     pub paced_then : (next rest : List (List ℕ)) (new : Option (List ℕ)) (extra : List ℕ) (later : ℕ) → left ≡ next ++ rest → Appends now new extra
@@ -117,8 +111,7 @@ module _ (share : List ℕ → ℕ → ℕ) (rises : (s : List ℕ) (c d : ℕ) 
         least part same =
             let count = ap (λ (l : List (List ℕ)). whole_lines l part) (h.split ∙ ap (λ (l : List (List ℕ)). h.done ++ l) is)
             ∙ ap (whole_lines (h.done ++ (next ++ rest))) same ∙ all_whole h.done (next ++ rest) extra in
-            let more = more_whole next rest extra in
-            omega (arith, count, more)
+            omega (arith, count, more_whole next rest extra)
 
         by : (start part : List ℕ) (written : Option (List ℕ)) → Appends (Some start) written (concat h.done) → Appends written (Some (start ++ part)) extra
             → ((begin more : List ℕ) → written ≡ Some begin → start ++ part ≡ begin ++ more
@@ -153,6 +146,5 @@ module _ (share : List ℕ → ℕ → ℕ) (rises : (s : List ℕ) (c d : ℕ) 
       by start part None first next prompt = absurd first
       by start part (Some begin) first next prompt =
           let same : part ≡ head ++ rest = append_cancel_left start part (head ++ rest) (next ∙ ap (λ (t : List ℕ). t ++ rest) first ∙ append_assoc start head rest) in
-          let left : drop (length head) part ≡ rest = ap (drop (length head)) same ∙ drop-append_seam head rest in
           let P : List ℕ → Type 0 = λ t. now ≤ before + engine_steps share set (whole_lines pieces t + 1) + 4 * (whole_lines pieces t + 1) in
-          subst P (sym left) (prompt begin rest refl next)
+          subst P (sym (ap (drop (length head)) same ∙ drop-append_seam head rest)) (prompt begin rest refl next)

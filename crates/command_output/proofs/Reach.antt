@@ -8,7 +8,7 @@ use Rattle.anyk_model.specs.Output.{cut}
 use Rattle.cursor_set.specs.CursorSet.{CursorSet}
 use Rattle.session_script.specs.declared.step.Step.{Step}
 use Rattle.session_script.specs.declared.step.Step.TheVariants.{Next}
-use Rattle.output_model.specs.Session.{Places, no_cursors, place_in, places_after}
+use Rattle.output_model.specs.Session.{Places, no_cursors, places_after}
 use Rattle.output_model.specs.SessionCalls.{calls_among, calls_of_step, calls_of_steps, ends_by_itself, reach_of_step, reach_of_steps}
 use Rattle.command_output.specs.SessionCosts.{KeepsSessionCost, Spent, calls_at}
 use Rattle.command_output.proofs.SessionCosts.{spent_places, spent_then, spent_wider, within_spent, within_then}
@@ -55,9 +55,8 @@ next_among (Some n) ranking start given count within few = by (nat_lt (start + g
     by true e false is = more_among (length (drop start (take n ranking))) given count within few
     by true e true is =
         let below : start + given < n = grind (arith, nat_tests) in
-        let all = length-take-le n ranking (leb-true n (length ranking) is) in
         let rest = length-drop start (take n ranking) in
-        omega (arith, below, all, rest, few)
+        omega (arith, below, length-take-le n ranking (leb-true n (length ranking) is), rest, few)
 
 -- ---- one member after another
 
@@ -75,10 +74,7 @@ pub record HasGiven (share : List ℕ → ℕ → ℕ) (limit : Option ℕ) (ran
 module _ {share : List ℕ → ℕ → ℕ} {limit : Option ℕ} {ranking : List (List ℕ)} {start given count place : ℕ} {old mid : CursorSet} {before at : ℕ}
     (h : HasGiven share limit ranking start given count place old mid before at) where
   among_next : given < count → given + calls_at limit place ≤ among limit ranking start count
-  among_next few =
-      let all = next_among limit ranking start given count h.within few in
-      let same = ap (calls_at limit) h.is in
-      omega (arith, all, same)
+  among_next few = omega (arith, next_among limit ranking start given count h.within few, ap (calls_at limit) h.is)
 
   -- no more members are asked for
   pub given_done : given ≤ count → Spent share old mid (start + among limit ranking start count) (among limit ranking start count) before at
@@ -92,28 +88,25 @@ module _ {share : List ℕ → ℕ → ℕ} {limit : Option ℕ} {ranking : List
       → Spent share old new (start + among limit ranking start count) (among limit ranking start count) before now
   given_spent new now few next =
       let all = among_next few in
-      let is = h.is in
       spent_then share h.rises old mid (start + given) (place + calls_at limit place) (start + among limit ranking start count) given (calls_at limit place)
       (among limit ranking start count) before at now h.spent
-      (omega (arith, all)) (omega (arith, all, is)) all new next
+      (omega (arith, all)) (omega (arith, all, h.is)) all new next
 
   pub given_within : (now : ℕ) → given < count → KeepsSessionCost share mid (place + calls_at limit place) (calls_at limit place) at now
       → KeepsSessionCost share old (start + among limit ranking start count) (among limit ranking start count) before now
   given_within now few next =
       let all = among_next few in
-      let is = h.is in
       within_then share h.rises old mid (start + given) (place + calls_at limit place) (start + among limit ranking start count) given (calls_at limit place)
       (among limit ranking start count) before at now h.spent
-      (omega (arith, all)) (omega (arith, all, is)) all next
+      (omega (arith, all)) (omega (arith, all, h.is)) all next
 
   -- which gave one
   pub given_more : (new : CursorSet) (now : ℕ) → IfSome limit (λ n. place < n) → Spent share mid new (place + calls_at limit place) (calls_at limit place) at now
       → Spent share old new (start + (given + 1)) (given + 1) before now
   given_more new now below next =
       let one = calls_below limit place below in
-      let is = h.is in
       spent_then share h.rises old mid (start + given) (place + calls_at limit place) (start + (given + 1)) given (calls_at limit place) (given + 1) before at now h.spent
-      (omega arith) (omega (arith, one, is)) (omega (arith, one)) new next
+      (omega arith) (omega (arith, one, h.is)) (omega (arith, one)) new next
 
 -- ---- one step of a script
 
@@ -123,8 +116,7 @@ pub next_paid : (P : ℕ → ℕ → Type 0) (ends : Bool) (members : List (List
     → P (reach_of_step ends members places (Next name count)) (calls_of_step ends members places (Next name count))
 next_paid P ends members places name place count at h =
     let B : ℕ → Type 0 = λ p. P (p + calls_among ends (length (drop p members)) count) (calls_among ends (length (drop p members)) count) in
-    let there : place ≡ place_in places name = ap (λ (o : Option ℕ). unwrap_or o 0) (sym at) in
-    subst B there h
+    subst B (ap (λ (o : Option ℕ). unwrap_or o 0) (sym at)) h
 
 -- ---- steps, one after another
 
@@ -177,10 +169,9 @@ module _ (share : List ℕ → ℕ → ℕ) (rises : (s : List ℕ) (c d : ℕ) 
         → KeepsSessionCost share old (reach_of_steps ends members no_cursors script) (calls_of_steps ends members no_cursors script) before now
     paid_stopped within =
         let far = h.far in
-        let many = h.many in
         within_then share rises old mid h.reach (reach_of_step ends members places step) (reach_of_steps ends members no_cursors script) calls
         (calls_of_step ends members places step) (calls_of_steps ends members no_cursors script) before at now h.paid
-        (omega (arith, far)) (omega (arith, far, reach_split)) (omega (arith, many, calls_split)) within
+        (omega (arith, far)) (omega (arith, far, reach_split)) (omega (arith, h.many, calls_split)) within
 
   -- the cost is within that of the whole script
   pub paid_all : (i : ℕ) (places : Places) (old now : CursorSet) (calls before spent : ℕ) → HasPaid share ends members script i places old now calls before spent

@@ -8,10 +8,9 @@ pub rows_more : (tables : List Table) (i : ℕ) → i < length tables → rows_i
 rows_more [] i inside = absurd (omega (arith, inside))
 rows_more (t ∷ tables) zero inside = omega arith
 rows_more (t ∷ tables) (suc i) inside =
-    let later = rows_more tables i (omega (arith, inside)) in
     let shown = ap (λ (n : ℕ). rows_in_all (take n (t ∷ tables))) (add-one (suc i)) in
     let also = ap (λ (n : ℕ). rows_in_all (take n tables)) (add-one i) in
-    omega (arith, later, shown, also)
+    omega (arith, rows_more tables i (omega (arith, inside)), shown, also)
 
 pub rows_all : (tables : List Table) (i : ℕ) → length tables ≤ i → rows_in_all (take i tables) ≡ rows_in_all tables
 rows_all tables i end = ap rows_in_all (take_all i tables end)

@@ -37,10 +37,7 @@ module _ (share : List ℕ → ℕ → ℕ) (rises : (s : List ℕ) (c d : ℕ) 
 
   pub within_spent : (old new : CursorSet) (reach calls before now : ℕ) → Spent share old new reach calls before now → KeepsSessionCost share old reach calls before now
   within_spent old new reach calls before now s =
-      let steps = s.steps in
-      let far = s.far in
-      let more = more_steps old (seen_of new - seen_of old) (reach - seen_of old) (omega (arith, far)) in
-      omega (arith, steps, more)
+      omega (arith, s.steps, more_steps old (seen_of new - seen_of old) (reach - seen_of old) (omega (arith, s.far)))
 
   pub paid_spent : {A E : Type 0} (old new : CursorSet) (reach calls before now : ℕ) (result : Result A E) → Spent share old new reach calls before now
       → Paid share old new reach calls before now result
@@ -71,12 +68,8 @@ module _ (share : List ℕ → ℕ → ℕ) (rises : (s : List ℕ) (c d : ℕ) 
     within_then within =
         let x = seen_of mid - seen_of old in
         let y = further - seen_of mid in
-        let rise = first.rises in
-        let far = first.far in
-        let steps = first.steps in
-        let both = joined_at old mid x y first.size few_calls in
-        let total = more_steps old (x + y) (whole - seen_of old) (omega (arith, rise, far, near, next)) in
-        omega (arith, steps, within, both, total, few)
+        let total = more_steps old (x + y) (whole - seen_of old) (omega (arith, first.rises, first.far, near, next)) in
+        omega (arith, first.steps, within, joined_at old mid x y first.size few_calls, total, few)
 
     pub spent_then : (new : CursorSet) → Spent share mid new further more at now → Spent share old new whole all before now
     spent_then new second =
@@ -91,11 +84,8 @@ module _ (share : List ℕ → ℕ → ℕ) (rises : (s : List ℕ) (c d : ℕ) 
           grown = let g = first.grown in let g' = second.grown in omega (arith, g, g', few);
           far = let f = first.far in let f' = second.far in omega (arith, f, f', near, next);
           steps =
-              let steps = first.steps in
-              let steps' = second.steps in
-              let both = joined_at old mid x y first.size few_calls in
               let total = more_steps old (x + y) (seen_of new - seen_of old) (omega (arith, rise, rise')) in
-              omega (arith, steps, steps', both, total, few);
+              omega (arith, first.steps, second.steps, joined_at old mid x y first.size few_calls, total, few);
         }
 
   -- ---- one call of the set
@@ -149,10 +139,8 @@ module _ (share : List ℕ → ℕ → ℕ) (rises : (s : List ℕ) (c d : ℕ) 
         by : ((place + 1 ≤ old.known) ⊎ (old.ended ≡ true)) ⊎ ((old.known ≤ place) × (old.ended ≡ false)) → KeepsSessionCost share old (place + 1) 1 before now
         by (inl seen) = let few = (known (place, here, seen)).1 in omega (arith, few)
         by (inr (past, going)) =
-            let seen = seen_open old going in
-            let one = one_call old in
-            let more = more_steps old 1 (place + 1 - seen_of old) (omega (arith, seen, past)) in
-            omega (arith, cost, one, more)
+            let more = more_steps old 1 (place + 1 - seen_of old) (omega (arith, seen_open old going, past)) in
+            omega (arith, cost, one_call old, more)
 
     pub within_one : now ≤ before + engine_steps share old 1 + 4
     within_one = let one = one_call old in omega (arith, cost, one)
@@ -171,17 +159,15 @@ module _ (share : List ℕ → ℕ → ℕ) (rises : (s : List ℕ) (c d : ℕ) 
         by (inl seen) = let (same, few) = known (place, here, seen) in spent_places old new (place + 1) 1 before now same few
         by (inr (past, going)) =
             let least = rise past going in
-            let seen = seen_open old going in
             record {
               size = kept.size;
               rises = omega (arith, least);
               few = omega (arith, least, called);
               grown = grown;
-              far = omega (arith, seen, past, grown);
+              far = omega (arith, seen_open old going, past, grown);
               steps =
-                  let one = one_call old in
                   let more = more_steps old 1 (seen_of new - seen_of old) (omega (arith, least)) in
-                  omega (arith, cost, one, more);
+                  omega (arith, cost, one_call old, more);
             }
 
   -- ---- a new set

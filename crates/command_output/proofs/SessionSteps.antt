@@ -20,8 +20,7 @@ use Rattle.command_output.proofs.Moves.{Cursor, inside_at, no_place, none_some, 
 
 absent : {A : Type 0} (cursors : List Cursor) (k : ℕ) (c : OpenCursor) → cursors ≡ replicate 64 None → IsAt cursors k c → A
 absent cursors k c none at =
-    let inside = inside_at cursors k c at in
-    let few : k < 64 = omega (arith, inside, ap length none, length-replicate {A = Cursor} 64 None) in
+    let few : k < 64 = omega (arith, inside_at cursors k c at, ap length none, length-replicate {A = Cursor} 64 None) in
     none_some (sym (get_or-replicate {A = Cursor} 64 k None None few) ∙ ap (λ (l : List Cursor). get_or l k None) (sym none) ∙ at)
 
 pub none_held : (set : CursorSet) (cursors : List Cursor) → cursors ≡ replicate 64 None → set.places ≡ replicate 64 None → HoldsCursors set cursors no_cursors
@@ -102,5 +101,4 @@ pub next_after : (P : Places → Type 0) (members : List (List ℕ)) (places : P
 next_after P members places name place now count at is h =
     let A : ℕ → Type 0 = λ n. P (with_cursor places name (Some n)) in
     let B : ℕ → Type 0 = λ p. P (with_cursor places name (Some (p + length (take count (drop p members))))) in
-    let there : place ≡ place_in places name = ap (λ (o : Option ℕ). unwrap_or o 0) (sym at) in
-    subst B there (subst A is h)
+    subst B (ap (λ (o : Option ℕ). unwrap_or o 0) (sym at)) (subst A is h)

@@ -36,11 +36,9 @@ module _ (share : List ℕ → ℕ → ℕ) (rises : (s : List ℕ) (c d : ℕ) 
       → steps_from share xs b engines ≤ steps_from share (xs ++ ys) b engines
   steps_rise xs ys b [] = omega arith
   steps_rise xs ys b (e ∷ engines) =
-      let more = members_append b xs ys in
       let here = steps_more (λ n. share e.size (e.calls + n)) (rises_at e) (members_in b xs) (members_in b (xs ++ ys))
-      (omega (arith, more)) in
-      let there = steps_rise xs ys (b + 1) engines in
-      omega (arith, here, there)
+      (omega (arith, members_append b xs ys)) in
+      omega (arith, here, steps_rise xs ys (b + 1) engines)
 
   -- one call more of one engine
   steps_one : (e : EngineView) (i : ℕ) → steps_for (λ n. share e.size (e.calls + n)) i + share e.size (e.calls + i)
@@ -67,14 +65,11 @@ module _ (share : List ℕ → ℕ → ℕ) (rises : (s : List ℕ) (c d : ℕ) 
       ≤ steps_for (λ k. share e.size (e.calls + k)) n) (sym one) (steps_one e (members_in b xs)) in
       let call : share e.size (e.calls + members_in m.branch xs) ≡ share e.size (e.calls + members_in b xs) =
       ap (λ n. share e.size (e.calls + members_in n xs)) same in
-      let there = steps_rise xs (m ∷ []) (b + 1) engines in
-      omega (arith, here, there, call)
+      omega (arith, here, steps_rise xs (m ∷ []) (b + 1) engines, call)
   steps_add xs m b (suc j) (e ∷ engines) is inside =
-      let more = members_append b xs (m ∷ []) in
       let here = steps_more (λ n. share e.size (e.calls + n)) (rises_at e) (members_in b xs)
-      (members_in b (xs ++ m ∷ [])) (omega (arith, more)) in
-      let there = steps_add xs m (b + 1) j engines (omega (arith, is)) (omega (arith, inside)) in
-      omega (arith, here, there)
+      (members_in b (xs ++ m ∷ [])) (omega (arith, members_append b xs (m ∷ []))) in
+      omega (arith, here, steps_add xs m (b + 1) j engines (omega (arith, is)) (omega (arith, inside)))
 
 -- ---- engines that gave members
 
@@ -108,8 +103,7 @@ called_inside share old new b before now h = elim (cases_lt b (length old.engine
         let first = ap (λ (e : EngineView). e.calls) (get_or_past old.engines b none_there past) in
         let later = ap (λ (e : EngineView). e.calls) (get_or_past new.engines b none_there
         (let count = h.count in omega (arith, count, past))) in
-        let one : (engine_at new.engines b).calls ≡ counted (engine_at old.engines b).calls = h.called.calls in
-        omega (arith, first, later, one)
+        omega (arith, first, later, h.called.calls)
 
 module _ (share : List ℕ → ℕ → ℕ) (rises : (s : List ℕ) (c d : ℕ) → c ≤ d → share s c ≤ share s d) where
   -- one member more
@@ -123,18 +117,14 @@ module _ (share : List ℕ → ℕ → ℕ) (rises : (s : List ℕ) (c d : ℕ) 
     few = λ b. by_few b (cases_eq b m.branch);
     spent =
         let there = called_inside share old new m.branch now later one in
-        let count = h.count in
-        let inside : m.branch < length first = omega (arith, there, count) in
+        let inside : m.branch < length first = omega (arith, there, h.count) in
         let own = engine_at first m.branch in
         let now_own = engine_at old.engines m.branch in
         let at_most : share now_own.size now_own.calls ≤ share own.size (own.calls + members_in m.branch given) =
         subst (λ (s : List ℕ). share s now_own.calls ≤ share own.size (own.calls + members_in m.branch given))
         (sym (h.size m.branch))
         (rises own.size now_own.calls (own.calls + members_in m.branch given) (h.few m.branch)) in
-        let added = steps_add share rises given m 0 m.branch first (omega arith) inside in
-        let so_far = h.spent in
-        let cost = one.share in
-        omega (arith, so_far, cost, at_most, added);
+        omega (arith, h.spent, one.share, at_most, steps_add share rises given m 0 m.branch first (omega arith) inside);
   }
     where
       by_size : (b : ℕ) → (b ≡ m.branch) ⊎ (b ≢ m.branch)
@@ -150,14 +140,8 @@ module _ (share : List ℕ → ℕ → ℕ) (rises : (s : List ℕ) (c d : ℕ) 
           (given ++ m ∷ []) =
           let counts : (engine_at new.engines m.branch).calls ≡ counted (engine_at old.engines m.branch).calls =
           one.called.calls in
-          let low = h.few m.branch in
-          let more = members_append m.branch given (m ∷ []) in
-          let one_more = one_of m.branch m refl in
-          omega (arith, counts, low, more, one_more) in
+          omega (arith, counts, h.few m.branch, members_append m.branch given (m ∷ []), one_of m.branch m refl) in
           subst (λ n. (engine_at new.engines n).calls ≤ (engine_at first n).calls + members_in n (given ++ m ∷ []))
           (sym same) here
       by_few b (inr other) =
-          let kept = ap (λ (e : EngineView). e.calls) (one.others b other) in
-          let low = h.few b in
-          let more = members_append b given (m ∷ []) in
-          omega (arith, kept, low, more)
+          omega (arith, ap (λ (e : EngineView). e.calls) (one.others b other), h.few b, members_append b given (m ∷ []))

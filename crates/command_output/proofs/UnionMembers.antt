@@ -47,9 +47,8 @@ pub called_next : (share : List ℕ → ℕ → ℕ) → ((s : List ℕ) (c d : 
     → IsCalled share now new m.branch spent after → AreCalled share first.engines new.engines
     (take (i + 1) first.rest) before after
 called_next share rises first now new i m later before spent after rest head called one =
-    let next : drop i first.rest ≡ m ∷ later = sym rest ∙ map-id now.rest ∙ head in
     subst (λ (xs : List Tagged). AreCalled share first.engines new.engines xs before after)
-    (sym (take_next first.rest i m later next))
+    (sym (take_next first.rest i m later (sym rest ∙ map-id now.rest ∙ head)))
     (called_more share rises first.engines now new (take i first.rest) m before spent after called one)
 
 module _ (share : List ℕ → ℕ → ℕ) (rises : (s : List ℕ) (c d : ℕ) → c ≤ d → share s c ≤ share s d) (all : List Query)

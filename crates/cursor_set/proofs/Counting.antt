@@ -43,9 +43,6 @@ seen_same n m k e = omega (arith, e)
 
 -- # How far a cursor is driven
 
-pub all_given : (given members : ℕ) → given ≤ members → members ≤ given → given ≡ members
-all_given given members few many = omega (arith, few, many)
-
 pub room_at_start : 0 < 2 ^ 64 - 1
 room_at_start = omega arith
 

@@ -10,7 +10,8 @@ use Rattle.std.proofs.lemmas.Bool.{false≢true}
 use Rattle.std.proofs.lemmas.List.Elements.{All-set}
 use Rattle.tdp_core.specs.AnswerView.{AnswerView}
 use Rattle.cursor_set.specs.CursorSet.{CursorSet, IsKnownAt, place_of, seen_of, with_place}
-use Rattle.cursor_set.proofs.Driving.{in_range, some_injective}
+use Rattle.cursor_set.proofs.Driving.{in_range}
+use Rattle.std.proofs.lemmas.Option.{same_Some}
 
 -- # Lists
 
@@ -115,7 +116,7 @@ refused_there v old id p e at behind open' =
 pub not_known_there : (v old : CursorSet) (id p : ℕ) → v ≡ old → place_of v id ≡ Some p → v.known ≤ p → v.ended ≡ false → IsKnownAt old id → ⊥
 not_known_there v old id p e at behind open' k =
     let h : IsKnownAt v id = subst (λ x. IsKnownAt x id) (sym e) k in
-    let same : p ≡ h.0 = some_injective p h.0 (sym at ∙ h.1) in
+    let same : p ≡ h.0 = same_Some p h.0 (sym at ∙ h.1) in
     elim h.2 [
       | inl here ↦ omega (arith, here)
       | inr end ↦ false≢true (sym open' ∙ end)

@@ -7,6 +7,7 @@ use Rattle.cursor_set.specs.declared.cursor_id.CursorFault.TheVariants.{Unknown,
 use Rattle.cursor_set.specs.CursorSet.{CursorSet, Keeps, place_of}
 use Rattle.tdp_core.specs.AnswerView.{counted}
 use Rattle.cursor_set.specs.Faults.{RefusesNext, refused_after}
+use Rattle.std.proofs.lemmas.Option.{same_Some}
 
 -- the place of an open cursor
 abbrev pub start_of : CursorSet → ℕ → ℕ
@@ -17,9 +18,6 @@ pub record IsDriven (old new : CursorSet) (number given : ℕ) : Type 0 where
   pub open' : place_of old number ≡ Some (start_of old number)
   pub places : new.places ≡ set old.places number (Some (start_of old number + given))
   pub kept : Keeps old new
-
-pub some_injective : (m n : ℕ) → Some m ≡ Some n → m ≡ n
-some_injective m n e = cc
 
 pub start_is : (s : CursorSet) (number place : ℕ) → place_of s number ≡ Some place → start_of s number ≡ place
 start_is s number place e = ap (λ o. unwrap_or o 0) e
@@ -51,7 +49,7 @@ IsDriven-place old new number given d =
 -- after one more answer
 pub IsDriven-more : (old now new : CursorSet) (number given place : ℕ) → IsDriven old now number given → place_of now number ≡ Some place → new.places ≡ set now.places number (Some (place + 1)) → Keeps now new → IsDriven old new number (given + 1)
 IsDriven-more old now new number given place d at moved k =
-    let here : start_of old number + given ≡ place = some_injective _ _ (sym (IsDriven-place old now number given d) ∙ at) in
+    let here : start_of old number + given ≡ place = same_Some _ _ (sym (IsDriven-place old now number given d) ∙ at) in
     record {
       open' = d.open';
       places = moved ∙ ap (λ l. set l number (Some (place + 1))) d.places ∙ set-set old.places number (Some (start_of old number + given)) (Some (place + 1)) ∙ ap (λ n. set old.places number (Some n)) (omega (arith, here));
@@ -87,5 +85,5 @@ IsDriven-moved old new number given place d at =
 -- a cursor that stands at the end has passed all that was left
 pub IsDriven-end : (old now : CursorSet) (number given place : ℕ) → IsDriven old now number given → place_of old number ≡ Some place → place_of now number ≡ Some (length now.answers) → place + given ≡ length old.answers
 IsDriven-end old now number given place d at end =
-    let here : start_of old number + given ≡ length now.answers = some_injective _ _ (sym (IsDriven-place old now number given d) ∙ end) in
+    let here : start_of old number + given ≡ length now.answers = same_Some _ _ (sym (IsDriven-place old now number given d) ∙ end) in
     ap (λ n. n + given) (sym (start_is old number place at)) ∙ here ∙ ap length d.kept.answers

@@ -20,7 +20,8 @@ use Rattle.tree_dp.specs.BestRanking.{IsBestRanking}
 use Rattle.tree_dp.proofs.RankingHead.{HasSolution, RootHas, root_has, has_solution}
 use Rattle.tree_dp.proofs.RootRows.{row_placed}
 use Rattle.witness_key.specs.WitnessKey.{witness_key}
-use Rattle.witness_key.proofs.Members.{ascending_map, map_member, member_map}
+use Rattle.rankings.proofs.Members.{member_map, member_unmap}
+use Rattle.witness_key.proofs.Members.{ascending_map}
 use Rattle.witness_key.proofs.Rankings.{orders_agree, witness_length}
 use Rattle.anyk_model.specs.BestList.{best_list, IsLeastOfRow}
 use Rattle.anyk_model.proofs.Least.{best_ranking}
@@ -46,7 +47,7 @@ module _ {R : Type 0} (d : ℕ) (key : R → KeyOf d 16) (t : List (NodeView R))
     witness_of k h =
         let all = tree_ranking in
         let m : IsMember k (map (witness_key d query tables) (ranking_of query tables)) = subst (IsMember k) (ranks all.0 all.1) (all.1.complete k (has_solution d key t formed k h)) in
-        let f = map_member (witness_key d query tables) k (ranking_of query tables) m in
+        let f = member_unmap (witness_key d query tables) k (ranking_of query tables) m in
         (f.0, (ranking_is query tables).sound f.0 f.1, f.2)
 
     had_by : (found : List ℕ) → IsWitness query tables found → RootHas d key t formed (witness_key d query tables found)
@@ -127,7 +128,7 @@ module _ {R : Type 0} (d : ℕ) (key : R → KeyOf d 16) (t : List (NodeView R))
         (record {
           ascending = ascending_map own_key (IsLeastOfRow query tables (item t 0)) (Precedes query tables) (key_below d 16) (λ a b p q. (earlier a b p.witness q.witness).1) list least.sound least.ascending;
           sound = λ k m.
-              let f = map_member own_key k list m in
+              let f = member_unmap own_key k list m in
               let b = witness_best f.0 (least.sound f.0 f.1) in
               (b.0, b.1, f.2 ∙ b.2);
           complete = λ k h.

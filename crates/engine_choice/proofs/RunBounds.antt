@@ -37,10 +37,9 @@ module _ {R : Type 0} (d : ℕ) (key : R → KeyOf d 16) (query : Query) (tables
         → now ≤ prepared + 16 * (length plan.tree * (1 + row_count plan.tree)) → now ≤ before + cost_over query tables shape calls
     started before prepared now calls first second =
         let b = total_rows query tables shape in
-        let more = prepared_within (length query.items) table_total b (omega arith) in
         let all = shares (length query.items) b (row_count plan.tree) calls (λ k. 0) some n_few (λ k. omega arith) in
         let engine : 16 * (length plan.tree * (1 + row_count plan.tree)) ≡ 16 * (length query.items * (1 + row_count plan.tree)) = ap (λ m. 16 * (m * (1 + row_count plan.tree))) m_same in
-        omega (arith, first, second, more, all, engine)
+        omega (arith, first, second, prepared_within (length query.items) table_total b (omega arith), all, engine)
 
     -- with this many calls
     pub called : (before prepared made now calls : ℕ) → prepared ≤ before + 16 * (length query.items * length query.items * (1 + table_total))
@@ -51,16 +50,14 @@ module _ {R : Type 0} (d : ℕ) (key : R → KeyOf d 16) (query : Query) (tables
         let n = row_count plan.tree in
         let more = prepared_within (length query.items) table_total b (omega arith) in
         let all = shares (length query.items) b n calls (λ k. share_of (size_of plan.tree) (0 + k)) some n_few each in
-        let engine : 16 * (length plan.tree * (1 + n)) ≡ 16 * (length query.items * (1 + n)) = ap (λ m. 16 * (m * (1 + n))) m_same in
-        omega (arith, first, second, third, more, all, engine)
+        omega (arith, first, second, third, more, all, ap (λ m. 16 * (m * (1 + n))) m_same)
       where
         each : (k : ℕ) → share_of (size_of plan.tree) (0 + k) ≤ 24 * (length query.items * (1 + bit_length (row_count plan.tree + (k + 1) * length query.items)))
         each k =
             let none : 0 + k ≡ k = omega arith in
             let one = share_within (length plan.tree) (row_count plan.tree) (group_count plan.tree 0) k in
-            let same = ap (λ m. 24 * (m * (1 + bit_length (row_count plan.tree + (k + 1) * m)))) m_same in
             let moved = ap (share_of (size_of plan.tree)) none in
-            omega (arith, one, same, moved)
+            omega (arith, one, ap (λ m. 24 * (m * (1 + bit_length (row_count plan.tree + (k + 1) * m)))) m_same, moved)
 
     -- by an engine over that tree that was not called yet
     pub called_by : (tree : List (NodeView R)) (earlier : ℕ) → tree ≡ plan.tree → earlier ≡ 0 → (before prepared made now calls : ℕ)

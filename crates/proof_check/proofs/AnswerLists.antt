@@ -21,5 +21,4 @@ module _ {A : Type 0} (P : ℕ → A → Type 0) (xs : List A) (x z : A) (n : �
   all_before i l = subst (P i) (sym (get_or-append xs (x ∷ []) z i (omega (arith, l, long)))) (all i l)
 
   pub at_last : P n (get_or (xs ++ x ∷ []) n z)
-  at_last =
-      subst (λ k. P n (get_or (xs ++ x ∷ []) k z)) long (subst (P n) (sym (get_or-append_seam xs x [] z)) last)
+  at_last = subst (λ k. P n (get_or (xs ++ x ∷ []) k z)) long (subst (P n) (sym (get_or-append_seam xs x [] z)) last)

@@ -26,8 +26,7 @@ once_more xs x new once m n y p q = by (cases_lt m (length xs)) (cases_lt n (len
 
     last : (k : ℕ) → IsPairAt (xs ++ x ∷ []) k y → length xs ≤ k → x ≡ y
     last k h g =
-        let l = h.0 in
-        let e : length xs ≡ k = omega (arith, l, g, size) in
+        let e : length xs ≡ k = omega (arith, h.0, g, size) in
         sym (get_or_push xs x (0, 0) k e) ∙ h.1
 
     apart : (k : ℕ) → IsPairAt xs k y → x ≡ y → ⊥
@@ -66,8 +65,7 @@ module _ (p : ℕ) (places : List (List ℕ)) (numbers : List ℕ) where
       (added : AreAdded k old next starts)
       (adding : IsAdding p (list_at places k) (slice_index numbers k) old new next more starts longer) where
     more_count : length more ≡ k + 1
-    more_count =
-        ap length adding.numbered ∙ length-append next (adding.number ∷ []) ∙ ap (λ n. n + 1) added.count
+    more_count = ap length adding.numbered ∙ length-append next (adding.number ∷ []) ∙ ap (λ n. n + 1) added.count
 
     earlier : (i : ℕ) → i < k → slice_index more i ≡ slice_index next i
     earlier i l =
@@ -99,8 +97,7 @@ module _ (p : ℕ) (places : List (List ℕ)) (numbers : List ℕ) where
     ]
 
     abbrev HasBegun : List (List ℕ) → ℕ → Type 0
-    HasBegun lists n =
-        (i : ℕ) × (i < k + 1) × (slice_index more i ≡ n) × (list_at lists n ≡ list_at places i)
+    HasBegun lists n = (i : ℕ) × (i < k + 1) × (slice_index more i ≡ n) × (list_at lists n ≡ list_at places i)
 
     begun_same : starts ≡ longer → (n : ℕ) → n < length old → HasBegun longer n
     begun_same e n l =
@@ -121,10 +118,9 @@ module _ (p : ℕ) (places : List (List ℕ)) (numbers : List ℕ) where
     many_now = elim adding.added [
       | inl same ↦ ap length same.1 ∙ added.many ∙ sym (ap length same.0)
       | inr longer' ↦
-          let a = ap length longer'.1 in
           let b = ap length longer'.0 in
           let m = added.many in
-          omega (arith, a, b, m, length-append starts (list_at places k ∷ []), length-append old (pair_of k ∷ []))
+          omega (arith, ap length longer'.1, b, m, length-append starts (list_at places k ∷ []), length-append old (pair_of k ∷ []))
     ]
 
     begun_now : (n : ℕ) → n < length new → HasBegun longer n
@@ -172,10 +168,8 @@ module _ (p : ℕ) (places : List (List ℕ)) (numbers : List ℕ) where
     pub taken_pairs : (n r : ℕ) → ((k : ℕ) × IsPairAt pairs k (n, r)) ↔ IsTaken p places numbers n r
     taken_pairs n r = (
       λ h.
-          let l = h.1.0 in
-          let b = added.begun h.0 l in
-          let at = added.each b.0 b.1 in
-          let e : pair_of b.0 ≡ (n, r) = sym at.1 ∙ ap (λ k. get_or pairs k (0, 0)) b.2 ∙ h.1.1 in
+          let b = added.begun h.0 h.1.0 in
+          let e : pair_of b.0 ≡ (n, r) = sym (added.each b.0 b.1).1 ∙ ap (λ k. get_or pairs k (0, 0)) b.2 ∙ h.1.1 in
           (b.0, b.1, ap (λ (x : Pair). x.0) e, ap (λ (x : Pair). x.1) e),
       λ h. (
         slice_index next h.0,
@@ -229,8 +223,7 @@ module _ (p : ℕ) (places : List (List ℕ)) (numbers : List ℕ) where
       begins = λ i l.
           let at = added.each i l in
           let b = added.begun (slice_index next i) at.0 in
-          let other = added.each b.0 b.1 in
-          let e : pair_of b.0 ≡ pair_of i = sym other.1 ∙ ap (λ k. get_or pairs k (0, 0)) b.2 ∙ at.1 in
+          let e : pair_of b.0 ≡ pair_of i = sym (added.each b.0 b.1).1 ∙ ap (λ k. get_or pairs k (0, 0)) b.2 ∙ at.1 in
           subst (BeginAlike (p + 1) (list_at places i)) (sym b.3)
           (alike_more (list_at places i) (list_at places b.0)
           (numbered_alike i b.0 l b.1 (sym (ap (λ (x : Pair). x.0) e))) (sym (ap (λ (x : Pair). x.1) e)));
@@ -242,8 +235,7 @@ module _ (p : ℕ) (places : List (List ℕ)) (numbers : List ℕ) where
           (subst (BeginAlike (p + 1) (list_at longer m)) b.3 h) in
           let number = alike_numbered a.0 b.0 a.1 b.1
           (alike_less (list_at places a.0) (list_at places b.0) alike) in
-          let row : place_at places a.0 p ≡ place_at places b.0 p = alike p (omega arith) in
-          let e : pair_of a.0 ≡ pair_of b.0 = λ i. (number i, row i) in
+          let e : pair_of a.0 ≡ pair_of b.0 = λ i. (number i, (alike p (omega arith)) i) in
           sym a.2
           ∙ added.once (slice_index next a.0) (slice_index next b.0) (pair_of b.0)
           (subst (IsPairAt pairs (slice_index next a.0)) e (added.each a.0 a.1)) (added.each b.0 b.1)

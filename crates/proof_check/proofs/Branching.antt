@@ -15,28 +15,28 @@ use Rattle.proof_check.specs.LowBounds.{IsBoundedTree}
 use Rattle.proof_check.proofs.Nodes.{all_nodes}
 use Rattle.proof_check.specs.declared.open_places.OpenPlace.{OpenPlace}
 use Rattle.proof_check.specs.Levels.{FitsGroup, IsBase, IsOpenPlace, IsGroupOf, IsNoOpenPlace, base_part}
-use Rattle.proof_check.proofs.Known.{choice_fits, choice_is, in_some}
+use Rattle.proof_check.proofs.Known.{choice_fits, choice_is}
+use Rattle.std.proofs.lemmas.Option.{same_Some}
 
 module _ {R : Type 0} (join : JoinTree) (tree : BoundedView R) (d : ℕ) (key : R → KeyOf d 16) (p : ℕ) (start : List ℕ) where
   pub one_group : (g h : ℕ) → IsGroupOf join tree d key p start g → IsGroupOf join tree d key p start h → g ≡ h
   one_group g h (inl a) (inl b) = a.1 ∙ sym b.1
   one_group g h (inl a) (inr b) = absurd (let z = a.0 in let s = b.0 in omega (arith, z, s))
   one_group g h (inr a) (inl b) = absurd (let z = b.0 in let s = a.0 in omega (arith, z, s))
-  one_group g h (inr a) (inr b) = in_some g h (sym a.1 ∙ b.1)
+  one_group g h (inr a) (inr b) = same_Some g h (sym a.1 ∙ b.1)
 
   pub one_base : (a b : KeyOf d 16) → IsBase join tree d key p start (Some a) → IsBase join tree d key p start (Some b)
       → a ≡ b
   one_base a b x y =
       x.2
       ∙ sum_same (key_below d 16) (key_add d 16) (key_none d 16) (tuple_keys d 16) x.0 y.0 join.count 0
-      (λ q _ l. let h : q < join.count = omega (arith, l) in in_some (x.0 q) (y.0 q) (sym (x.1 q h) ∙ y.1 q h))
+      (λ q _ l. let h : q < join.count = omega (arith, l) in same_Some (x.0 q) (y.0 q) (sym (x.1 q h) ∙ y.1 q h))
       ∙ sym y.2
 
   pub no_base : (b : KeyOf d 16) → IsBase join tree d key p start None → IsBase join tree d key p start (Some b) → ⊥
   no_base b x y =
-      let clash : None ≡ Some (y.0 x.0) = sym x.2 ∙ y.1 x.0 x.1 in
       let no : None ≡ Some (y.0 x.0) → ⊥ = λ w. cc in
-      no clash
+      no (sym x.2 ∙ y.1 x.0 x.1)
 
   -- a beginning that may not be left is left in no way
   pub not_left : (g : ℕ) (b : KeyOf d 16) → IsNoOpenPlace join tree d key p start → g < length (bound_ranks tree p)

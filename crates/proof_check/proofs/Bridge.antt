@@ -25,7 +25,7 @@ use Rattle.proof_check.specs.LowBounds.{AreServed, IsLow, low_key}
 use Rattle.proof_check.specs.RowPlaces.{ArePlaced, place_at}
 use Rattle.proof_check.proofs.LowKeys.{low_some}
 use Rattle.proof_check.proofs.LowParts.{AreNamed, low_part}
-use Rattle.proof_check.proofs.Nodes.{all_nodes, parent_at}
+use Rattle.proof_check.proofs.Nodes.{all_nodes, stored_parent}
 use Rattle.proof_check.proofs.Keys.{choice_term}
 use Rattle.proof_check.specs.Levels.{AreBeginnings, HasLow, IsBase, IsGroupOf, IsPairAt, IsWay, base_part, list_at}
 use Rattle.proof_check.proofs.Known.{all_below, all_rows, choice_bound, choice_is, choice_row, laws, solved}
@@ -128,7 +128,7 @@ module _ {R : Type 0} (query : Query) (tables : List Table) (join : JoinTree) (d
     fits = elim way.is_group [
       | inl z ↦ inl z.0
       | inr g ↦
-          let up = parent_at query tables join ordered long p node in
+          let up = stored_parent query tables join p node in
           let d' : t.parent p < p = rules'.parents_first p g.0 node in
           let l : slice_index start (slice_index join.parent p) < raw_len tree.raw (t.parent p) =
           subst (λ u. slice_index start u < raw_len tree.raw (t.parent p)) up (inside (t.parent p) d') in
@@ -159,10 +159,9 @@ module _ {R : Type 0} (query : Query) (tables : List Table) (join : JoinTree) (d
     pub unlisted : (j : ℕ) → Begins t c j rows p → answer_row t c j p ≢ rows p
     unlisted j b e =
         let l : j < length places = let x = placed.count in let y = b.0 in omega (arith, x, y) in
-        let number = answer_number n j way.number l (λ q h. b.1 q h ∙ early_row q h) in
         let row : place_at places j p ≡ i = one_row p (place_at places j p) i node (placed.within j p b.0 node)
         way.row.0 (placed.rows j p b.0 node ∙ e ∙ last_row) in
-        way.untaken ((beginnings.taken n i).1 (j, l, number, row))
+        way.untaken ((beginnings.taken n i).1 (j, l, answer_number n j way.number l (λ q h. b.1 q h ∙ early_row q h), row))
 
     abbrev pub way-choice : OpenChoice t c
     way-choice = record {
@@ -231,8 +230,7 @@ module _ {R : Type 0} (query : Query) (tables : List Table) (join : JoinTree) (d
     o_bound q past l low = o.bound q (omega (arith, at, past)) l (omega (arith, at, low))
 
     pub o_serve : AreServed t c p (raw_number tree.raw p i) o.below
-    o_serve q past l e =
-        subst (λ r. Serves t c q r (o.below q)) (ap o.rows e ∙ sym i_row) (o_bound q past l (omega (arith, e)))
+    o_serve q past l e = subst (λ r. Serves t c q r (o.below q)) (ap o.rows e ∙ sym i_row) (o_bound q past l (omega (arith, e)))
 
     -- # The rank of its row with the bounds that it names
 
@@ -263,9 +261,8 @@ module _ {R : Type 0} (query : Query) (tables : List Table) (join : JoinTree) (d
     pub above_row : (q : ℕ) → q < t.nodes → t.parent q < p
         → (above' q < raw_len tree.raw (t.parent q)) × (raw_number tree.raw (t.parent q) (above' q) ≡ o.rows (t.parent q))
     above_row q l h =
-        let up = parent_at query tables join ordered long q l in
         subst (λ u. (slice_index (list_at starts n) u < raw_len tree.raw (t.parent q))
-        × (raw_number tree.raw (t.parent q) (slice_index (list_at starts n) u) ≡ o.rows (t.parent q))) up
+        × (raw_number tree.raw (t.parent q) (slice_index (list_at starts n) u) ≡ o.rows (t.parent q))) (stored_parent query tables join q l)
         (start_within n n_within (t.parent q) h, n_rows (t.parent q) h)
 
     pub o_above : (q : ℕ) → p < q → q < t.nodes → t.parent q < p → (b : ℕ) × (named_bound tree q (above' q) ≡ Some b)
@@ -289,7 +286,7 @@ module _ {R : Type 0} (query : Query) (tables : List Table) (join : JoinTree) (d
           elim (cases_lt p q) [
             | inr at' ↦ (key_none d 16, first ∙ pick_le q p (Some (key_none d 16)) _ at')
             | inl past ↦
-                let up = parent_at query tables join ordered long q l in
+                let up = stored_parent query tables join q l in
                 elim (cases_lt (t.parent q) p) [
                   | inl h ↦
                       let b = o_above q past l h in (
@@ -370,8 +367,7 @@ module _ {R : Type 0} (query : Query) (tables : List Table) (join : JoinTree) (d
           )
       | inr x ↦
           let some' : 0 < p = omega (arith, x) in
-          let up : t.parent p < p = rules'.parents_first p some' node in
-          let row = above_row p node up in
+          let row = above_row p node (rules'.parents_first p some' node) in
           let j = stands.0 in
           let fit : t.Fits p (o.rows (t.parent p)) (o.rows p) = elim o.fits [
             | inl z ↦ absurd (omega (arith, z, at, x))
@@ -385,8 +381,7 @@ module _ {R : Type 0} (query : Query) (tables : List Table) (join : JoinTree) (d
           ) in
           let named = bounded.named_every p (above' p) j some' node row.0 serves in
           let within' = (bounded.named_is p (above' p) named.0 some' node row.0 named.1).0 in
-          let same = bounded.one_number p named.0 g node within' g_within (named.2 ∙ sym g_line) in
-          inr (some', named.1 ∙ ap Some same)
+          inr (some', named.1 ∙ ap Some (bounded.one_number p named.0 g node within' g_within (named.2 ∙ sym g_line)))
     ]
 
     pub untaken : ((j : ℕ) × IsPairAt pairs j (n, i)) → ⊥

@@ -1,10 +1,8 @@
 -- Numbers that are known of a line or a loop.
-use Rattle.std.proofs.Common.{◌≡◌, ℕ, suc, ◌+◌, ◌-◌, ◌*◌, ◌<◌, ◌≤◌, Fits, arith}
-use mir.Syntax.{w32, w64}
-
--- a count that has come to its end
-pub ended : (i n : ℕ) → i ≤ n → n ≤ i → i ≡ n
-ended i n low high = omega (arith, low, high)
+use Rattle.std.proofs.Common.{◌≡◌, ℕ, suc, ◌+◌, ◌-◌, ◌<◌, ◌≤◌, Fits, arith}
+use mir.Syntax.{w32}
+pub use Rattle.tdp_core.proofs.LoopCounts.{at_list, below_count, ended, ended_after as ended_from, no_more}
+pub use Rattle.tdp_core.proofs.LoopCounts.{none_below, place_fits, place_fits_4, within_few}
 
 -- nodes count from 1 in a line
 module _ (a v : ℕ) (is : a ≡ suc v) where
@@ -26,15 +24,8 @@ module _ (a v : ℕ) (is : a ≡ suc v) where
   pub line_index : (n l k : ℕ) → v < n → l ≡ n → k ≡ l → a - 1 < k
   line_index n l k h e f = omega (arith, is, h, e, f)
 
--- a place in a list that is as long
-pub at_list : (v n l : ℕ) → v < n → l ≡ n → v < l
-at_list v n l h e = omega (arith, h, e)
-
 pub at_index : (v n l k : ℕ) → v < n → l ≡ n → k ≡ l → v < k
 at_index v n l k h e f = omega (arith, h, e, f)
-
-pub below_count : (i k n : ℕ) → i < k → k ≡ n → i < n
-below_count i k n h e = omega (arith, h, e)
 
 pub up_to : (k n : ℕ) → k < n → k ≤ n
 up_to k n l = omega (arith, l)
@@ -46,25 +37,12 @@ few_more a b m l low high e = omega (arith, low, high, e)
 pub some_of : (a b : ℕ) → a ≡ b → (a ≡ 0 → ⊥) → 0 < b
 some_of a b e f = omega (arith, e, f)
 
--- a count from v + 1 that has come to its end
-pub ended_from : (i v k n : ℕ) → (v + 1 ≤ k → i ≤ k) → k ≤ i → v < n → k ≡ n → i ≡ n
-ended_from i v k n low high l e = let last = low (omega (arith, l, e)) in omega (arith, last, high, e)
-
 -- a count from v, or from 1, that has come to its end
 pub ended_at : (i v k n : ℕ) → (v ≤ k → i ≤ k) → k ≤ i → v < n → k ≡ n → i ≡ n
 ended_at i v k n low high l e = let last = low (omega (arith, l, e)) in omega (arith, last, high, e)
 
 pub ended_some : (i k : ℕ) → (1 ≤ k → i ≤ k) → k ≤ i → 0 < k → i ≡ k
 ended_some i k low high some = let last = low (omega (arith, some)) in omega (arith, last, high)
-
-pub within_few : (i n m : ℕ) → i < n → n ≤ m → i < m
-within_few i n m l few = omega (arith, l, few)
-
-pub place_fits : (i n : ℕ) → i < n → n ≤ 16 → Fits w64 i
-place_fits i n l few = omega (arith, l, few)
-
-pub place_fits_4 : (i n : ℕ) → i < n → n ≤ 16 → Fits w64 (i * 4)
-place_fits_4 i n l few = omega (arith, l, few)
 
 pub not_both : (a b : ℕ) → a ≤ b → b < a → ⊥
 not_both a b l far = omega (arith, l, far)
@@ -82,18 +60,12 @@ least_both a b k n e f l = omega (arith, e, f, l)
 pub above_root : (v q : ℕ) → v < q → 0 < q
 above_root v q l = omega (arith, l)
 
-pub none_below : (i : ℕ) → i < 0 → ⊥
-none_below i l = omega (arith, l)
-
 -- the last of the first n + 1
 pub last_one : (i n : ℕ) → i < n + 1 → n ≤ i → i ≡ n
 last_one i n l far = omega (arith, l, far)
 
 pub within_end : (m n i : ℕ) → m < n → n ≤ i → m < i
 within_end m n i l end = omega (arith, l, end)
-
-pub no_more : (n : ℕ) → n ≤ n
-no_more n = omega arith
 
 -- a count of places that are 0 or 1
 pub few_added : (new old b r n : ℕ) → new ≡ old + b → b ≡ r → r ≤ 1 → old ≤ n → new ≤ n + 1

@@ -100,13 +100,11 @@ module _ {R : Type 0} (query : Query) (tables : List Table) (join : JoinTree) (d
       let found = p is.0.0 is.0.1 in
       let every = bounded.own_every v i found.0 node row found.1 in
       let same : at.0 ≡ every.0 = let e : Some at.0 ≡ Some every.0 = sym at.1 ∙ every.1 in cc in
-      let there : line ≡ found.0 = ap (bounded.line v) same ∙ every.2 in
       let near : AtMost (key_below d 16) (key own) (key low) =
       subst (λ k. AtMost (key_below d 16) k (key low)) (sym own-key)
       (subst (λ k. AtMost (key_below d 16) (query_key query d (bound_key t c v line)) k) (sym (is.1 is.0.0 is.0.1))
       (at_most_wide (length query.order) d few (bound_key t c v line) (low_key t c v number is.0.0)
       (subst (λ j. AtMost (key_below (length query.order) 16) (bound_key t c v j) (low_key t c v number is.0.0))
-      (sym there)
+      (sym (ap (bounded.line v) same ∙ every.2))
       found.2))) in
-      let no : key_less d 16 (key low) (key own) ≡ false = at_most_not_less d 16 (key low) (key own) near in
-      not-true (sym no ∙ sym order ∙ yes))
+      not-true (sym (at_most_not_less d 16 (key low) (key own) near) ∙ sym order ∙ yes))

@@ -35,6 +35,5 @@ module _ {K : Type 0} (Below : K → K → Type 0) (add : K → K → K) (none :
           | inl e ↦ e
           | inr other ↦ let e : q ≡ i = one q i here.0 other.0 in absurd (omega arith)
         ]) in
-        let same : sum_from add none f (suc n) q ≡ f q = ap (λ z. add (f q) z) rest ∙ keys.add_none (f q) in
-        inr (subst Good (sym same) here.1)
+        inr (subst Good (sym (ap (λ z. add (f q) z) rest ∙ keys.add_none (f q))) here.1)
   ]

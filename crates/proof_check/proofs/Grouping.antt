@@ -1,22 +1,14 @@
 -- Rows by the bounds of their groups.
-use Rattle.std.proofs.Common.{◌≡◌, ℕ, zero, suc, ◌+◌, ◌<◌, ◌≤◌, Bool, true, false, cond, nat_eq, Option, None, Some}
-use Rattle.std.proofs.Common.{unwrap_or, List, [], ◌∷◌, length, get_or, slice_index, refl, sym, ap, subst, ◌∙◌, inl, inr, arith}
+use Rattle.std.proofs.Common.{◌≡◌, ℕ, zero, suc, ◌+◌, ◌<◌, Bool, true, false, cond, nat_eq, Option, None, Some}
+use Rattle.std.proofs.Common.{unwrap_or, List, [], ◌∷◌, length, get_or, slice_index, refl, sym, ap, subst, ◌∙◌, arith}
 use Rattle.std.proofs.Common.{eqb-true, eq-eqb}
-use Rattle.std.specs.List.{filter, range_with_len, sum_by}
-use Rattle.std.proofs.lemmas.Bool.{cases_lt, false≢true}
-use Rattle.std.proofs.lemmas.List.{get_or_past}
-use Rattle.std.proofs.lemmas.List.Sums.{get_or-le-sum_by}
+use Rattle.std.specs.List.{filter, range_with_len}
+use Rattle.std.proofs.lemmas.Bool.{false≢true}
+use Rattle.std.proofs.lemmas.List.{get_or_default}
 use Rattle.std.proofs.lemmas.List.FromFn.{get_or-map-range_with_len, get_or-range_with_len, length-range_with_len}
 use Rattle.tdp_core.specs.RowGroups.{places_by_number, places_of}
 use Rattle.tdp_core.proofs.RowPlaces.{groups_long}
 use Rattle.proof_check.specs.Levels.{AreGroups, list_at}
-
--- one list is no longer than all together
-pub one_of_all : {X : Type 0} (xs : List (List X)) (i : ℕ) → length (get_or xs i []) ≤ sum_by length xs
-one_of_all xs i = elim (cases_lt i (length xs)) [
-  | inl l ↦ get_or-le-sum_by length xs i [] l
-  | inr far ↦ let e = ap length (get_or_past xs i [] far) in omega (arith, e)
-]
 
 module _ (p : ℕ → Bool) where
   -- an element of a filtered list passes the test
@@ -65,13 +57,8 @@ module _ (own : List (Option ℕ)) (count : ℕ) (numbers : List ℕ) (size : le
       let h : k < length own = omega (arith, size, l) in
       subst (λ n. n < count + 1) (sym (same d)) (by (get_or own k None) refl h)
     where
-      default : (xs : List ℕ) (k a b : ℕ) → k < length xs → get_or xs k a ≡ get_or xs k b
-      default [] k a b l = absurd (omega (arith, l))
-      default (x ∷ xs) zero a b l = refl
-      default (x ∷ xs) (suc k) a b l = default xs k a b (omega (arith, l))
-
       same : (d : ℕ) → get_or numbers k d ≡ unwrap_or (get_or own k None) count
-      same d = default numbers k d 0 l ∙ each k (omega (arith, size, l))
+      same d = get_or_default numbers k d 0 l ∙ each k (omega (arith, size, l))
 
       by : (o : Option ℕ) → get_or own k None ≡ o → k < length own → unwrap_or (get_or own k None) count < count + 1
       by None e h = subst (λ z. unwrap_or z count < count + 1) (sym e) (omega arith)

@@ -19,5 +19,4 @@ module _ {K : Type 0} (t : Problem K) (c : Certificate) (p : ℕ) (rows below : 
 
   -- what node q gives to the key of the choice
   abbrev pub choice_term : ℕ → K
-  choice_term q =
-      cond (nat_le q p) (t.key q (rows q)) (cond (nat_le (t.parent q) p) (bound_key t c q (below q)) t.none)
+  choice_term q = cond (nat_le q p) (t.key q (rows q)) (cond (nat_le (t.parent q) p) (bound_key t c q (below q)) t.none)

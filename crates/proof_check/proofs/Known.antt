@@ -24,19 +24,16 @@ use Rattle.proof_model.proofs.Wider.{wide_add, wide_none, wide_sum}
 use Rattle.proof_check.specs.BoundedRows.{BoundedView, IsBounded, named_bound, query_key, rank_of_bound}
 use Rattle.proof_check.proofs.RankSums.{parts_fit}
 use Rattle.proof_check.specs.LowBounds.{AreServed, low_key}
-use Rattle.proof_check.proofs.Nodes.{parent_at, parents_first_lem, option_some}
+use Rattle.proof_check.proofs.Nodes.{stored_parent, parents_earlier, option_some}
 use Rattle.proof_check.proofs.Keys.{base_key, base_term, choice_term}
 use Rattle.proof_check.specs.Levels.{base_part}
 use Rattle.proof_check.proofs.Supported.{IsSumOver}
 use Rattle.proof_check.proofs.Ways.{base_and_low, base_over, choice_over, holder}
+use Rattle.std.proofs.lemmas.Option.{same_Some}
 
 -- what a node gives, if it gives anything
 abbrev pub part_key : {R : Type 0} → JoinTree → BoundedView R → (d : ℕ) → (R → KeyOf d 16) → ℕ → List ℕ → ℕ → KeyOf d 16
 part_key join tree d key p start q = unwrap_or (base_part join tree d key p start q) (key_none d 16)
-
--- what is in an option
-pub in_some : {A : Type 0} (a b : A) → Some a ≡ Some b → a ≡ b
-in_some a b e = let is : a ≡ b = cc in is
 
 module _ {R : Type 0} (query : Query) (tables : List Table) (join : JoinTree) (d : ℕ) (key : R → KeyOf d 16)
     (c : Certificate) (tree : BoundedView R) (few : length query.order ≤ d)
@@ -49,8 +46,7 @@ module _ {R : Type 0} (query : Query) (tables : List Table) (join : JoinTree) (d
   W k = query_key query d k
 
   pub laws : 0 < t.nodes → IsProblem t
-  laws some =
-      query_problem query tables _ _ some (λ q p l. parents_first_lem query tables join ordered long q p l)
+  laws some = query_problem query tables _ _ some (λ q p l. parents_earlier query tables join ordered q p l)
 
   -- a bound line is a solution of its node
   pub solved : (q i : ℕ) → IsBoundOf t c q i → IsSolutionAt t q (bound_at t c i).rows
@@ -91,11 +87,11 @@ module _ {R : Type 0} (query : Query) (tables : List Table) (join : JoinTree) (d
     some_nodes = omega (arith, node)
 
     above_is : (q : ℕ) → q < t.nodes → rows (t.parent q) ≡ raw_number tree.raw (t.parent q) (above q)
-    above_is q l = ap (λ u. raw_number tree.raw (t.parent q) (slice_index start u)) (parent_at query tables join ordered long q l)
+    above_is q l = ap (λ u. raw_number tree.raw (t.parent q) (slice_index start u)) (stored_parent query tables join q l)
 
     above_within : (q : ℕ) → q < t.nodes → t.parent q < p → above q < raw_len tree.raw (t.parent q)
     above_within q l h =
-        subst (λ u. slice_index start u < raw_len tree.raw (t.parent q)) (parent_at query tables join ordered long q l)
+        subst (λ u. slice_index start u < raw_len tree.raw (t.parent q)) (stored_parent query tables join q l)
         (within (t.parent q) h)
 
     -- a bound that is named serves
@@ -116,25 +112,24 @@ module _ {R : Type 0} (query : Query) (tables : List Table) (join : JoinTree) (d
     part_open : (q : ℕ) (k : KeyOf d 16) → p < q → q < t.nodes → t.parent q < p → part q ≡ Some k
         → (b : ℕ) × (named_bound tree q (above q) ≡ Some b) × (k ≡ rank_of_bound tree d key q b)
     part_open q k past l low e =
-        let up = parent_at query tables join ordered long q l in
         option_some (rank_of_bound tree d key q) (named_bound tree q (above q)) k (sym (
         sym (pick_gt (suc q) p (Some (raw_rank tree.raw d key q (slice_index start q))) _ (omega (arith, past))
         ∙ pick_gt q p (Some (key_none d 16)) _ past
         ∙ pick_le (suc (slice_index join.parent q)) p
         (option_map (rank_of_bound tree d key q) (named_bound tree q (above q))) (Some (key_none d 16))
-        (omega (arith, up, low))) ∙ e))
+        (omega (arith, stored_parent query tables join q l, low))) ∙ e))
 
     -- what a node gives is what it gives in the problem
     part_is : (q : ℕ) (k : KeyOf d 16) → q < t.nodes → part q ≡ Some k → k ≡ W (base_term t c p rows below q)
     part_is q k l e = elim (cases_lt q p) [
       | inl less ↦
-          in_some k (raw_rank tree.raw d key q (slice_index start q))
+          same_Some k (raw_rank tree.raw d key q (slice_index start q))
           (sym e ∙ pick_le (suc q) p (Some (raw_rank tree.raw d key q (slice_index start q))) _ less)
           ∙ bounded.rows.keys q (slice_index start q) l (within q less)
           ∙ ap W (sym (pick_le (suc q) p (t.key q (rows q)) _ less))
       | inr more ↦ elim (cases_lt p q) [
         | inr at ↦
-            in_some k (key_none d 16) (sym e
+            same_Some k (key_none d 16) (sym e
             ∙ pick_gt (suc q) p (Some (raw_rank tree.raw d key q (slice_index start q))) _ (omega (arith, more))
             ∙ pick_le q p (Some (key_none d 16)) _ at)
             ∙ sym (wide_none (length query.order) d 16 few)
@@ -146,13 +141,12 @@ module _ {R : Type 0} (query : Query) (tables : List Table) (join : JoinTree) (d
               ∙ ap W (sym (pick_gt (suc q) p (t.key q (rows q)) _ (omega (arith, more)) ∙ pick_gt q p t.none _ past
               ∙ pick_le (suc (t.parent q)) p (bound_key t c q (below q)) t.none low))
           | inr high ↦
-              let up = parent_at query tables join ordered long q l in
-              in_some k (key_none d 16) (sym e
+              same_Some k (key_none d 16) (sym e
               ∙ pick_gt (suc q) p (Some (raw_rank tree.raw d key q (slice_index start q))) _ (omega (arith, more))
               ∙ pick_gt q p (Some (key_none d 16)) _ past
               ∙ pick_gt (suc (slice_index join.parent q)) p
               (option_map (rank_of_bound tree d key q) (named_bound tree q (above q))) (Some (key_none d 16))
-              (omega (arith, up, high)))
+              (omega (arith, stored_parent query tables join q l, high)))
               ∙ sym (wide_none (length query.order) d 16 few)
               ∙ ap W (sym (pick_gt (suc q) p (t.key q (rows q)) _ (omega (arith, more)) ∙ pick_gt q p t.none _ past
               ∙ pick_gt (suc (t.parent q)) p (bound_key t c q (below q)) t.none (omega (arith, high))))

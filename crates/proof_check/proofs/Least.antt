@@ -29,8 +29,7 @@ module _ {R : Type 0} (d : ℕ) (key : R → KeyOf d 16) (m : ℕ) (branches : L
       | inl less ↦ are.below n b less e
       | inr at ↦
           let is : n ≡ m = omega (arith, l, at) in
-          let clash : None ≡ Some b = sym none ∙ ap (λ k. get_or branches k None) (sym is) ∙ e in
-          absurd (let no : None ≡ Some b → ⊥ = λ w. cc in no clash)
+          absurd (let no : None ≡ Some b → ⊥ = λ w. cc in no (sym none ∙ ap (λ k. get_or branches k None) (sym is) ∙ e))
     ];
     one = λ g k e. let o = are.one g k e in
         (o.0, (o.1.0, let l = o.1.1 in omega (arith, l), o.1.2, o.1.3, o.1.4));

@@ -33,8 +33,7 @@ unfolding sum_from
 sum_less f t zero q p l h s e = absurd (omega arith)
 sum_less f t (suc n) q p l h s e = elim (cases_eq q p) [
   | inl x ↦
-      let z : f q * cond (t q) 1 0 ≡ 0 = hidden (f q) (t q) (ap t x ∙ e) in
-      omega (arith, z, ap f x, masked_sum f t n (suc q))
+      omega (arith, hidden (f q) (t q) (ap t x ∙ e), ap f x, masked_sum f t n (suc q))
   | inr x ↦
       omega (arith, masked (f q) (t q), sum_less f t n (suc q) p (omega arith) (omega arith) s e)
 ]

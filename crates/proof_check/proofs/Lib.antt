@@ -1,4 +1,3 @@
-pub mod Missing
 pub mod ProblemRows
 pub mod Rows
 pub mod Lists

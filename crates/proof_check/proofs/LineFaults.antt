@@ -33,6 +33,7 @@ use Rattle.proof_check.proofs.BoundLines.{lines_all, lines_are, lines_ascend, li
 use Rattle.proof_check.proofs.Pigeons.{pigeons}
 use Rattle.proof_check.proofs.PlacedSolutions.{below_same, from_nodes, in_nodes}
 use Rattle.proof_check.proofs.Subtrees.{below_self}
+use Rattle.proof_check.proofs.Firsts.{later}
 
 -- ---- a line
 
@@ -66,18 +67,12 @@ module _ {K : Type 0} (t : Problem K) (c : Certificate) (limit : Option ℕ) whe
     none_before : (g : Flaw) → IsEarlier g (no_solution n) → Holds t c limit g → ⊥
     none_before (no_solution i) (inl l) h = absurd (omega (arith, l))
     none_before (no_solution i) (inr l) h = let s = solved i l.1 in h.1 s.0 s.1 s.2
-    none_before (bound_twice i) (inl l) h = absurd (omega (arith, l))
-    none_before (bound_twice i) (inr l) h = let e = l.0 in absurd (omega (arith, e))
-    none_before (weak v) (inl l) h = absurd (omega (arith, l))
-    none_before (weak v) (inr l) h = let e = l.0 in absurd (omega (arith, e))
-    none_before (no_answer i) (inl l) h = absurd (omega (arith, l))
-    none_before (no_answer i) (inr l) h = let e = l.0 in absurd (omega (arith, e))
-    none_before (not_in_order i) (inl l) h = absurd (omega (arith, l))
-    none_before (not_in_order i) (inr l) h = let e = l.0 in absurd (omega (arith, e))
-    none_before wrong_count (inl l) h = absurd (omega (arith, l))
-    none_before wrong_count (inr l) h = let e = l.0 in absurd (omega (arith, e))
-    none_before missed (inl l) h = absurd (omega (arith, l))
-    none_before missed (inr l) h = let e = l.0 in absurd (omega (arith, e))
+    none_before (bound_twice i) e h = later 1 0 (omega arith) e
+    none_before (weak v) e h = later 2 0 (omega arith) e
+    none_before (no_answer i) e h = later 3 0 (omega arith) e
+    none_before (not_in_order i) e h = later 4 0 (omega arith) e
+    none_before wrong_count e h = later 5 0 (omega arith) e
+    none_before missed e h = later 6 0 (omega arith) e
 
     pub first_bad : Holds t c limit (no_solution n) → IsFirstFlaw t c limit (no_solution n)
     first_bad h = record { holds = h; first = none_before }
@@ -89,16 +84,11 @@ module _ {K : Type 0} (t : Problem K) (c : Certificate) (limit : Option ℕ) whe
       none_twice (no_solution i) e h = let s = solved i h.0 in h.1 s.0 s.1 s.2
       none_twice (bound_twice j) (inl l) h = absurd (omega (arith, l))
       none_twice (bound_twice j) (inr l) h = apart h.0 h.1 j h.2 l.1 h.3 h.4 h.5
-      none_twice (weak v) (inl l) h = absurd (omega (arith, l))
-      none_twice (weak v) (inr l) h = let e = l.0 in absurd (omega (arith, e))
-      none_twice (no_answer i) (inl l) h = absurd (omega (arith, l))
-      none_twice (no_answer i) (inr l) h = let e = l.0 in absurd (omega (arith, e))
-      none_twice (not_in_order i) (inl l) h = absurd (omega (arith, l))
-      none_twice (not_in_order i) (inr l) h = let e = l.0 in absurd (omega (arith, e))
-      none_twice wrong_count (inl l) h = absurd (omega (arith, l))
-      none_twice wrong_count (inr l) h = let e = l.0 in absurd (omega (arith, e))
-      none_twice missed (inl l) h = absurd (omega (arith, l))
-      none_twice missed (inr l) h = let e = l.0 in absurd (omega (arith, e))
+      none_twice (weak v) e h = later 2 1 (omega arith) e
+      none_twice (no_answer i) e h = later 3 1 (omega arith) e
+      none_twice (not_in_order i) e h = later 4 1 (omega arith) e
+      none_twice wrong_count e h = later 5 1 (omega arith) e
+      none_twice missed e h = later 6 1 (omega arith) e
 
       pub first_twice : Holds t c limit (bound_twice n) → IsFirstFlaw t c limit (bound_twice n)
       first_twice h = record { holds = h; first = none_twice }
@@ -246,8 +236,7 @@ module _ (query : Query) (tables : List Table) (join : JoinTree) {R : Type 0} (d
       -- lines of one group are not apart
       pub groups_apart : (v i j : ℕ) → i < j → j < k → line_node c i ≡ suc v → line_node c j ≡ suc v
           → t.IsGrouped v (bound_row t c v i) (bound_row t c v j) → ⊥
-      groups_apart v i j l h e f x =
-          g.apart v i j l h e f ((link_of i (omega (arith, l, h, few)) v e j (omega (arith, h, few)) f).1 x)
+      groups_apart v i j l h e f x = g.apart v i j l h e f ((link_of i (omega (arith, l, h, few)) v e j (omega (arith, h, few)) f).1 x)
 
       pub lines_long : (v : ℕ) → v < length raw.shapes → length (get_or groups v []) ≡ length (lines_of c v k)
       lines_long v l = ap length (g.links v l) ∙ length-map (lines_of c v k) (λ i. group_link raw v (get_or tops i 0))

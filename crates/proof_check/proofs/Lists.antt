@@ -1,41 +1,20 @@
 -- Ascending lists, place by place, and the members that a limit leaves of a list.
-use Rattle.std.proofs.Common.{◌≡◌, ◌⊎◌, ℕ, zero, suc, ◌<◌, ◌≤◌, true, false, List, [], ◌∷◌, length, get_or, take}
+use Rattle.std.proofs.Common.{◌≡◌, ◌⊎◌, ℕ, suc, ◌<◌, ◌≤◌, true, false, List, [], ◌∷◌, length, get_or, take}
 use Rattle.std.proofs.Common.{refl, sym, ap, inl, inr, arith}
 use Rattle.std.specs.List.{AllByRecursion}
 use Rattle.std.specs.Prelude.{Option, None, Some, nat_le}
 use Rattle.std.proofs.lemmas.Bool.{cases_lt}
 use Rattle.std.proofs.lemmas.Bool.Decides.{nat_tests}
 use Rattle.std.proofs.lemmas.List.{get_or-take, length-take-le, take_all}
-use Rattle.rankings.specs.Order.{BelowAll, IsAscending, IsMember}
+use Rattle.rankings.specs.Order.{IsMember}
 use Rattle.anyk_model.specs.Output.{cut}
 use Rattle.bound_query.specs.Steps.{reaches}
-
-below_at : {K : Type 0} (Below : K → K → Type 0) (x : K) (xs : List K) (i : ℕ) (d : K) → BelowAll Below x xs
-    → i < length xs
-    → Below x (get_or xs i d)
-below_at Below x [] i d h l = absurd (omega (arith, l))
-below_at Below x (y ∷ xs) zero d h l = h.0
-below_at Below x (y ∷ xs) (suc i) d h l = below_at Below x xs i d h.1 (omega (arith, l))
-
-pub ascending_at : {K : Type 0} (Below : K → K → Type 0) (xs : List K) (i j : ℕ) (d : K) → IsAscending Below xs
-    → i < j → j < length xs
-    → Below (get_or xs i d) (get_or xs j d)
-ascending_at Below [] i j d h less l = absurd (omega (arith, l))
-ascending_at Below (x ∷ xs) i zero d h less l = absurd (omega (arith, less))
-ascending_at Below (x ∷ xs) zero (suc j) d h less l = below_at Below x xs j d h.0 (omega (arith, l))
-ascending_at Below (x ∷ xs) (suc i) (suc j) d h less l = ascending_at Below xs i j d h.1 (omega (arith, less))
-    (omega (arith, l))
 
 pub place_at : {A : Type 0} (x : A) (xs : List A) (d : A) → IsMember x xs
     → (i : ℕ) × (i < length xs) × (get_or xs i d ≡ x)
 place_at x [] d m = absurd m
 place_at x (y ∷ xs) d (inl e) = (0, omega arith, sym e)
 place_at x (y ∷ xs) d (inr m) = let r = place_at x xs d m in (suc r.0, omega (arith, r.1), r.2)
-
-pub member_of : {A : Type 0} (xs : List A) (i : ℕ) (d : A) → i < length xs → IsMember (get_or xs i d) xs
-member_of [] i d l = absurd (omega (arith, l))
-member_of (x ∷ xs) zero d l = inl refl
-member_of (x ∷ xs) (suc i) d l = inr (member_of xs i d (omega (arith, l)))
 
 -- what holds at each place holds of all
 pub all_from : {A : Type 0} (P : A → Type 0) (xs : List A) (d : A) → ((i : ℕ) → i < length xs → P (get_or xs i d))

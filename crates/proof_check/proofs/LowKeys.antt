@@ -65,10 +65,9 @@ module _ {R : Type 0} (query : Query) (tables : List Table) (join : JoinTree) (d
         | inl e ↦
             let l : q < t.nodes = omega (arith, b, node) in
             let named = served_named below served q a l e in
-            let is = bounded.named_is q i named.0 (omega (arith, a)) l (row_above q e) named.1 in
             ap W (kid_yes t.none t.parent v (λ p. bound_key t c p (below p)) q e)
             ∙ ap (λ j. W (bound_key t c q j)) (sym named.2)
-            ∙ sym (bounded.ranks q named.0 l is.0)
+            ∙ sym (bounded.ranks q named.0 l (bounded.named_is q i named.0 (omega (arith, a)) l (row_above q e) named.1).0)
             ∙ sym (ap (λ o. unwrap_or (option_map (rank_of_bound tree d key q) o) (key_none d 16)) named.1)
             ∙ sym (kid_yes (key_none d 16) t.parent v (named_key d key tree t.parent v i) q e)
         | inr x ↦

@@ -57,8 +57,7 @@ module _ {R : Type 0} (d : ℕ) (key : R → KeyOf d 16) (tree : BoundedView R) 
       ∙ sym (keys.add_assoc own (sum_from (key_add d 16) (key_none d 16) f n (suc v)) (f q))
 
   pub part_child : (n q : ℕ) → q ≡ suc v + n → up q ≡ v → low_part (suc n) ≡ key_add d 16 (low_part n) (named_key q)
-  part_child n q e u =
-      part_last n q e ∙ ap (λ z. key_add d 16 (low_part n) z) (kid_yes (key_none d 16) up v named_key q u)
+  part_child n q e u = part_last n q e ∙ ap (λ z. key_add d 16 (low_part n) z) (kid_yes (key_none d 16) up v named_key q u)
 
   pub part_other : (n q : ℕ) → q ≡ suc v + n → up q ≢ v → low_part (suc n) ≡ low_part n
   part_other n q e u =
@@ -159,7 +158,6 @@ module _ {R : Type 0} (query : Query) (tables : List Table) (join : JoinTree) (d
           let p : 0 < q = omega (arith, a) in
           let named = all q a b e in
           let row' : i < raw_len tree.raw (t.parent q) = subst (λ w. i < raw_len tree.raw w) (sym e) row in
-          let is = bounded.named_is q i named.0 p l row' named.1 in
           let few' = few in
           sum_same (key_below d 16) (key_add d 16) (key_none d 16) (tuple_keys d 16) (given q) (child_part q) t.nodes 0
           (λ u x y. pick_ne q v _ _ (λ w. omega (arith, w, a)) ∙ pick_eq (t.parent q) v _ _ e)
@@ -171,7 +169,7 @@ module _ {R : Type 0} (query : Query) (tables : List Table) (join : JoinTree) (d
           ∙ sym (wide_sum (length query.order) d few
           (λ u. cond (nat_eq (is_below t.parent q u) 1) (t.key u (row_in t q (rows_of q) u)) t.none) t.nodes 0)
           ∙ ap (λ o. query_key query d (bound_key t c q (unwrap_or (option_map (bounded.line q) o) 0))) named.1
-          ∙ sym (bounded.ranks q named.0 l is.0)
+          ∙ sym (bounded.ranks q named.0 l (bounded.named_is q i named.0 p l row' named.1).0)
           ∙ sym (ap (λ o. unwrap_or (option_map (rank_of_bound tree d key q) o) (key_none d 16)) named.1)
 
       other_total : (q : ℕ) → v < q → t.parent q ≢ v → total (given q) ≡ key_none d 16
@@ -211,10 +209,9 @@ module _ {R : Type 0} (query : Query) (tables : List Table) (join : JoinTree) (d
       given_part q u a b l = elim (cases_eq q v) [
         | inl e ↦ elim (cases_eq u v) [
           | inl x ↦
-              let at : given q u ≡ raw_rank tree.raw d key v i = pick_eq q v _ _ e ∙ pick_eq u v _ _ x in
               inr (
                 (l, omega (arith, e, node), inl (e, x)),
-                subst (λ w. IsRawPart d key tree.raw w (given q u)) (sym x) (inr (i, row, at)),
+                subst (λ w. IsRawPart d key tree.raw w (given q u)) (sym x) (inr (i, row, pick_eq q v _ _ e ∙ pick_eq u v _ _ x)),
               )
           | inr x ↦ inl (pick_eq q v _ _ e ∙ pick_ne u v _ _ x)
         ]
@@ -228,11 +225,10 @@ module _ {R : Type 0} (query : Query) (tables : List Table) (join : JoinTree) (d
                 let p : 0 < q = omega (arith, less) in
                 let named = all q less (omega (arith, b)) x in
                 let row' : i < raw_len tree.raw (t.parent q) = subst (λ w. i < raw_len tree.raw w) (sym x) row in
-                let is = bounded.named_is q i named.0 p lq row' named.1 in
                 let sol : IsSolutionAt t q (rows_of q) =
                 subst (λ o. IsSolutionAt t q (bound_at t c (unwrap_or (option_map (bounded.line q) o) 0)).rows)
                 (sym named.1)
-                (bound_solution q named.0 lq is.0) in
+                (bound_solution q named.0 lq (bounded.named_is q i named.0 p lq row' named.1).0) in
                 let at : given q u ≡ query_key query d (t.key u (row_in t q (rows_of q) u)) =
                 pick_ne q v _ _ far ∙ pick_eq (t.parent q) v _ _ x ∙ pick_eq (is_below t.parent q u) 1 _ _ y in
                 inr (

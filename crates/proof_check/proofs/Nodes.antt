@@ -18,23 +18,16 @@ module _ (query : Query) (tables : List Table) (join : JoinTree) where
   pub nodes_few : t.nodes ≤ join.count
   nodes_few = omega (arith, length-take join.count join.atom)
 
-  stored_parent : (q : ℕ) → q < t.nodes → t.parent q ≡ slice_index join.parent q
+  pub stored_parent : (q : ℕ) → q < t.nodes → t.parent q ≡ slice_index join.parent q
   stored_parent q l = get_or-take join.count join.parent q 0 (omega (arith, l, nodes_few))
 
   module _ (ordered : IsTree join.count join.atom join.parent) where
     pub parents_earlier : (q : ℕ) → 0 < q → q < t.nodes → t.parent q < q
-    parents_earlier q p l =
-        omega (arith, stored_parent q l, ordered.earlier q p (omega (arith, l, nodes_few)))
+    parents_earlier q p l = omega (arith, stored_parent q l, ordered.earlier q p (omega (arith, l, nodes_few)))
 
     module _ (long : length join.atom ≡ 16) where
       pub all_nodes : t.nodes ≡ join.count
       all_nodes = length-take-le join.count join.atom (omega (arith, ordered.few, long))
-
-      pub parent_at : (q : ℕ) → q < t.nodes → t.parent q ≡ slice_index join.parent q
-      parent_at = stored_parent
-
-      pub parents_first_lem : (q : ℕ) → 0 < q → q < t.nodes → t.parent q < q
-      parents_first_lem = parents_earlier
 
 -- # What an option holds
 

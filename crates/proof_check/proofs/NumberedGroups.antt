@@ -1,12 +1,12 @@
 -- The numbers of groups by links are those of bounds.
-use Rattle.std.proofs.Common.{◌≡◌, ◌↔◌, ℕ, zero, suc, ◌+◌, ◌-◌, ◌<◌, nat_eq, List, [], length, map, get_or, Some}
+use Rattle.std.proofs.Common.{◌≡◌, ◌↔◌, ℕ, suc, ◌+◌, ◌-◌, ◌<◌, nat_eq, List, [], length, map, get_or, Some}
 use Rattle.std.proofs.Common.{Ok, position, sym, ap, subst, ◌∙◌, inl, inr, arith}
 use Rattle.std.specs.List.{range_with_len}
 use Rattle.std.specs.List.Sorted.{IsStrictlyIncreasing}
 use Rattle.std.proofs.lemmas.Bool.{cases_lt, cases_order}
 use Rattle.std.proofs.lemmas.List.{get_or-map, length-map}
 use Rattle.std.proofs.lemmas.List.FromFn.{get_or-range_with_len, length-range_with_len}
-use Rattle.std.proofs.lemmas.List.Kept.{IsStrictlyIncreasing-filter}
+use Rattle.std.proofs.lemmas.List.Kept.{AllPairs-from_increasing, IsStrictlyIncreasing-filter}
 use Rattle.anyk_model.specs.Table.{Table}
 use Rattle.anyk_model.specs.Query.{Query}
 use Rattle.join_tree.specs.declared.tree.JoinTree.{JoinTree}
@@ -24,22 +24,10 @@ use Rattle.proof_check.proofs.LineFaults.{group_iff, groups_apart, line_place, l
 use Rattle.proof_check.proofs.Pushed.{found_there, there_found}
 use Rattle.proof_check.proofs.PlacedSolutions.{from_nodes}
 
--- numbers that rise one after another rise
-rise_far : (xs : List ℕ) → IsStrictlyIncreasing xs → (i g : ℕ) → i + suc g < length xs
-    → get_or xs i 0 < get_or xs (i + suc g) 0
-rise_far xs up i zero l = up i (omega (arith, l))
-rise_far xs up i (suc g) l =
-    let more : i + suc g + 1 ≡ i + suc (suc g) = omega arith in
-    let before = rise_far xs up i g (omega (arith, l)) in
-    let step = up (i + suc g) (omega (arith, l)) in
-    subst (λ j. get_or xs i 0 < get_or xs j 0) more (omega (arith, before, step))
-
 range_rises : (n : ℕ) → IsStrictlyIncreasing (range_with_len 0 n)
 range_rises n k l =
     let size = length-range_with_len 0 n in
-    let here = get_or-range_with_len 0 n k 0 (omega (arith, l, size)) in
-    let next = get_or-range_with_len 0 n (k + 1) 0 (omega (arith, l, size)) in
-    omega (arith, here, next)
+    omega (arith, get_or-range_with_len 0 n k 0 (omega (arith, l, size)), get_or-range_with_len 0 n (k + 1) 0 (omega (arith, l, size)))
 
 module _ (query : Query) (tables : List Table) (join : JoinTree) {R : Type 0} (d : ℕ) (key : R → KeyOf d 16) (tree : BoundedView R)
     (shaped : AreShapes tree.raw.shapes) (c : Certificate) (has : HasProblemRows query tables join d key tree.raw)
@@ -80,19 +68,13 @@ module _ (query : Query) (tables : List Table) (join : JoinTree) {R : Type 0} (d
       → line v a ≡ line v b → a ≡ b
   one_number_lem v a b l ha hb e =
       let long = ranks_long v l in
-      let up : IsStrictlyIncreasing (lines_of c v n) = IsStrictlyIncreasing-filter _ (range_with_len 0 n) (range_rises n) in
+      let up = AllPairs-from_increasing (lines_of c v n) (IsStrictlyIncreasing-filter _ (range_with_len 0 n) (range_rises n)) in
       elim (cases_order a b) [
         | inl same ↦ same
         | inr (inl less) ↦
-            let at : a + suc (b - suc a) ≡ b = omega (arith, less) in
-            let far = rise_far (lines_of c v n) up a (b - suc a) (omega (arith, at, hb, long)) in
-            let apart : line v a < line v b = subst (λ j. get_or (lines_of c v n) a 0 < get_or (lines_of c v n) j 0) at far in
-            absurd (omega (arith, apart, e))
+            absurd (omega (arith, up a b 0 less (omega (arith, hb, long)), e))
         | inr (inr more) ↦
-            let at : b + suc (a - suc b) ≡ a = omega (arith, more) in
-            let far = rise_far (lines_of c v n) up b (a - suc b) (omega (arith, at, ha, long)) in
-            let apart : line v b < line v a = subst (λ j. get_or (lines_of c v n) b 0 < get_or (lines_of c v n) j 0) at far in
-            absurd (omega (arith, apart, e))
+            absurd (omega (arith, up b a 0 more (omega (arith, ha, long)), e))
       ]
 
   placed_line : (v b : ℕ) → v < length raw.shapes → b < length (links v)
@@ -107,8 +89,7 @@ module _ (query : Query) (tables : List Table) (join : JoinTree) {R : Type 0} (d
 
   in_group : (v i j : ℕ) → v < length raw.shapes → i < raw_len raw v → j < raw_len raw v
       → (group_link raw v i ≡ group_link raw v j) ↔ t.IsGrouped v (raw_number raw v i) (raw_number raw v j)
-  in_group v i j l h k =
-      group_iff query tables join d key raw shaped has c n tops (map (λ b. b.ranks.items) tree.bounds) p v i j l h k
+  in_group v i j l h k = group_iff query tables join d key raw shaped has c n tops (map (λ b. b.ranks.items) tree.bounds) p v i j l h k
 
   -- lines of one node with one link are one line
   one_line : (v i j : ℕ) → i < n → j < n → line_node c i ≡ suc v → line_node c j ≡ suc v
@@ -127,10 +108,8 @@ module _ (query : Query) (tables : List Table) (join : JoinTree) {R : Type 0} (d
       × (group_link raw v (get_or tops (line v b) 0) ≡ link)
   found_line v link b l e =
       let at = found_there link (links v) b e in
-      let low = at.0 in
-      let long = links_long v l in
       let of_line = placed_line v b l at.0 in
-      (omega (arith, low, long), of_line.0, of_line.1, sym of_line.2 ∙ at.1)
+      (omega (arith, at.0, links_long v l), of_line.0, of_line.1, sym of_line.2 ∙ at.1)
 
   line_found : (v link j : ℕ) → v < length raw.shapes → j < n → line_node c j ≡ suc v
       → group_link raw v (get_or tops j 0) ≡ link → (b : ℕ) × (position (nat_eq link) (links v) ≡ Some b) × (line v b ≡ j)
@@ -144,16 +123,14 @@ module _ (query : Query) (tables : List Table) (join : JoinTree) {R : Type 0} (d
       → (b < length (bound_ranks tree v)) × StandsFor t c v (raw_number raw v i) (line v b)
   stands v i b l h e =
       let f = found_line v (group_link raw v i) b l (sym ((named v l).own_numbers i h) ∙ e) in
-      let row = p.within v (line v b) f.1 f.2 in
-      let grouped = (in_group v i (get_or tops (line v b) 0) l h row).0 (sym f.3) in
+      let grouped = (in_group v i (get_or tops (line v b) 0) l h (p.within v (line v b) f.1 f.2)).0 (sym f.3) in
       (f.0, ((f.1, f.2), subst (λ r. t.IsGrouped v (raw_number raw v i) r) (p.numbers v (line v b) f.1 f.2) grouped))
 
   stands_every : (v i j : ℕ) → v < length raw.shapes → i < raw_len raw v → StandsFor t c v (raw_number raw v i) j
       → (b : ℕ) × (own_bound tree v i ≡ Some b) × (line v b ≡ j)
   stands_every v i j l h s =
       let of_node = s.0 in
-      let row = p.within v j of_node.0 of_node.1 in
-      let link = (in_group v i (get_or tops j 0) l h row).1
+      let link = (in_group v i (get_or tops j 0) l h (p.within v j of_node.0 of_node.1)).1
       (subst (λ r. t.IsGrouped v (raw_number raw v i) r) (sym (p.numbers v j of_node.0 of_node.1)) s.1) in
       let f = line_found v (group_link raw v i) j l of_node.0 of_node.1 (sym link) in
       (f.0, (named v l).own_numbers i h ∙ f.1, f.2)
@@ -187,8 +164,7 @@ module _ (query : Query) (tables : List Table) (join : JoinTree) {R : Type 0} (d
     serves_every r j h s =
         let l = inside q node in
         let of_node = s.0 in
-        let row = p.within q j of_node.0 of_node.1 in
-        let link = (fits_iff r (get_or tops j 0) h row).1
+        let link = (fits_iff r (get_or tops j 0) h (p.within q j of_node.0 of_node.1)).1
         (subst (λ x. t.Fits q (raw_number raw (t.parent q) r) x) (sym (p.numbers q j of_node.0 of_node.1)) s.1) in
         let f = line_found q (named_link raw q r) j l of_node.0 of_node.1 (link_own raw q (get_or tops j 0) some ∙ link) in
         (f.0, (named q l).named_numbers some r (long_above r h) ∙ f.1, f.2)
@@ -201,8 +177,7 @@ module _ (query : Query) (tables : List Table) (join : JoinTree) {R : Type 0} (d
     each_node = each ∙ has.nodes;
     line = line;
     is_bound = λ v b l h.
-        let long = ranks_long v (inside v l) in
-        lines_are c v n b (omega (arith, h, long));
+        lines_are c v n b (omega (arith, h, ranks_long v (inside v l)));
     ranks = λ v b l h.
         let long = ranks_long v (inside v l) in
         ap (λ xs. get_or xs b (key_none d 16)) (p.keys v (inside v l))

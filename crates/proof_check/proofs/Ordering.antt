@@ -64,12 +64,11 @@ module _ (query : Query) (tables : List Table) (join : JoinTree) (d : ℕ) (c : 
             → t.Below (answer_key t c i) (answer_key t c n)
         by None none test = absurd (omega (arith, e, none))
         by (Some old) some test =
-            let less : key_less d 16 old k ≡ true = sym (test.1 old refl) ∙ yes' in
             let wide : key_less d 16 (query_key query d (answer_key t c i)) (query_key query d (answer_key t c n))
             ≡ true =
             subst (λ z. key_less d 16 z (query_key query d (answer_key t c n)) ≡ true)
             (some.1 ∙ ap (λ m. query_key query d (answer_key t c m)) (let w : n - 1 ≡ i = omega (arith, e) in w))
-            (subst (λ z. key_less d 16 old z ≡ true) here less) in
+            (subst (λ z. key_less d 16 old z ≡ true) here (sym (test.1 old refl) ∙ yes')) in
             (wide_below (length query.order) d 16 few (answer_key t c i) (answer_key t c n)).0
             (key_less_below d 16 _ _ wide)
 

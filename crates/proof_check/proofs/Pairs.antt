@@ -3,7 +3,7 @@ use Rattle.std.proofs.Common.{◌≡◌, ℕ, zero, suc, Bool, true, false, not,
 use Rattle.std.proofs.Common.{if◌then◌else◌, List, [], ◌∷◌, ◌++◌, slice_get, Some, refl, sym, ap, ◌∙◌}
 use Rattle.std.proofs.Common.{arith, eqb-true, eq-eqb}
 use Rattle.std.specs.List.{list_any}
-use Rattle.std.proofs.lemmas.Bool.{false≢true, and_parts}
+use Rattle.std.proofs.lemmas.Bool.{false≢true, and_parts, or_right}
 use Rattle.std.proofs.lemmas.Option.{get_or_from_slice_get, slice_get_within}
 use Rattle.indexmap.specs.IndexSet.{insert_key}
 use Rattle.proof_check.specs.Levels.{IsPairAt}
@@ -18,13 +18,10 @@ same a b = nat_eq a.0 b.0 && nat_eq a.1 b.1
 same_is : (a b : Pair) → same a b ≡ true → a ≡ b
 same_is a b e =
     let h = and_parts (nat_eq a.0 b.0) (nat_eq a.1 b.1) e in
-    let x : a.0 ≡ b.0 = eqb-true a.0 b.0 h.0 in
-    let y : a.1 ≡ b.1 = eqb-true a.1 b.1 h.1 in
-    λ i. (x i, y i)
+    λ i. ((eqb-true a.0 b.0 h.0) i, (eqb-true a.1 b.1 h.1) i)
 
 is_same : (a b : Pair) → a ≡ b → same a b ≡ true
-is_same a b e =
-    (λ i. eq-eqb a.0 b.0 (ap (λ (p : Pair). p.0) e) i && nat_eq a.1 b.1) ∙ eq-eqb a.1 b.1 (ap (λ (p : Pair). p.1) e)
+is_same a b e = (λ i. eq-eqb a.0 b.0 (ap (λ (p : Pair). p.0) e) i && nat_eq a.1 b.1) ∙ eq-eqb a.1 b.1 (ap (λ (p : Pair). p.1) e)
 
 pub found_at : (xs : List Pair) (x : Pair) → list_any (same x) xs ≡ true → (k : ℕ) × IsPairAt xs k x
 found_at [] x e = absurd (false≢true e)
@@ -35,15 +32,10 @@ found_at (y ∷ ys) x e = by (same x y) refl e (λ h. found_at ys x h)
     by true s _ later = (0, (omega arith, sym (same_is x y s)))
     by false s h later = let r = later h in (suc r.0, (let l = r.1.0 in omega (arith, l), r.1.1))
 
-or_true : (b c : Bool) → c ≡ true → (b || c) ≡ true
-or_true true c e = refl
-or_true false c e = e
-
 pub at_found : (xs : List Pair) (x : Pair) (k : ℕ) → IsPairAt xs k x → list_any (same x) xs ≡ true
 at_found [] x k h = absurd (let l = h.0 in omega (arith, l))
 at_found (y ∷ ys) x zero h = ap (λ b. b || list_any (same x) ys) (is_same x y (sym h.1))
-at_found (y ∷ ys) x (suc k) h =
-    or_true (same x y) (list_any (same x) ys) (at_found ys x k (let l = h.0 in omega (arith, l), h.1))
+at_found (y ∷ ys) x (suc k) h = or_right (same x y) (list_any (same x) ys) (at_found ys x k (let l = h.0 in omega (arith, l), h.1))
 
 -- what inserting a pair gives
 module _ (old : List Pair) (x : Pair) (new : List Pair) (keys : new ≡ insert_key same old x) where

@@ -10,7 +10,7 @@ use Rattle.proof_model.proofs.Choices.{pick_gt, pick_le}
 use Rattle.proof_model.specs.QueryProblem.{problem_in}
 use Rattle.proof_check.specs.BoundedRows.{BoundedView, bound_ranks, named_bound, rank_of_bound}
 use Rattle.proof_check.specs.LowBounds.{IsBoundedTree}
-use Rattle.proof_check.proofs.Nodes.{all_nodes, parent_at}
+use Rattle.proof_check.proofs.Nodes.{all_nodes, stored_parent}
 use Rattle.proof_check.specs.Levels.{base_part}
 
 module _ {R : Type 0} (join : JoinTree) (tree : BoundedView R) (d : ℕ) (key : R → KeyOf d 16) (p : ℕ) (start : List ℕ)
@@ -43,9 +43,7 @@ pub named_row : {R : Type 0} (join : JoinTree) (tree : BoundedView R) (d : ℕ) 
     × ((b : ℕ) → named_bound tree q r ≡ Some b → b < length (bound_ranks tree q))
 named_row join tree d key known ordered long q node some r row =
     let t = problem_in known.query known.tables join in
-    let nodes = all_nodes known.query known.tables join ordered long in
-    let l : q < t.nodes = omega (arith, nodes, node) in
-    let up = parent_at known.query known.tables join ordered long q l in
+    let l : q < t.nodes = omega (arith, all_nodes known.query known.tables join ordered long, node) in
+    let up = stored_parent known.query known.tables join q l in
     let above : r < raw_len tree.raw (t.parent q) = subst (λ u. r < raw_len tree.raw u) (sym up) row in
-    let size = known.bounded.named_length q some l in
-    (omega (arith, size, above), λ b named. (known.bounded.named_is q r b some l above named).0)
+    (omega (arith, known.bounded.named_length q some l, above), λ b named. (known.bounded.named_is q r b some l above named).0)

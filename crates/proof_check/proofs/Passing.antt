@@ -67,8 +67,7 @@ module _ {R : Type 0} (query : Query) (tables : List Table) (join : JoinTree) (d
   pub all_passed : (last : Option (KeyOf d 16)) → IsLimit last
       → ((p : ℕ) → p < join.count → IsPassedAt join tree d key places last p) → ArePassed query tables join c
   all_passed last limit each o =
-      let nodes = all_nodes query tables join ordered long in
-      let at = each o.at (let l = o.node in omega (arith, nodes, l)) in
+      let at = each o.at (let l = o.node in omega (arith, all_nodes query tables join ordered long, l)) in
       past_passed last limit o
       (subst (IsPast d last)
       (choice_value query tables join d key c tree few bounded ordered long places placed o.at o.node at.numbers at.starts
@@ -79,8 +78,7 @@ module _ {R : Type 0} (query : Query) (tables : List Table) (join : JoinTree) (d
   pub is_missed : (last : Option (KeyOf d 16)) → IsLimit last → IsMissedAt join tree d key places last
       → IsMissed query tables join c
   is_missed last limit m =
-      let nodes = all_nodes query tables join ordered long in
-      let node : m.at < t.nodes = let l = m.node in omega (arith, nodes, l) in (
+      let node : m.at < t.nodes = let l = m.node in omega (arith, all_nodes query tables join ordered long, l) in (
         way-choice query tables join d key c tree few bounded ordered long places placed m.at node m.numbers m.starts
             m.pairs m.beginnings m.number m.row m.rank m.way,
         λ passed. m.early (subst (IsPast d last)

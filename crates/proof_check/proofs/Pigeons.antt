@@ -62,10 +62,8 @@ pigeons (suc n) (suc k) f low apart = elim (find (suc k) n f) [
       let at : ℕ = h.0 in
       let less = pigeons n k (λ j. f (skip at j))
       (λ j l.
-      let here = low (skip at j) (skip_within at j k l) in
-      let other = apart (skip at j) at (skip_within at j k l) h.1 (skip_other at j) in
-      let differ : f (skip at j) ≢ n = λ e. other (e ∙ sym h.2) in
-      omega (arith, here, differ))
+      let differ : f (skip at j) ≢ n = λ e. (apart (skip at j) at (skip_within at j k l) h.1 (skip_other at j)) (e ∙ sym h.2) in
+      omega (arith, low (skip at j) (skip_within at j k l), differ))
       (λ a b l m e. apart (skip at a) (skip at b) (skip_within at a k l) (skip_within at b k m) (skip_apart at a b e)) in
       omega (arith, less)
   | inr h ↦

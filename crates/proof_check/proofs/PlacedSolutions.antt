@@ -42,8 +42,7 @@ module _ (query : Query) (tables : List Table) (join : JoinTree) {R : Type 0} (d
   from_nodes q l = let n = has.nodes in omega (arith, n)
 
   pub below_same : (v q : ℕ) → q < m → raw_below raw v q ≡ is_below t.parent v q
-  below_same v q l =
-      ascends_same m (shape_parent raw.shapes) t.parent (parent_low raw shaped) (λ u h. has.parents u (in_nodes u h)) q v q l
+  below_same v q l = ascends_same m (shape_parent raw.shapes) t.parent (parent_low raw shaped) (λ u h. has.parents u (in_nodes u h)) q v q l
 
   pub place_same : (v q : ℕ) → q < m → raw_place raw v q ≡ place_in t v q
   place_same v q l =
@@ -117,8 +116,7 @@ module _ (query : Query) (tables : List Table) (join : JoinTree) {R : Type 0} (d
     solved : (q : ℕ) → v < q → q < m → 0 < raw_below raw v q → t.Fits q (row_in t v rows (t.parent q)) (row_in t v rows q)
     solved q far l some =
         let same = has.parents q (in_nodes q l) in
-        let low = parent_low raw shaped q l in
-        let lower : t.parent q < m = omega (arith, same, low) in
+        let lower : t.parent q < m = omega (arith, same, parent_low raw shaped q l) in
         let up : 0 < raw_below raw v (t.parent q) =
         subst (λ k. 0 < raw_below raw v k) same (below_up raw shaped v q far l some) in
         let link : own_link raw q (get_or places q 0)

@@ -6,31 +6,24 @@ use Rattle.proof_check.specs.BoundedRows.{BoundedView, bound_ranks}
 use Rattle.proof_check.specs.RowPlaces.{place_at}
 use Rattle.proof_check.proofs.Nodes.{all_nodes}
 use Rattle.proof_check.specs.Levels.{ArePrefixes, BeginAlike, IsReady, list_at, own_bounds}
-use Rattle.proof_check.proofs.Grouping.{one_of_all}
+use Rattle.tdp_core.proofs.RawReads.{length_within}
 use Rattle.proof_check.proofs.Walking.{own_size}
 
 module _ {R : Type 0} (join : JoinTree) (tree : BoundedView R) (d : ℕ) (key : R → KeyOf d 16)
     (p : ℕ) (ready : IsReady join tree d key p) where
   pub node_bounds : p < length tree.bounds
   node_bounds =
-      let node = ready.node in
-      let nodes = all_nodes ready.bounded.query ready.bounded.tables join ready.ordered ready.long in
       let each = ready.bounded.bounded.each_node in
-      omega (arith, nodes, each, node)
+      omega (arith, all_nodes ready.bounded.query ready.bounded.tables join ready.ordered ready.long, each, ready.node)
 
   pub few_rows_lem : length (own_bounds tree p) ≤ 4194304
-  few_rows_lem =
-      let size = own_size join tree d key p ready in
-      let few = ready.formed.few_rows in
-      omega (arith, size, few, one_of_all tree.raw.rows p)
+  few_rows_lem = omega (arith, own_size join tree d key p ready, ready.formed.few_rows, length_within tree.raw.rows p)
 
   pub own_within : (i b : ℕ) → i < length (own_bounds tree p) → slice_index_or (own_bounds tree p) i None ≡ Some b
       → b < length (bound_ranks tree p)
   own_within i b l e =
-      let node = ready.node in
       let nodes = all_nodes ready.bounded.query ready.bounded.tables join ready.ordered ready.long in
-      let size = own_size join tree d key p ready in
-      (ready.bounded.bounded.own_is p i b (omega (arith, nodes, node)) (omega (arith, size, l)) e).0
+      (ready.bounded.bounded.own_is p i b (omega (arith, nodes, ready.node)) (omega (arith, own_size join tree d key p ready, l)) e).0
 
 -- the rows of a beginning are rows of their nodes
 pub start_rows : (len : ℕ → ℕ) (count p : ℕ) (places : List (List ℕ)) (numbers : List ℕ) (starts : List (List ℕ)) → p < count

@@ -39,10 +39,7 @@ module _ (bound : BoundQuery) (tables : List Table) (join : JoinTree) (stored : 
   -- ---- the shape of the query
 
   pub too_many : PassesBudget bound tables join 4194304 → IsShape bound.query tables (Err too_many_rows)
-  too_many past =
-      let sum = sum_of_lengths past.rows in
-      let p = past.past in
-      flaw_if_many bound tables join stored count past.rows past.of_nodes (omega (arith, sum, p))
+  too_many past = flaw_if_many bound tables join stored count past.rows past.of_nodes (omega (arith, sum_of_lengths past.rows, past.past))
 
   module _ {R : Type 0} (d : ℕ) (key : R → KeyOf d 16) (raw : RawView R) (built : IsBuilt bound tables d key join raw) where
     pub shape_known : length raw.rows ≡ length raw.shapes → row_total raw ≤ 4194304
@@ -69,9 +66,7 @@ module _ (bound : BoundQuery) (tables : List Table) (join : JoinTree) (stored : 
           → (i : ℕ) × (i < raw_len raw v) × (raw_number raw v i ≡ row)
       row_of v row l h =
           let m = member_get (map (λ x. x.row.row) (rows_at raw v)) row 0 (((built.rows v l).members row).1 h) in
-          let at = m.1 in
-          let n = long v in
-          (m.0, omega (arith, at, n), m.2)
+          (m.0, omega (arith, m.1, long v), m.2)
 
       rank_of : (v i : ℕ) → v < join.count → i < raw_len raw v
           → row_key d (row_parts bound tables (item_of join v) (raw_number raw v i)) (item_of join v) (raw_number raw v i)
@@ -89,21 +84,18 @@ module _ (bound : BoundQuery) (tables : List Table) (join : JoinTree) (stored : 
           (raw_number raw (parent_of join q) r))
       link_iff q r i p l u h k =
           let here = passing q i l k in
-          let there = passing (parent_of join q) r u h in
           let link = built.links q i r p l k h in
           let match = match_iff bound.query tables bound.variables fits.variables (item_of join q) (item_of join (parent_of join q)) (raw_number raw q i)
-          (raw_number raw (parent_of join q) r) here.2 there.2 in
+          (raw_number raw (parent_of join q) r) here.2 (passing (parent_of join q) r u h).2 in
           (λ e. (here, match.1 (link.0 e)), λ m. link.1 (match.0 m.1))
 
       group_iff : (q i j : ℕ) → 0 < q → q < join.count → i < raw_len raw q → j < raw_len raw q
           → (own_link raw q i ≡ own_link raw q j)
           ↔ RowsEqual bound.query tables (item_of join q) (item_of join (parent_of join q)) (raw_number raw q i) (raw_number raw q j)
       group_iff q i j p l h k =
-          let here = passing q i l h in
-          let there = passing q j l k in
           let link = built.own_links q i j p l h k in
           let equal = equal_iff bound.query tables bound.variables fits.variables (item_of join q) (item_of join (parent_of join q)) (raw_number raw q i)
-          (raw_number raw q j) here.2 there.2 in
+          (raw_number raw q j) (passing q i l h).2 (passing q j l k).2 in
           (λ e. equal.1 (link.0 e), λ m. link.1 (equal.0 m))
 
       inside : (v : ℕ) → v < t.nodes → v < join.count
@@ -111,11 +103,8 @@ module _ (bound : BoundQuery) (tables : List Table) (join : JoinTree) (stored : 
 
       upper : (q : ℕ) → 0 < q → q < join.count → parent_of join q < join.count
       upper q p l =
-          let e = parent_is q l in
-          let n = in_all in
           let long : length (take join.count join.parent) ≡ t.nodes = stored.join_tree.has_parents ∙ sym stored.join_tree.nodes in
-          let less : t.parent q < q = stored.join_tree.first.earlier q p (omega (arith, l, n, long)) in
-          omega (arith, e, less, l)
+          omega (arith, parent_is q l, stored.join_tree.first.earlier q p (omega (arith, l, in_all, long)), l)
 
       -- what holds of a node's item, its parent and the parent's item
       move : (q : ℕ) → 0 < q → q < join.count → (P : ℕ → ℕ → ℕ → Type 0)

@@ -35,8 +35,7 @@ unfolding ranges.sum_of
 fewer_terms g zero k q = omega arith
 fewer_terms g (suc n) k q =
     let e : suc n + k ≡ suc (n + k) = omega arith in
-    let whole = ap (λ i. ranges.sum_of g i q) e in
-    omega (arith, whole, fewer_terms g n k (suc q))
+    omega (arith, ap (λ i. ranges.sum_of g i q) e, fewer_terms g n k (suc q))
 
 module _ {R : Type 0} (d : ℕ) (key : R → KeyOf d 16) where
   abbrev weight : ℕ → KeyOf d 16 → ℕ
@@ -182,9 +181,8 @@ module _ (query : Query) (tables : List Table) (join : JoinTree) {R : Type 0} (d
   picked : (q : ℕ) → q < length raw.shapes → (b : Bool) → nat_eq (is_below p.parent v q) 1 ≡ b
       → cond b (raw_rank raw d key q (get_or places q 0)) (key_none d 16) ≡ cond b (query_key query d (p.key q (row_in p v rows q))) (key_none d 16)
   picked q l true e =
-      let one : is_below p.parent v q ≡ 1 = (Decides-eqb (is_below p.parent v q) 1).0 e in
       let inside = in_nodes query tables join d key raw shaped has q l in
-      let some : 0 < is_below p.parent v q = omega (arith, one) in
+      let some : 0 < is_below p.parent v q = omega (arith, (Decides-eqb (is_below p.parent v q) 1).0 e) in
       has.keys q (get_or places q 0) inside (placed.within q inside some)
       ∙ ap (λ r. query_key query d (p.key q r)) (placed.numbers q inside some)
   picked q l false e = refl

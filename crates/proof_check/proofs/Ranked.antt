@@ -49,12 +49,10 @@ module _ (query : Query) (tables : List Table) (few : length query.items ≤ 16)
   keys_tell_lists [] (y ∷ ys) p q e = let n = ap length e in absurd (omega (arith, n))
   keys_tell_lists (x ∷ xs) [] p q e = let n = ap length e in absurd (omega (arith, n))
   keys_tell_lists (x ∷ xs) (y ∷ ys) p q e =
-      let head : key x ≡ key y = ap (λ ks. get_or ks 0 (key x)) e in
       let same = keys_tell_witnesses_lem (length query.order) query tables x y few
       (witness_length query tables x (p x (inl refl)))
-      (witness_length query tables y (q y (inl refl))) head in
-      let rest = keys_tell_lists xs ys (λ z m. p z (inr m)) (λ z m. q z (inr m)) (ap (λ ks. rest_of ks) e) in
-      λ i. same i ∷ rest i
+      (witness_length query tables y (q y (inl refl))) (ap (λ ks. get_or ks 0 (key x)) e) in
+      λ i. same i ∷ (keys_tell_lists xs ys (λ z m. p z (inr m)) (λ z m. q z (inr m)) (ap (λ ks. rest_of ks) e)) i
     where
       rest_of : {A : Type 0} → List A → List A
       rest_of [] = []
@@ -76,8 +74,7 @@ module _ (query : Query) (tables : List Table) (atoms parents : List ℕ) (withi
       × ((x : List ℕ) → IsMember x (map (λ (a : AnswerLine). a.rows) xs) → IsWitness query tables x)
   answers_solve [] h = (refl, λ x m. absurd m)
   answers_solve (a ∷ xs) h =
-      let first = h 0 (omega arith) in
-      let witness = solution_witness query tables atoms parents within hung a.rows first in
+      let witness = solution_witness query tables atoms parents within hung a.rows (h 0 (omega arith)) in
       let same = rows_key query tables atoms parents within hung a.rows
       (rows_count query tables atoms parents within hung a.rows witness) in
       let rest = answers_solve xs (λ i l. h (suc i) (omega (arith, l))) in (

@@ -14,28 +14,24 @@ use Rattle.proof_model.specs.Laws.{IsProblem}
 use Rattle.proof_model.specs.QueryProblem.{problem_in}
 use Rattle.proof_model.proofs.QueryLaws.{query_problem}
 use Rattle.proof_model.proofs.Soundness.{all_below}
-use Rattle.proof_check.proofs.Nodes.{all_nodes, parents_first_lem}
+use Rattle.proof_check.proofs.Nodes.{all_nodes, parents_earlier}
 use Rattle.proof_check.specs.RowLists.{list_at}
 
 sum_ones : (f : ℕ → ℕ) (n q : ℕ) → ((i : ℕ) → q ≤ i → i < q + n → f i ≡ 1) → sum_from ◌+◌ 0 f n q ≡ n
 unfolding sum_from
 sum_ones f zero q e = refl
-sum_ones f (suc n) q e =
-    let here = e q (omega arith) (omega arith) in
-    let later = sum_ones f n (suc q) (λ i l h. e i (omega arith) (omega arith)) in
-    omega (arith, here, later)
+sum_ones f (suc n) q e = omega (arith, e q (omega arith) (omega arith), sum_ones f n (suc q) (λ i l h. e i (omega arith) (omega arith)))
 
 -- a solution of the whole tree has a row for each node
 pub root_size : {K : Type 0} (t : Problem K) (laws : IsProblem t) → size t 0 ≡ t.nodes
-root_size t laws =
-    sum_ones _ t.nodes 0 (λ i _ l. let h : i < t.nodes = omega (arith, l) in all_below t laws i i (omega arith) h)
+root_size t laws = sum_ones _ t.nodes 0 (λ i _ l. let h : i < t.nodes = omega (arith, l) in all_below t laws i i (omega arith) h)
 
 pub tree_size : (query : Query) (tables : List Table) (join : JoinTree) → IsTree join.count join.atom join.parent
     → length join.atom ≡ 16 → 0 < join.count → size (problem_in query tables join) 0 ≡ join.count
 tree_size query tables join ordered long some =
     let nodes = all_nodes query tables join ordered long in
     root_size (problem_in query tables join)
-    (query_problem query tables _ _ (omega (arith, nodes, some)) (λ q p l. parents_first_lem query tables join ordered long q p l))
+    (query_problem query tables _ _ (omega (arith, nodes, some)) (λ q p l. parents_earlier query tables join ordered q p l))
     ∙ nodes
 
 -- the rows of an answer

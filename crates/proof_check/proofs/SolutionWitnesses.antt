@@ -51,12 +51,11 @@ module _ (query : Query) (tables : List Table) (atoms parents : List ℕ) (withi
   -- the rows of the whole tree stand at the numbers of their items
   pub root_place : (q : ℕ) → q < length atoms → place_in t 0 q ≡ slice_index atoms q
   root_place q l =
-      let w = item_within query tables atoms parents hung q l in
       place_same (length atoms) (is_below t.parent 0) item (length query.items)
       (λ u h. let e = root_below u h in omega (arith, e))
       (item_within query tables atoms parents hung) hung.join_tree.distinct (length query.items)
       (λ x h. let at = node_of query tables atoms parents hung x h in (at.0, at.1, root_below at.0 at.1, at.2))
-      (item q) (omega (arith, w))
+      (item q) (omega (arith, item_within query tables atoms parents hung q l))
 
   pub root_size : size t 0 ≡ length query.items
   root_size = sum_ones (is_below t.parent 0) (length atoms) 0 (λ i a b. root_below i (omega (arith, b))) ∙ nodes
@@ -76,10 +75,9 @@ module _ (query : Query) (tables : List Table) (atoms parents : List ℕ) (withi
     link_fits : (k : ℕ) → 0 < k → k < length atoms → t.Fits k (here (up k)) (here k)
     link_fits k above l =
         let p = parents_earlier query tables atoms parents hung k above l in
-        let one = root_below k l in
         subst (λ r. t.Fits k r (here k)) (root_row rows (up k) (omega (arith, p, l)))
         (subst (λ r. t.Fits k (row_in t 0 rows (up k)) r) (root_row rows k l)
-        (solution.others k above l (omega (arith, one))))
+        (solution.others k above l (omega (arith, root_below k l))))
 
     node_passes : (q : ℕ) → q < length atoms → IsPassing query tables (item q) (here q)
     node_passes q l = elim (cases_eq q 0) [
@@ -118,8 +116,7 @@ module _ (query : Query) (tables : List Table) (atoms parents : List ℕ) (withi
 
     fits : (k : ℕ) → 0 < k → k < length atoms → t.Fits k (slice_index rows (item (up k))) (slice_index rows (item k))
     fits k above l =
-        let h = (links_iff query tables hung.graph atoms parents hung.of_query hung.join_tree rows within).0 witness in
-        (passes k l, h.2 k above l)
+        (passes k l, ((links_iff query tables hung.graph atoms parents hung.of_query hung.join_tree rows within).0 witness).2 k above l)
 
     pub witness_solution : IsSolutionAt (problem_of query tables atoms parents) 0 rows
     witness_solution = record {

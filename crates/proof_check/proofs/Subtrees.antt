@@ -31,8 +31,7 @@ module _ {R : Type 0} (raw : RawView R) (shaped : AreShapes raw.shapes) where
     | inl p ↦ omega (arith, parents_first_lem q p l)
     | inr z ↦
         let e : q ≡ 0 = omega arith in
-        let r = ap (shape_parent raw.shapes) e in
-        omega (arith, r, shaped.root)
+        omega (arith, ap (shape_parent raw.shapes) e, shaped.root)
   ]
 
   -- ---- the flags of a subtree
@@ -57,9 +56,8 @@ module _ {R : Type 0} (raw : RawView R) (shaped : AreShapes raw.shapes) where
   below_more v child below l h long so q i j = elim (cases_eq q child) [
     | inl e ↦
         let up = parents_first_lem child (omega arith) h in
-        let few = shaped.few_nodes in
         subst (λ k. get_or (set below child (get_or below (shape_parent raw.shapes child) 0)) k 0 ≡ raw_below raw v k) (sym e)
-        (get_or-set_same below child (get_or below (shape_parent raw.shapes child) 0) 0 (omega (arith, long, few))
+        (get_or-set_same below child (get_or below (shape_parent raw.shapes child) 0) 0 (omega (arith, long, shaped.few_nodes))
         ∙ so (shape_parent raw.shapes child) up (omega (arith, up))
         ∙ sym (below_parent m (shape_parent raw.shapes) parents_first_lem v child (omega arith) h (λ e. omega arith)))
     | inr n ↦ get_or-set_other below child q (get_or below (shape_parent raw.shapes child) 0) 0 n ∙ so q (omega (arith, n)) j
@@ -79,8 +77,7 @@ module _ {R : Type 0} (raw : RawView R) (shaped : AreShapes raw.shapes) where
 
   -- the parent of another node of a subtree is in it
   pub below_up : (v q : ℕ) → v < q → q < m → 0 < raw_below raw v q → 0 < raw_below raw v (shape_parent raw.shapes q)
-  below_up v q l h some =
-      omega (arith, below_parent m (shape_parent raw.shapes) parents_first_lem v q (omega arith) h (λ e. omega arith))
+  below_up v q l h some = omega (arith, below_parent m (shape_parent raw.shapes) parents_first_lem v q (omega arith) h (λ e. omega arith))
 
   -- ---- sizes and places
 

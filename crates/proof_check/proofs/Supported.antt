@@ -116,9 +116,8 @@ module _ {K : Type 0} (t : Problem K) (laws : IsProblem t) where
   over_sum holder f zero each = over_none (λ w. holder w < 0)
   over_sum holder f (suc n) each =
       let one = over_sum holder f n (λ u l. each u (omega arith)) in
-      let two = each n (omega arith) in
       let both = over_both (λ w. holder w < n) (λ w. holder w ≡ n) (sum_from t.add t.none f n 0) (f n)
-      (λ q l a b. omega (arith, a, b)) one two in
+      (λ q l a b. omega (arith, a, b)) one (each n (omega arith)) in
       over_same (λ w. holder w < suc n) _ (sum_from t.add t.none f (suc n) 0)
       (sym (sum_last t.Below t.add t.none laws.keys f n 0 n (omega arith)))
       (over_more (λ q. (holder q < n) ⊎ (holder q ≡ n)) (λ w. holder w < suc n) _

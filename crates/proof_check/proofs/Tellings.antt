@@ -25,12 +25,10 @@ module _ (query : Query) (tables : List Table) (join : JoinTree) (c : Certificat
       → IsFirstFlaw (problem_in query tables join) c query.limit (no_answer i))
       → TellsFlaw query tables join c told
   tells_bad (inl e) first = subst (TellsFlaw query tables join c) (sym e) tt
-  tells_bad (inr h) first =
-      subst (TellsFlaw query tables join c) (sym h.1) (shape, is_shape, no_answer h.0, refl, first h.0 h.2)
+  tells_bad (inr h) first = subst (TellsFlaw query tables join c) (sym h.1) (shape, is_shape, no_answer h.0, refl, first h.0 h.2)
 
   pub tells_behind : TellsBehind (problem_in query tables join) c told
       → ((i : ℕ) → IsFirstBehind (problem_in query tables join) c i
       → IsFirstFlaw (problem_in query tables join) c query.limit (not_in_order i))
       → TellsFlaw query tables join c told
-  tells_behind h first =
-      subst (TellsFlaw query tables join c) (sym h.1) (shape, is_shape, not_in_order h.0, refl, first h.0 h.2)
+  tells_behind h first = subst (TellsFlaw query tables join c) (sym h.1) (shape, is_shape, not_in_order h.0, refl, first h.0 h.2)

@@ -21,9 +21,8 @@ module _ {R : Type 0} (join : JoinTree) (tree : BoundedView R) (d : ℕ) (key : 
     (p : ℕ) (ready : IsReady join tree d key p) where
   pub own_size : length (own_bounds tree p) ≡ raw_len tree.raw p
   own_size =
-      let node = ready.node in
       let nodes = all_nodes ready.bounded.query ready.bounded.tables join ready.ordered ready.long in
-      ready.bounded.bounded.own_length p (omega (arith, nodes, node))
+      ready.bounded.bounded.own_length p (omega (arith, nodes, ready.node))
 
   module _ (bounds : ℕ) (groups : List (List ℕ)) (are : AreGroups (own_bounds tree p) bounds groups) where
     -- the rows of a group
@@ -31,9 +30,7 @@ module _ {R : Type 0} (join : JoinTree) (tree : BoundedView R) (d : ℕ) (key : 
         → IsInGroup join tree d key p g (slice_index (list_at groups g) m)
     row_in g m l h =
         let r = are.rows g m l h in
-        let size = own_size in
-        let x = r.0 in
-        (omega (arith, size, x), r.1)
+        (omega (arith, own_size, r.0), r.1)
 
     pub row_found : (g i : ℕ) → g < bounds → IsInGroup join tree d key p g i
         → (m : ℕ) × (m < length (list_at groups g)) × (slice_index (list_at groups g) m ≡ i)
@@ -121,14 +118,12 @@ lists_more join tree d key p last groups least g lists new are here = record {
   count = let c = are.count in omega (arith, c, length-append lists (new ∷ []));
   each = λ h k l e. elim (cases_lt h g) [
     | inl less ↦
-        let c = are.count in
         subst (AreOffers join tree d key p (list_at groups h) (key k) last)
-        (sym (get_or_append_left lists (new ∷ []) [] h (omega (arith, less, c)))) (are.each h k less e)
+        (sym (get_or_append_left lists (new ∷ []) [] h (omega (arith, less, are.count)))) (are.each h k less e)
     | inr far ↦
         let at : h ≡ g = omega (arith, l, far) in
-        let c = are.count in
         subst (AreOffers join tree d key p (list_at groups h) (key k) last)
-        (sym (get_or_push lists new [] h (omega (arith, at, c))))
+        (sym (get_or_push lists new [] h (omega (arith, at, are.count))))
         (subst (λ z. AreOffers join tree d key p (list_at groups z) (key k) last new) (sym at)
         (here k (ap (λ z. slice_index_or least z None) (sym at) ∙ e)))
   ];

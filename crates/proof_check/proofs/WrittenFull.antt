@@ -28,8 +28,10 @@ use Rattle.proof_model.specs.WrittenProofs.{BoundBefore, IsFirstOfGroup, IsWritt
 use Rattle.proof_model.proofs.OneText.{firsts_same}
 use Rattle.proof_model.proofs.QueryItems.{few_items, keys_hold, node_items, tree_problem}
 use Rattle.proof_model.proofs.SolutionRows.{HasItems, list_key, list_of, list_solves, own_below}
-use Rattle.proof_check.proofs.Lists.{AreFirst, are_first, ascending_at, member_of, place_at}
+use Rattle.proof_check.proofs.Lists.{AreFirst, are_first, place_at}
 use Rattle.proof_check.proofs.SolutionWitnesses.{root_below, rows_key, solution_witness, witness_solution}
+use Rattle.tdp_model.proofs.Keys.{ascending_below}
+use Rattle.rankings.proofs.Members.{get_member}
 
 module _ (query : Query) (tables : List Table) (atoms parents : List ℕ) (within : NamesExist query tables)
     (hung : HasTree query atoms parents)
@@ -64,7 +66,7 @@ module _ (query : Query) (tables : List Table) (atoms parents : List ℕ) (withi
       (keys_hold query tables atoms parents hung) c c v
       (bound_at t c i).rows (bound_at t c j).rows (first_at v i a) (first_at v j b) g in
       let before : BoundBefore (bound_at t c i) (bound_at t c j) =
-      ascending_at BoundBefore c.bounds i j (record { line = 0; node = 0; rows = [] }) written.ordered less b.0 in
+      ascending_below BoundBefore c.bounds i j (record { line = 0; node = 0; rows = [] }) written.ordered less b.0 in
       elim before [
         | inl node ↦ let x = a.1 in let y = b.1 in omega (arith, node, x, y)
         | inr later ↦
@@ -78,13 +80,12 @@ module _ (query : Query) (tables : List Table) (atoms parents : List ℕ) (withi
       let list = list_of t laws (length query.items) items v s in
       let solution = list_solves t laws (length query.items) items v s list.0 list.1 sub in
       let found = written.each v list.0 solution in
-      let first = first_at v found.0 found.1.0 in
       let row : row_in t v list.0 v ≡ s v = list.1.row v sub.node (own_below t laws (length query.items) items v) in (
         found.0,
         subst (λ r. StandsFor t c v r found.0) row found.1,
         subst (λ k. AtMost t.Below (bound_key t c v found.0) k)
             (list_key t laws (length query.items) items v s list.0 list.1)
-            (first.least list.0 solution found.1.1),
+            ((first_at v found.0 found.1.0).least list.0 solution found.1.1),
       )
 
   -- ---- answers
@@ -108,7 +109,7 @@ module _ (query : Query) (tables : List Table) (atoms parents : List ℕ) (withi
   within_ranking i l = let f = cuts.fewer in omega (arith, f, l, as_left)
 
   witness_at : (i : ℕ) → i < length ranking → IsWitness query tables (get_or ranking i [])
-  witness_at i l = (ranking_is query tables).sound (get_or ranking i []) (member_of ranking i [] l)
+  witness_at i l = (ranking_is query tables).sound (get_or ranking i []) (get_member ranking i [] l)
 
   pub answer_solves : (i : ℕ) → i < length c.answers → IsSolutionAt t 0 (answer_at t c i).rows
   answer_solves i l =
@@ -124,7 +125,7 @@ module _ (query : Query) (tables : List Table) (atoms parents : List ℕ) (withi
       let b = get_or ranking j [] in
       let wa = witness_at i (omega (arith, less, l)) in
       let wb = witness_at j l in
-      let p : Precedes query tables a b = ascending_at (Precedes query tables) ranking i j []
+      let p : Precedes query tables a b = ascending_below (Precedes query tables) ranking i j []
       (ranking_is query tables).ascending less l in
       let q = (orders_agree (length query.order) query tables a b (omega arith)
       (few_items query tables atoms parents hung)
@@ -143,12 +144,10 @@ module _ (query : Query) (tables : List Table) (atoms parents : List ℕ) (withi
   count : IsCount t c query.limit c.ended (length c.answers)
   count = elim cuts.counted [
     | inl some ↦
-        let no : c.ended ≡ false = ended ∙ ap not some.1 in
-        subst (λ b. IsCount t c query.limit b (length c.answers)) (sym no)
+        subst (λ b. IsCount t c query.limit b (length c.answers)) (sym (ended ∙ ap not some.1))
         (some.0 ∙ ap (λ (n : ℕ). Some n) (sym as_left))
     | inr all ↦
-        let yes : c.ended ≡ true = ended ∙ ap not all.1 in
-        subst (λ b. IsCount t c query.limit b (length c.answers)) (sym yes) (by query.limit refl)
+        subst (λ b. IsCount t c query.limit b (length c.answers)) (sym (ended ∙ ap not all.1)) (by query.limit refl)
   ]
     where
       by : (limit : Option ℕ) → query.limit ≡ limit → IsCount t c limit true (length c.answers)

@@ -25,10 +25,11 @@ use Rattle.proof_model.specs.Valid.{IsValid, answer_at, bound_at}
 use Rattle.proof_model.specs.WrittenProofs.{IsWritten}
 use Rattle.proof_model.proofs.Completeness.{full_valid}
 use Rattle.proof_model.proofs.QueryItems.{as_many, few_items, node_items, tree_problem}
-use Rattle.proof_model.proofs.SolutionRows.{below_after, choose, node_at, own_below, row_inside}
+use Rattle.proof_model.proofs.SolutionRows.{below_after, node_at, own_below, row_inside}
 use Rattle.proof_model.proofs.SumsFit.{few_rows_at}
 use Rattle.proof_check.proofs.Lists.{all_from}
 use Rattle.proof_check.proofs.WrittenFull.{answer_solves, written_full}
+use Rattle.tdp_model.proofs.Chosen.{choose}
 
 -- ---- one join tree
 
@@ -39,10 +40,8 @@ module _ (query : Query) (tables : List Table) (atoms parents : List ℕ) (hung 
   -- the number of the rows of a node
   node_count : (k : ℕ) → k < length atoms → (x : ℕ) × HasNodeRows query tables (slice_index atoms k) x
   node_count k l =
-      let h = hung.join_tree.within k l in
-      let g = hung.of_query.atoms in
       let n = has.hung.of_query.atoms in
-      let at = has.hung.join_tree.each (slice_index atoms k) (omega (arith, h, g, n)) in (
+      let at = has.hung.join_tree.each (slice_index atoms k) (omega (arith, hung.join_tree.within k l, hung.of_query.atoms, n)) in (
         slice_index shape.node_rows at.0,
         subst (λ a. HasNodeRows query tables a (slice_index shape.node_rows at.0))
             at.2 (has.rows at.0 at.1),
@@ -71,8 +70,7 @@ bounds_from n (x ∷ xs) d h =
       first.2,
       bounds_from (n + 1) xs d (λ i l.
           let next = h (suc i) (omega (arith, l)) in
-          let later = next.0 in
-          (omega (arith, later), next.1, next.2)),
+          (omega (arith, next.0), next.1, next.2)),
     )
 
 answers_from : (n : ℕ) (xs : List AnswerLine) (d : AnswerLine)
@@ -86,8 +84,7 @@ answers_from n (x ∷ xs) d h =
       first.1,
       answers_from (n + 1) xs d (λ i l.
           let next = h (suc i) (omega (arith, l)) in
-          let later = next.0 in
-          (omega (arith, later), next.1)),
+          (omega (arith, next.0), next.1)),
     )
 
 module _ (query : Query) (tables : List Table) (atoms parents : List ℕ) (within : NamesExist query tables)
@@ -98,10 +95,9 @@ module _ (query : Query) (tables : List Table) (atoms parents : List ℕ) (withi
 
   passing_short : (q row : ℕ) → IsPassing query tables (slice_index atoms q) row → IsShort row
   passing_short q row h =
-      let l = h.1 in
       let f = few_rows_at tables ((get_or query.items (slice_index atoms q) (record { table = 0; alias = [] })).table)
       few in
-      omega (arith, l, f)
+      omega (arith, h.1, f)
 
   solution_rows : (v : ℕ) (rows : List ℕ) → IsSolutionAt t v rows → AreRows rows
   solution_rows v rows solution =
@@ -135,12 +131,9 @@ module _ (query : Query) (tables : List Table) (atoms parents : List ℕ) (withi
     numbered = (
       bounds_from 2 c.bounds (record { line = 0; node = 0; rows = [] }) (λ i l.
           let f = written.firsts i l in
-          let node = f.1 in
-          let inside = f.2.solution.node in
-          let n = as_many query tables atoms parents hung in
           let m = few_items query tables atoms parents hung in (
             written.bound_lines i l,
-            omega (arith, node, inside, n, m),
+            omega (arith, f.1, f.2.solution.node, as_many query tables atoms parents hung, m),
             solution_rows f.0 (bound_at t c i).rows f.2.solution,
           )),
       answers_from (2 + length c.bounds) c.answers (record { line = 0; rows = [] }) (λ i l.
@@ -161,9 +154,8 @@ module _ (query : Query) (tables : List Table) (atoms parents : List ℕ) (withi
   pub text_valid : (text : List ℕ) → IsProofText query tables text
       → (c : Certificate) × (proof_of text ≡ Ok c) × IsValid (problem_of query tables atoms parents) c query.limit
   text_valid text x =
-      let same = shape_same query tables atoms parents hung x.0 x.1.0 in
       let written : IsWritten (problem_of query tables atoms parents) x.2 (cut query.limit (ranking_of query tables)) =
       subst (λ (s : Shape). IsWritten (problem_of query tables s.atoms s.parents) x.2
-      (cut query.limit (ranking_of query tables))) same.1 x.3 in
+      (cut query.limit (ranking_of query tables))) (shape_same query tables atoms parents hung x.0 x.1.0).1 x.3 in
       let h = written_valid x.2 written x.4 in
       (x.2, ap proof_of x.5 ∙ h.0, h.1)

@@ -43,13 +43,12 @@ module _ {K : Type 0} (t : Problem K) (laws : IsProblem t) (c : Certificate) (li
   child_of : (v q u : ℕ) → u < t.nodes → q < t.nodes → v < q → t.parent q ≤ v → is_below t.parent v u ≡ 1
       → is_below t.parent q u ≡ 1 → t.parent q ≡ v
   child_of v q u l lq h low a b =
-      let at = chain u v q u (omega arith) l h a b in
       let up = below_parent t.nodes t.parent laws.parents_first v q (omega (arith, h)) lq (λ x. omega (arith, x, h)) in
       elim (cases_lt (t.parent q) v) [
         | inl less ↦
             let d = laws.parents_first q (omega (arith, h)) lq in
             let z = below_less t.nodes t.parent laws.parents_first v (t.parent q) (omega (arith, d, lq)) less in
-            absurd (omega (arith, z, at, up))
+            absurd (omega (arith, z, chain u v q u (omega arith) l h a b, up))
         | inr more ↦ omega (arith, more, low)
       ]
 
@@ -130,10 +129,9 @@ module _ {K : Type 0} (t : Problem K) (laws : IsProblem t) (c : Certificate) (li
         | inr b ↦
             let l : u < t.nodes = let x = o.node in omega (arith, h, x) in
             let d : t.parent u < u = laws.parents_first u p l in
-            let under = all_below t laws u u (omega arith) l in
             subst (λ z. t.Fits u z (o.rows u)) (b.1.1 (t.parent u) (omega (arith, n)))
             (subst (t.Fits u (answer_row t c b.0 (t.parent u))) (b.1.1 u (omega (arith, n)))
-            ((full.answers b.0 b.1.0).others u p l (omega (arith, under))))
+            ((full.answers b.0 b.1.0).others u p l (omega (arith, all_below t laws u u (omega arith) l))))
       ]
     ]
 

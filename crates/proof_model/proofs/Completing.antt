@@ -55,7 +55,6 @@ module _ {K : Type 0} (t : Problem K) (laws : IsProblem t) (at : ℕ) where
           under = below_itself t.nodes t.parent laws.parents_first u u refl;
         })
     | inl h ↦
-        let d : t.parent u < u = laws.parents_first u (omega arith) l in
         let r : IsTop (t.parent u) (top f (t.parent u)) = is_top f (t.parent u) (omega arith) h (omega arith) in
         let low : top f (t.parent u) ≤ t.parent u = elim (cases_lt (t.parent u) (top f (t.parent u))) [
           | inl x ↦ let z = below_less t.nodes t.parent laws.parents_first (top f (t.parent u)) (t.parent u)
@@ -67,7 +66,7 @@ module _ {K : Type 0} (t : Problem K) (laws : IsProblem t) (at : ℕ) where
           node = r.node;
           open_here = r.open_here;
           under = below_parent t.nodes t.parent laws.parents_first (top f (t.parent u)) u (omega arith) l
-              (λ e. omega (arith, e, low, d)) ∙ r.under;
+              (λ e. omega (arith, e, low, laws.parents_first u (omega arith) l)) ∙ r.under;
         })
   ]
 
@@ -148,7 +147,6 @@ module _ {K : Type 0} (t : Problem K) (laws : IsProblem t) (at : ℕ) where
           (subst (λ z. t.Fits u z (parts u u)) (sym (kept (t.parent u) h))
           (each u p l h (below_itself t.nodes t.parent laws.parents_first u u refl)).1)
       | inl h ↦
-          let d : t.parent u < u = laws.parents_first u (omega arith) l in
           let q : ℕ = top_of u in
           let r : IsTop u q = top_is u p l in
           let up : IsTop (t.parent u) q = subst (IsTop (t.parent u)) (sym (top_same u p l h))
@@ -160,7 +158,7 @@ module _ {K : Type 0} (t : Problem K) (laws : IsProblem t) (at : ℕ) where
           let less : q < u = elim (cases_lt (t.parent u) q) [
             | inl x ↦ let z = below_less t.nodes t.parent laws.parents_first q (t.parent u)
                 (omega arith) x in let w = up.under in absurd (omega (arith, z, w))
-            | inr x ↦ omega (arith, x, d)
+            | inr x ↦ omega (arith, x, laws.parents_first u (omega arith) l)
           ] in
           subst (λ z. t.Fits u (completed (t.parent u)) z) (sym a) (subst (λ z. t.Fits u z (parts q u)) (sym b)
           ((each q r.past r.node r.open_here r.under).0.others u less l (let w = r.under in omega (arith, w))))

@@ -68,8 +68,7 @@ module _ {K : Type 0} (t : Problem K) (laws : IsProblem t) (c : Certificate) (li
       → AtMost t.Below (answer_key t c i) (answer_key t c (length c.answers - 1))
   to_last zero i e = let at : i ≡ length c.answers - 1 = omega (arith, e) in inr (ap (answer_key t c) at)
   to_last (suc n) i e =
-      let more : t.Below (answer_key t c i) (answer_key t c (suc i)) = next i (omega (arith, e)) in
-      inl (on (answer_key t c (suc i)) (answer_key t c (length c.answers - 1)) more
+      inl (on (answer_key t c (suc i)) (answer_key t c (length c.answers - 1)) (next i (omega (arith, e)))
       (to_last n (suc i) (omega (arith, e))))
     where
       on : (b k : K) → t.Below (answer_key t c i) b → AtMost t.Below b k → t.Below (answer_key t c i) k
@@ -111,9 +110,8 @@ module _ {K : Type 0} (t : Problem K) (laws : IsProblem t) (c : Certificate) (li
               let i = at.0 in
               let l : i < length c.answers = at.1 in
               let last = to_last (length c.answers - suc i) i (omega (arith, l)) in
-              let more = after.1 (omega (arith, l)) in
               subst (λ z. t.Below x z) has.2
-              (subst (λ z. t.Below z (subtree_key t 0 has.0)) (sym at.2) (on _ _ _ last more)),
+              (subst (λ z. t.Below z (subtree_key t 0 has.0)) (sym at.2) (on _ _ _ last (after.1 (omega (arith, l))))),
         )
       ]
     where

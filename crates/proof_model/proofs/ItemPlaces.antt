@@ -19,25 +19,22 @@ pub sum_two : (f g h : ℕ → ℕ) (n q : ℕ) → ((i : ℕ) → q ≤ i → i
 unfolding sum_from
 sum_two f g h zero q e = refl
 sum_two f g h (suc n) q e =
-    let here = e q (omega arith) (omega arith) in
     let rest = sum_two f g h n (suc q) (λ i a b. e i (omega (arith, a)) (omega (arith, b))) in
-    omega (arith, here, rest)
+    omega (arith, e q (omega arith) (omega arith), rest)
 
 pub sum_zero : (f : ℕ → ℕ) (n q : ℕ) → ((i : ℕ) → q ≤ i → i < q + n → f i ≡ 0) → sum f n q ≡ 0
 unfolding sum_from
 sum_zero f zero q e = refl
 sum_zero f (suc n) q e =
-    let here = e q (omega arith) (omega arith) in
     let rest = sum_zero f n (suc q) (λ i a b. e i (omega (arith, a)) (omega (arith, b))) in
-    omega (arith, here, rest)
+    omega (arith, e q (omega arith) (omega arith), rest)
 
 pub sum_ones : (f : ℕ → ℕ) (n q : ℕ) → ((i : ℕ) → q ≤ i → i < q + n → f i ≡ 1) → sum f n q ≡ n
 unfolding sum_from
 sum_ones f zero q e = refl
 sum_ones f (suc n) q e =
-    let here = e q (omega arith) (omega arith) in
     let rest = sum_ones f n (suc q) (λ i a b. e i (omega (arith, a)) (omega (arith, b))) in
-    omega (arith, here, rest)
+    omega (arith, e q (omega arith) (omega arith), rest)
 
 -- a sum that is not 0 has a term that is not
 pub sum_some : (f : ℕ → ℕ) (n q : ℕ) → 0 < sum f n q → (u : ℕ) × (q ≤ u) × (u < q + n) × (0 < f u)
@@ -57,10 +54,9 @@ unfolding sum_from
 sum_one f zero q u a b none = absurd (omega (arith, a, b))
 sum_one f (suc n) q u a b none = elim (cases_eq u q) [
   | inl e ↦
-      let same = ap f e in
       let rest = sum_zero f n (suc q) (λ i l h. none i (omega (arith, l)) (omega (arith, h))
       (λ s. omega (arith, s, e, l))) in
-      omega (arith, same, rest)
+      omega (arith, ap f e, rest)
   | inr other ↦
       let here = none q (omega arith) (omega arith) (λ s. other (sym s)) in
       let rest = sum_one f n (suc q) u (omega (arith, a, other)) (omega (arith, b))

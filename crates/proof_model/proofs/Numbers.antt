@@ -26,17 +26,14 @@ pub next_digit : (ds : List ℕ) (i : ℕ) → list_all is_ascii_digit ds ≡ tr
     × (get_or ds i 0 - 48 < 10)
 next_digit ds i all l =
     let range = digit_at ds i (own.to ds all) l in
-    let value = digit_value_digit (get_or ds i 0) range in
     let more = digits_value_more 10 ds i l in
-    (omega (arith, value, more), omega (arith, range.0, range.1))
+    (omega (arith, digit_value_digit (get_or ds i 0) range, more), omega (arith, range.0, range.1))
 
 -- at most 7 digits, of which some are read
 pub value_small : (ds : List ℕ) (i : ℕ) → list_all is_ascii_digit ds ≡ true → length ds ≤ 7
     → digits_value 10 (take i ds) < 10000000
 value_small ds i all few =
-    let some = digits_value-take-le 10 ds i (omega arith) in
-    let whole : digits_value 10 ds < 10 ^ 7 = digits_value_short own ds 7 all few in
-    omega (arith, some, whole)
+    omega (arith, digits_value-take-le 10 ds i (omega arith), digits_value_short own ds 7 all few)
 
 -- ---- a number that is written
 
@@ -53,10 +50,9 @@ first_digit n small = elim (cases_eq n 0) [
 pub number_written : (n : ℕ) → IsShort n → number_of (decimal n) ≡ Some n
 number_written n h =
     let small : n < 2 ^ 64 = omega (arith, h) in
-    let few = length-decimal-le 7 n (omega arith) (omega (arith, h)) small in
     let is : is_number (decimal n) ≡ true =
     and_from _ _ (le-leb 1 (length (decimal n)) (decimal_nonempty n small))
-    (and_from _ _ (le-leb (length (decimal n)) 7 few)
+    (and_from _ _ (le-leb (length (decimal n)) 7 (length-decimal-le 7 n (omega arith) (omega (arith, h)) small))
     (and_from _ _ (digits_decimal own n small) (first_digit n small))) in
     cond-true (is_number (decimal n)) (Some (digits_value 10 (decimal n))) None is
     ∙ ap (λ (m : ℕ). Some m) (digits_value-decimal own n small)
@@ -88,8 +84,7 @@ number_read text n h =
     let b = and_parts _ _ a.1 in
     let d = and_parts _ _ b.1 in
     let some : 0 < length text = leb-true 1 (length text) a.0 in
-    let few : length text ≤ 7 = leb-true (length text) 7 b.0 in
-    let short : digits_value 10 text < 10 ^ 7 = digits_value_short own text 7 d.0 few in
+    let short : digits_value 10 text < 10 ^ 7 = digits_value_short own text 7 d.0 (leb-true (length text) 7 b.0) in
     let alone : get_or text 0 0 ≡ 48 → length text ≡ 1 = λ e. elim (or_cases _ _ d.1) [
       | inl one ↦ eqb-true (length text) 1 one
       | inr other ↦ absurd (eqb-false (get_or text 0 0) 48 (not-true _ other) e)

@@ -1,5 +1,5 @@
 -- The text that is written for a query is one text.
-use Rattle.std.proofs.Common.{◌≡◌, ◌⊎◌, ℕ, suc, ◌<◌, ◌++◌, pos, List, [], ◌∷◌, map, length, Result, Ok}
+use Rattle.std.proofs.Common.{◌≡◌, ◌⊎◌, ℕ, ◌<◌, ◌++◌, pos, List, [], ◌∷◌, map, length, Result, Ok}
 use Rattle.std.proofs.Common.{sym, ap, ◌∙◌, subst, inl, inr, arith}
 use Rattle.std.specs.List.{flat_map}
 use Rattle.std.proofs.lemmas.List.Folds.{flat_map-map}
@@ -79,8 +79,7 @@ module _ {K : Type 0} (t : Problem K) (laws : IsProblem t) (most : ℕ) (items :
       let first = w.firsts at.0 at.1 in
       let other = u.each first.0 (bound_at t c at.0).rows first.2.solution in
       let there = u.firsts other.0 other.1.0.0 in
-      let next : suc there.0 ≡ suc first.0 = sym there.1 ∙ other.1.0.1 in
-      let node : there.0 ≡ first.0 = omega (arith, next) in
+      let node : there.0 ≡ first.0 = omega (arith, sym there.1 ∙ other.1.0.1) in
       let rows : (bound_at t c at.0).rows ≡ (bound_at t d other.0).rows =
       firsts_same c d first.0 (bound_at t c at.0).rows (bound_at t d other.0).rows first.2
       (subst (λ n. IsFirstOfGroup t d n (bound_at t d other.0).rows) node there.2) other.1.1 in
@@ -116,9 +115,8 @@ texts_same : (c d : Certificate) → map named c.bounds ≡ map named d.bounds
     → map (λ (a : AnswerLine). a.rows) c.answers ≡ map (λ (a : AnswerLine). a.rows) d.answers → c.ended ≡ d.ended
     → proof_text c ≡ proof_text d
 texts_same c d bounds answers ended =
-    let b = bounds_text c.bounds d.bounds bounds in
     let a = answers_text c.answers d.answers answers in
-    λ i. header_text ++ (b i ++ (a i ++ last_text (ended i)))
+    λ i. header_text ++ ((bounds_text c.bounds d.bounds bounds) i ++ (a i ++ last_text (ended i)))
 
 module _ (query : Query) (tables : List Table) where
   abbrev Found : Shape → Certificate → Type 0

@@ -35,16 +35,13 @@ module _ (query : Query) (tables : List Table) (atoms parents : List ℕ) (hung 
 
   pub parents_earlier : (k : ℕ) → 0 < k → k < length atoms → slice_index parents k < k
   parents_earlier k some l =
-      let p = hung.join_tree.has_parents in
-      hung.join_tree.first.earlier k some (omega (arith, l, hung.join_tree.nodes, p))
+      hung.join_tree.first.earlier k some (omega (arith, l, hung.join_tree.nodes, hung.join_tree.has_parents))
 
   pub tree_problem : IsProblem (problem_of query tables atoms parents)
   tree_problem = query_problem query tables atoms parents some_nodes parents_earlier
 
   pub item_within : (u : ℕ) → u < length atoms → slice_index atoms u < length query.items
-  item_within u l =
-      let h = hung.join_tree.within u l in
-      omega (arith, h, hung.of_query.atoms)
+  item_within u l = omega (arith, hung.join_tree.within u l, hung.of_query.atoms)
 
   pub node_items : HasItems (problem_of query tables atoms parents) (length query.items)
   node_items = record { within = item_within; apart = hung.join_tree.distinct }

@@ -248,8 +248,7 @@ add_by : (n : ℕ) (read : Lines) (text : List ℕ) (more : List (List ℕ)) (c 
     → Adds n read (text ∷ more) c
 add_by n read text more c None ih e h = absurd cc
 add_by n read text more c (Some (last ended)) ih e h =
-    let s = form_said text (last ended) e in
-    add_last n read text more c ended s.1 h
+    add_last n read text more c ended (form_said text (last ended) e).1 h
 add_by n read text more c (Some (bound node rows)) ih e h =
     let s = form_said text (bound node rows) e in
     let o = bound_ok (eqb (length read.answers) 0) n (read_from (n + 1) (with_bound n read node rows) more) c h in
@@ -282,7 +281,6 @@ lines_read [] c h = absurd cc
 lines_read (first ∷ more) c h =
     let o = header_ok (bytes_eq first (codes "anyk-proof 1")) (read_from 2 no_lines more) c h in
     let r = adds more 2 no_lines c o.1 in
-    let is = header_is first o.0 in
     let all : more ≡ texts_of c.bounds ++ (listed_of c.answers ++ form_text (last c.ended) ∷ []) =
     r.are_lines
     ∙ ap (λ (bs : List BoundLine). texts_of bs ++ (listed_of r.answers ++ form_text (last c.ended) ∷ []))
@@ -294,7 +292,7 @@ lines_read (first ∷ more) c h =
         subst (λ bs. AreAnswersFrom (2 + length bs) c.answers) (sym r.all_bounds)
             (subst (AreAnswersFrom (2 + length r.bounds)) (sym r.all_answers) r.are_answers),
       ),
-      λ i. is i ∷ all i,
+      λ i. (header_is first o.0) i ∷ all i,
     )
 
 -- so the lines are those of the text that is written

@@ -1,5 +1,5 @@
 -- Subtree solutions as lists of rows and as functions of the nodes, and how their keys tell the rows.
-use Rattle.std.proofs.Common.{◌≡◌, ◌≢◌, ℕ, zero, suc, ◌<◌, ◌≤◌, cond, nat_eq, List, [], ◌∷◌, length, get_or}
+use Rattle.std.proofs.Common.{◌≡◌, ◌≢◌, ℕ, ◌<◌, ◌≤◌, cond, nat_eq, List, [], length, get_or}
 use Rattle.std.proofs.Common.{refl, sym, ap, ◌∙◌, subst, inl, inr, arith}
 use Rattle.std.proofs.lemmas.Bool.{cases_eq, cases_lt}
 use Rattle.std.proofs.lemmas.Grind.{same_number_lists}
@@ -12,24 +12,7 @@ use Rattle.proof_model.specs.Problem.{Problem, IsSolutionAt, key_at, place_in, r
 use Rattle.proof_model.specs.Laws.{IsProblem, IsSubtree, subtree_key}
 use Rattle.proof_model.proofs.ItemPlaces.{place_each, place_inside, place_tells}
 use Rattle.proof_model.proofs.Sums.{pick_eq, pick_ne}
-
--- a list of numbers with a property at each place below n
-pub record Chosen (n : ℕ) (P : ℕ → ℕ → Type 0) : Type 0 where
-  pub list : List ℕ
-  pub count : length list ≡ n
-  pub each : (a : ℕ) → a < n → P a (get_or list a 0)
-
-pub choose : (n : ℕ) (P : ℕ → ℕ → Type 0) → ((a : ℕ) → a < n → (x : ℕ) × P a x) → Chosen n P
-choose zero P f = record { list = []; count = refl; each = λ a l. absurd (omega (arith, l)) }
-choose (suc n) P f =
-    let first = f 0 (omega arith) in
-    let rest = choose n (λ a. P (suc a)) (λ a l. f (suc a) (omega (arith, l))) in
-    record { list = first.0 ∷ rest.list; count = ap suc rest.count; each = pick first.0 first.1 rest.list rest.each }
-  where
-    pick : (x : ℕ) → P 0 x → (list : List ℕ) → ((a : ℕ) → a < n → P (suc a) (get_or list a 0))
-        → (a : ℕ) → a < suc n → P a (get_or (x ∷ list) a 0)
-    pick x p list rest zero l = p
-    pick x p list rest (suc a) l = rest a (omega (arith, l))
+use Rattle.tdp_model.proofs.Chosen.{choose}
 
 -- the items of the nodes are less than `most`, and differ
 pub record HasItems {K : Type 0} (t : Problem K) (most : ℕ) : Type 0 where

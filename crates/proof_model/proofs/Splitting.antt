@@ -19,9 +19,7 @@ module _ (m : ℕ) (parent : ℕ → ℕ) (first : (q : ℕ) → 0 < q → q < m
   kids_term zero v s c u a h e = absurd (omega arith)
   kids_term (suc n) v s c u a h e = elim (cases_eq s c) [
     | inl x ↦
-        let p : parent s ≡ v = ap parent x ∙ e in
-        let w : is_below parent s u ≡ is_below parent c u = ap (λ z. is_below parent z u) x in
-        omega (arith, kid_counted m parent first s v u p, w)
+        omega (arith, kid_counted m parent first s v u (ap parent x ∙ e), ap (λ z. is_below parent z u) x)
     | inr x ↦ omega (arith, kids_term n v (suc s) c u (omega arith) (omega arith) e)
   ]
 

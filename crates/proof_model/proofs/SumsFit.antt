@@ -97,8 +97,7 @@ module _ (bound : BoundQuery) (tables : List Table) (atoms parents : List ℕ) (
   apart : AreApart (length bound.query.items) item (length atoms) 0
   apart = record {
     within = λ v a b.
-        let h = hung.join_tree.within v (omega (arith, b)) in
-        omega (arith, h, hung.of_query.atoms);
+        omega (arith, hung.join_tree.within v (omega (arith, b)), hung.of_query.atoms);
     differ = λ u v a b c. hung.join_tree.distinct u v b (omega (arith, c));
   }
 
@@ -140,8 +139,7 @@ module _ (bound : BoundQuery) (tables : List Table) (atoms parents : List ℕ) (
   row_slot i q row l h =
       let at = slot_of_lists d 16 i (map (part_of tables bound.query.items (item q) row) bound.query.order)
       (set (replicate 16 0) (item q) row) l in
-      let small = slot_small (item q) row i l (row_small q row h) in
-      omega (arith, at, small)
+      omega (arith, at, slot_small (item q) row i l (row_small q row h))
 
   slot_add : (i : ℕ) (a b : KeyOf (length bound.query.order) 16)
       → slot_of d 16 i (key_add d 16 a b) ≤ slot_of d 16 i a + slot_of d 16 i b
@@ -154,10 +152,8 @@ module _ (bound : BoundQuery) (tables : List Table) (atoms parents : List ℕ) (
       none_before : (n a : ℕ) → i < a → sum_of_all (map (slot_cap i) (range_with_len a n)) ≡ 0
       none_before zero a h = refl
       none_before (suc n) a h =
-          let miss : (a == i) ≡ false = by (a == i) refl in
-          let here : slot_cap i a ≡ 0 = ap (λ (b : Bool). cond {A = ℕ} b (2 ^ 32 - 1) 0) miss in
           let rest = none_before n (a + 1) (omega (arith, h)) in
-          omega (arith, here, rest)
+          omega (arith, ap (λ (b : Bool). cond {A = ℕ} b (2 ^ 32 - 1) 0) (by (a == i) refl), rest)
         where
           by : (b : Bool) → (a == i) ≡ b → b ≡ false
           by true e = absurd (let s = (Decides-eqb a i).0 e in omega (arith, s, h))
@@ -169,10 +165,7 @@ module _ (bound : BoundQuery) (tables : List Table) (atoms parents : List ℕ) (
         where
           by : (b : Bool) → (a == i) ≡ b → sum_of_all (map (slot_cap i) (range_with_len (a + 1) n)) ≤ 2 ^ 32 - 1
               → cond {A = ℕ} b (2 ^ 32 - 1) 0 + sum_of_all (map (slot_cap i) (range_with_len (a + 1) n)) ≤ 2 ^ 32 - 1
-          by true e later =
-              let s = (Decides-eqb a i).0 e in
-              let rest = none_before n (a + 1) (omega (arith, s)) in
-              omega (arith, rest)
+          by true e later = omega (arith, none_before n (a + 1) (omega (arith, (Decides-eqb a i).0 e)))
           by false e later = omega (arith, later)
 
   module _ (part : ℕ → KeyOf (length bound.query.order) 16) (parts : (q : ℕ) → q < length atoms
@@ -196,21 +189,18 @@ module _ (bound : BoundQuery) (tables : List Table) (atoms parents : List ℕ) (
     sums_small i l =
         let a = ranges.weight_sum (key_add d 16) (key_none d 16) (weight i) (weight_add i) (weight_none i) part
         (λ v. sum_cap i (item v)) (length atoms) 0 (λ q _ b. part_weight i q l (omega (arith, b))) in
-        let e = sum_range (λ v. sum_cap i (item v)) (length atoms) 0 in
         let b = fewer_nodes (length bound.query.items) item (length atoms) (sum_cap i) apart in
         let c : over (sum_cap i) (length bound.query.items) ≤ 170141183460469231731687303715884105727 =
         caps_fit bound tables i fits l in
-        omega (arith, a, b, c, e)
+        omega (arith, a, b, c, sum_range (λ v. sum_cap i (item v)) (length atoms) 0)
 
     slots_small : (i : ℕ) → i < 16 → slot_of d 16 i whole < 2 ^ 32
     slots_small i l =
         let a = ranges.weight_sum (key_add d 16) (key_none d 16) (slot_of d 16 i) (slot_add i)
         (slot_of_none d 16 i) part
         (λ v. slot_cap i (item v)) (length atoms) 0 (λ q _ b. part_slot i q l (omega (arith, b))) in
-        let e = sum_range (λ v. slot_cap i (item v)) (length atoms) 0 in
         let b = fewer_nodes (length bound.query.items) item (length atoms) (slot_cap i) apart in
-        let c = slots_all i in
-        omega (arith, a, b, c, e)
+        omega (arith, a, b, slots_all i, sum_range (λ v. slot_cap i (item v)) (length atoms) 0)
 
     pub sums_fit_lem : (more : ℕ) → length bound.query.order ≤ more
         → IsInRange more (wide (length bound.query.order) more 16 whole)

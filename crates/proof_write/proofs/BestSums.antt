@@ -39,8 +39,7 @@ module _ {R : Type 0} (d : ℕ) (key : R → KeyOf d 16) (tree : List (NodeView 
   kid_under v w q from less l up under =
       let same = below_parent (length tree) (parent tree) (early d key tree formed) v q (omega (arith, less)) l
       (λ e. omega (arith, e, less, from)) in
-      let there = ap (is_below (parent tree) v) up in
-      omega (arith, same, there, under)
+      omega (arith, same, ap (is_below (parent tree) v) up, under)
 
   -- ---- the first solution of a group
 

@@ -111,8 +111,7 @@ module _ {R : Type 0} (d : ℕ) (key : R → KeyOf d 16) (tree : List (NodeView 
     chosen_under q row low l is = elim (is_under q l) [
       | inl u ↦
           let found = so_far.under q low u in
-          let same : row ≡ found.0 = (let e : Some row ≡ Some found.0 = sym is ∙ found.1 in cc) in
-          (u, subst (λ r. r < rows tree q) (sym same) found.2)
+          (u, subst (λ r. r < rows tree q) (sym ((let e : Some row ≡ Some found.0 = sym is ∙ found.1 in cc))) found.2)
       | inr z ↦
           let none = so_far.elsewhere q (λ _ u. let s = u.1 in omega (arith, s, z)) in
           let e : Some row ≡ None = sym is ∙ none in
@@ -185,18 +184,16 @@ module _ {R : Type 0} (d : ℕ) (key : R → KeyOf d 16) (tree : List (NodeView 
             ≡ slice_index (group tree q (row_at (set chosen n (Some row)) (parent tree q))) 0
         named2 q a h u = elim (cases_eq q n) [
           | inl e ↦
-              let low = up_early in
               let at : row_at (set chosen n (Some row)) (parent tree n) ≡ above =
-              kept_row (parent tree n) (λ x. omega (arith, x, low)) ∙ ap (λ o. unwrap_or o 0) at_parent in
+              kept_row (parent tree n) (λ x. omega (arith, x, up_early)) ∙ ap (λ o. unwrap_or o 0) at_parent in
               subst (λ z. row_at (set chosen n (Some row)) z
               ≡ slice_index (group tree z (row_at (set chosen n (Some row)) (parent tree z))) 0) (sym e)
               (ap (λ o. unwrap_or o 0) here ∙ is ∙ ap (λ r. slice_index (group tree n r) 0) (sym at))
           | inr other ↦
               let low : q < n = omega (arith, h, other) in
-              let higher = formed.shaped.parents_first q (omega (arith, a)) u.0 in
               kept_row q other ∙ so_far.named q a low u
               ∙ ap (λ r. slice_index (group tree q r) 0)
-              (sym (kept_row (parent tree q) (λ x. omega (arith, x, higher, low))))
+              (sym (kept_row (parent tree q) (λ x. omega (arith, x, formed.shaped.parents_first q (omega (arith, a)) u.0, low))))
         ]
 
         own2 : (q : ℕ) → q < n + 1 → IsUnder tree v q

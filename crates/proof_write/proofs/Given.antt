@@ -43,8 +43,7 @@ module _ (all : List (List ℕ)) (i : ℕ) (rest : List (List ℕ)) (old new : L
     pub ended_early : (limit : Option ℕ) → IfSome limit (λ n. i < n) → true ≡ not (reaches limit all)
     ended_early None low = cc
     ended_early (Some n) low =
-        let short : length all ≡ i = ap length whole ∙ h.count in
-        let past : nat_le n (length all) ≡ false = grind (arith, nat_tests, short, low) in
+        let past : nat_le n (length all) ≡ false = grind (arith, nat_tests, ap length whole ∙ h.count, low) in
         sym (ap not past)
 
   -- the limit was reached
@@ -56,8 +55,6 @@ module _ (all : List (List ℕ)) (i : ℕ) (rest : List (List ℕ)) (old new : L
 
     pub met_limit : false ≡ not (reaches limit all)
     met_limit =
-        let s = ap length h.split in
-        let m = length-append h.given rest in
-        let long : i ≤ length all = omega (arith, h.count, s, m) in
+        let long : i ≤ length all = omega (arith, h.count, ap length h.split, length-append h.given rest) in
         let within : nat_le i (length all) ≡ true = grind (arith, nat_tests, long) in
         sym (ap (λ o. not (reaches o all)) met ∙ ap not within)

@@ -84,17 +84,15 @@ module _ (n : ℕ) (gs : List (List ℕ)) (grouped : IsPermutation (range_with_l
   pub group_of : (r : ℕ) → r < n → (g : ℕ) × (g < length gs) × Contains (get_or gs g []) r
   group_of r l =
       let same : 0 + r ≡ r = omega arith in
-      let size = length-range_with_len 0 n in
       in_concat gs r (Contains-permutation (range_with_len 0 n) (concat gs) r grouped
-      (r, omega (arith, size, l), get_or-range_with_len 0 n r r l ∙ same))
+      (r, omega (arith, length-range_with_len 0 n, l), get_or-range_with_len 0 n r r l ∙ same))
 
   range_apart : (i j : ℕ) → i < j → j < length (range_with_len 0 n)
       → get_or (range_with_len 0 n) i 0 ≢ get_or (range_with_len 0 n) j 0
   range_apart i j less l e =
       let size = length-range_with_len 0 n in
-      let a = get_or-range_with_len 0 n i 0 (omega (arith, less, l, size)) in
       let b = get_or-range_with_len 0 n j 0 (omega (arith, l, size)) in
-      omega (arith, a, b, e, less)
+      omega (arith, get_or-range_with_len 0 n i 0 (omega (arith, less, l, size)), b, e, less)
 
   -- and in no other one
   pub one_group : (g h i j : ℕ) → i < length (get_or gs g []) → j < length (get_or gs h [])

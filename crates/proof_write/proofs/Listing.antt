@@ -89,26 +89,20 @@ module _ (m : ℕ) (chosen item : ℕ → ℕ) (most : ℕ) (once : (u : ℕ) �
   here_counted x = elim (cases_lt 0 (here m chosen item most once within apart x)) [
     | inl h ↦
         let found = here_some m chosen item most once within apart x h in
-        let one = here_node m chosen item most once within apart x found.0 found.1 found.3 in
-        let few = once found.0 found.1 in
         let big : 0 < get_or numbers x 0 = subst (λ i. 0 < get_or numbers i 0) found.3 (own found.0 found.1 found.2) in
         let s = some_is (get_or numbers x 0) big in
-        omega (arith, one, few, found.2, s)
+        omega (arith, here_node m chosen item most once within apart x found.0 found.1 found.3, once found.0 found.1, found.2, s)
     | inr h ↦
         let none = others x (λ u l c e. let one = here_node m chosen item most once within apart x u l e in omega
         (arith, h, one, c)) in
-        let s = some_not (get_or numbers x 0) none in
-        omega (arith, h, s)
+        omega (arith, h, some_not (get_or numbers x 0) none)
   ]
 
   counted_before : (x : ℕ) → x ≤ most → counted numbers x ≡ before m chosen item most once within apart x
   counted_before zero l = counted_none numbers ∙ sym (none_before m chosen item most once within apart)
   counted_before (suc x) l =
-      let rest = counted_before x (omega (arith, l)) in
-      let next = counted_next numbers x (omega (arith, l, count)) in
       let more = before_next m chosen item most once within apart x in
-      let here' = here_counted x in
-      omega (arith, rest, next, more, here')
+      omega (arith, counted_before x (omega (arith, l)), counted_next numbers x (omega (arith, l, count)), more, here_counted x)
 
   -- as many numbers are listed as nodes are chosen
   pub listed_count : length (listed numbers) ≡ all m chosen item most once within apart
@@ -120,8 +114,7 @@ module _ (m : ℕ) (chosen item : ℕ → ℕ) (most : ℕ) (once : (u : ℕ) �
   pub listed_place : (q : ℕ) → q < m → 0 < chosen q
       → get_or (listed numbers) (before m chosen item most once within apart (item q)) 0 ≡ get_or numbers (item q) 0
   listed_place q l some' =
-      let w = within q l in
-      ap (λ n. get_or (listed numbers) n 0) (sym (counted_before (item q) (omega (arith, w))))
+      ap (λ n. get_or (listed numbers) n 0) (sym (counted_before (item q) (omega (arith, within q l))))
       ∙ listed_at numbers (item q) (own q l some')
 
 -- ---- order

@@ -100,10 +100,9 @@ module _ {R : Type 0} (d : ℕ) (key : R → KeyOf d 16) (tree : List (NodeView 
 
     pub parent_under : (q : ℕ) → v < q → IsUnder tree v q → IsUnder tree v (parent tree q)
     parent_under q after u =
-        let low = early q (omega (arith, after)) u.0 in
         let same = below_parent (length tree) (parent tree) early v q (omega (arith, after)) u.0
         (λ e. omega (arith, e, after)) in
-        (omega (arith, low, u.0), omega (arith, same, u.1))
+        (omega (arith, early q (omega (arith, after)) u.0, u.0), omega (arith, same, u.1))
 
     pub itself : IsUnder tree v v
     itself = (node, (let b = below_itself (length tree) (parent tree) early v v refl in omega (arith, b)))
@@ -127,8 +126,7 @@ module _ {R : Type 0} (d : ℕ) (key : R → KeyOf d 16) (tree : List (NodeView 
       rows_there (suc f) q e u = elim (cases_lt v q) [
         | inr here ↦ let from = under_from q u in at_top q (omega (arith, here, from))
         | inl after ↦
-            let low = early q (omega (arith, after)) u.0 in
-            let row = rows_there f (parent tree q) (omega (arith, low, e)) (parent_under q after u) in
+            let row = rows_there f (parent tree q) (omega (arith, early q (omega (arith, after)) u.0, e)) (parent_under q after u) in
             subst (λ x. x < rows tree q) (sym (first.named q after u))
             (first_inside q (first.chosen (parent tree q)) (omega (arith, after)) u.0 row).1
       ]
@@ -139,10 +137,7 @@ module _ {R : Type 0} (d : ℕ) (key : R → KeyOf d 16) (tree : List (NodeView 
 
       module _ (told : AreTold tree) where
         pub positive : (q : ℕ) → q < length tree → 0 < is_below (parent tree) v q → 0 < get_or numbers (item tree q) 0
-        positive q l some =
-            let is = first.own q (l, some) in
-            let one = told.positive q (first.chosen q) l (row_there q (l, some)) in
-            omega (arith, is, one)
+        positive q l some = omega (arith, first.own q (l, some), told.positive q (first.chosen q) l (row_there q (l, some)))
 
         pub absent : (i : ℕ) → ((u : ℕ) → u < length tree → 0 < is_below (parent tree) v u → item tree u ≢ i)
             → get_or numbers i 0 ≡ 0
@@ -201,9 +196,8 @@ module _ {R : Type 0} (d : ℕ) (key : R → KeyOf d 16) (tree : List (NodeView 
       tops_apart : (g h : ℕ) → g < h → h < length (map top_of are.by_group)
           → get_or (map top_of are.by_group) g 0 ≢ get_or (map top_of are.by_group) h 0
       tops_apart g h less l e =
-          let size = length-map are.by_group top_of in
           let n = are.count in
-          let lh : h < group_count tree v = omega (arith, size, n, l) in
+          let lh : h < group_count tree v = omega (arith, length-map are.by_group top_of, n, l) in
           let lg : g < group_count tree v = omega (arith, less, lh) in
           let full = λ (k : ℕ) (lk : k < group_count tree v). formed.inhabited v k node lk in
           let same : number tree v (get_or (members tree v g) 0 0) ≡ number tree v (get_or (members tree v h) 0 0) =
@@ -247,10 +241,7 @@ module _ {R : Type 0} (d : ℕ) (key : R → KeyOf d 16) (tree : List (NodeView 
         more = bounds ++ lines (length bounds + 2) v firsts
 
         more_length : length more ≡ length bounds + length firsts
-        more_length =
-            let n = length-append bounds (lines (length bounds + 2) v firsts) in
-            let k = lines_length (length bounds + 2) v firsts in
-            omega (arith, n, k)
+        more_length = omega (arith, length-append bounds (lines (length bounds + 2) v firsts), lines_length (length bounds + 2) v firsts)
 
         old_at : (i : ℕ) → i < length bounds → bound_at tree more i ≡ bound_at tree bounds i
         old_at i l = get_or_append_left bounds (lines (length bounds + 2) v firsts) _ i l
@@ -346,8 +337,7 @@ module _ {R : Type 0} (d : ℕ) (key : R → KeyOf d 16) (tree : List (NodeView 
           | inr other ↦
               let f = so_far.each w g (omega (arith, low, other)) lg in
               let li = f.1 in
-              let n = more_length in
-              (f.0, omega (arith, n, li), subst (IsBoundLine tree w g) (sym (old_at f.0 li)) f.2)
+              (f.0, omega (arith, more_length, li), subst (IsBoundLine tree w g) (sym (old_at f.0 li)) f.2)
         ]
 
         pub bounds_more : AreBounds tree (v + 1) (bounds ++ lines (length bounds + 2) v firsts)

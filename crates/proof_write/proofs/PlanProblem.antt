@@ -58,9 +58,8 @@ module _ {R : Type 0} (bound : BoundQuery) (tables : List Table) (tree : List (N
 
   pub row_passes : (v r : ℕ) → v < length tree → r < rows tree v → RowPasses bound tables tree v (number tree v r)
   row_passes v r l row =
-      let n = number_size v in
       ((reduced.members v (number tree v r) l).0
-      (place_member (numbers bound tables tree v) r (omega (arith, n, row)))).0
+      (place_member (numbers bound tables tree v) r (omega (arith, number_size v, row)))).0
 
   pub told : AreTold tree
   told = record {
@@ -98,12 +97,11 @@ module _ {R : Type 0} (d : ℕ) (key : R → KeyOf d 16) (bound : BoundQuery) (t
     fits_link : (q r i : ℕ) → 0 < q → q < length tree → r < rows tree (parent tree q) → i < rows tree q
         → u.Fits q (number tree (parent tree q) r) (number tree q i) → Contains (group tree q r) i
     fits_link q r i some l lr li fits =
-        let own = row_passes bound tables tree reduced q i l li in
         let above = row_passes bound tables tree reduced (parent tree q) r (up_inside q some l) lr in
         (reduced.named q r i some l lr).1 (
           li,
           (match_iff bound.query tables bound.variables known (item tree q) (item tree (parent tree q))
-              (number tree q i) (number tree (parent tree q) r) own.2 above.2).0 fits.1,
+              (number tree q i) (number tree (parent tree q) r) (row_passes bound tables tree reduced q i l li).2 above.2).0 fits.1,
         )
 
     -- ---- groups
@@ -214,9 +212,7 @@ module _ {R : Type 0} (d : ℕ) (key : R → KeyOf d 16) (bound : BoundQuery) (t
 
       pub place_there : (q : ℕ) → IsUnder tree v q → place_of (s q) (numbers bound tables tree q) < rows tree q
       place_there q under =
-          let n = number_size bound tables tree reduced q in
-          let at = at_place q (under_from d key tree formed v sub.node q under) under in
-          omega (arith, n, at.0)
+          omega (arith, number_size bound tables tree reduced q, (at_place q (under_from d key tree formed v sub.node q under) under).0)
 
       pub place_number : (q : ℕ) → IsUnder tree v q → number tree q (place_of (s q) (numbers bound tables tree q)) ≡ s q
       place_number q under = (at_place q (under_from d key tree formed v sub.node q under) under).1
@@ -297,12 +293,11 @@ module _ {R : Type 0} (d : ℕ) (key : R → KeyOf d 16) (bound : BoundQuery) (t
             let up = parent_under d key tree formed v node q after under in
             let above = row_there d key tree formed v node g there numbers first (parent tree q) up in
             let here = first_inside d key tree formed q (first.chosen (parent tree q)) (omega (arith, after)) l above in
-            let x : ℕ = first.chosen q in
             link_fits q (first.chosen (parent tree q)) (first.chosen q) (omega (arith, after)) l above
             (row_there d key tree formed v node g there numbers first q under) (
               0,
               here.0,
-              get_or_default (group tree q (first.chosen (parent tree q))) 0 x 0 here.0
+              get_or_default (group tree q (first.chosen (parent tree q))) 0 (first.chosen q) 0 here.0
                   ∙ sym (first.named q after under),
             );
       }

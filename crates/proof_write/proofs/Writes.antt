@@ -96,8 +96,7 @@ module _ {R : Type 0} (d : ℕ) (key : R → KeyOf d 16) (bound : BoundQuery) (t
     top_member : Contains (members tree v g) (first.chosen v)
     top_member =
         let full = formed.inhabited v g node there in
-        let x : ℕ = first.chosen v in
-        (0, full, get_or_default (members tree v g) 0 x 0 full ∙ sym first.top)
+        (0, full, get_or_default (members tree v g) 0 (first.chosen v) 0 full ∙ sym first.top)
 
     -- its row of the node
     pub top_row : row_in u v (listed told_rows) v ≡ number tree v (first.chosen v)

@@ -16,11 +16,10 @@ rests_add x y z p q r s = omega (arith, p, q, r, s)
 module _ (a b z : ℤ) (fits-a : FitsSigned w128 a) (fits-b : FitsSigned w128 b) (fits-z : FitsSigned w128 z) where
   pub number_sum : packed_key z ≡ key_add 1 16 (packed_key a) (packed_key b) → z ≡ a +ℤ b
   number_sum e =
-      let sums : pos (lifted z / 2 ^ 84) -ℤ pos (2 ^ 43) ≡ (pos (lifted a / 2 ^ 84) -ℤ pos (2 ^ 43)) +ℤ (pos (lifted b / 2 ^ 84) -ℤ pos (2 ^ 43)) = ap (sum_of 1 16 0) e in
       let rest : lifted z % 2 ^ 84 ≡ lifted a % 2 ^ 84 + lifted b % 2 ^ 84 =
       rests_add (lifted a % 2 ^ 84) (lifted b % 2 ^ 84) (lifted z % 2 ^ 84) (ap (slot_of 1 16 0) e) (ap (slot_of 1 16 1) e) (ap (slot_of 1 16 2) e) (ap (slot_of 1 16 3) e) in
       let is-a = lifted_is a fits-a in let is-b = lifted_is b fits-b in let is-z = lifted_is z fits-z in
-      omega (arith, ints, sums, rest, is-a, is-b, is-z)
+      omega (arith, ints, ap (sum_of 1 16 0) e, rest, is-a, is-b, is-z)
 
 -- what is left of a number without a part of it
 pub number_rest : (t o r : ℤ) (rest : KeyOf 1 16) → FitsSigned w128 t → FitsSigned w128 o → FitsSigned w128 r

@@ -5,10 +5,11 @@ use Rattle.tdp_model.specs.KeyLaws.{IsKeys}
 use Rattle.tdp_model.specs.Regions.{place_of, stands, completes, is_empty}
 use Rattle.tdp_model.specs.TreeProblem.{sum_from, rows_after, rows_key, kid_key, RowHas, GroupHas}
 use Rattle.tdp_model.proofs.Subtrees.{cases_eq}
-use Rattle.tdp_model.proofs.Division.{place_le, get_place, stands_yes, stands_place, empty_found, append_nil, times_pos}
+use Rattle.tdp_model.proofs.Division.{place_le, get_place, stands_yes, stands_place, empty_found, times_pos}
 use Rattle.tdp_model.proofs.Picks.{pick_eq, pick_ge, pick_ne}
 use Rattle.tdp_model.proofs.OpenKeys.{key_end, open_first, open_join, open_key}
 use Rattle.tdp_model.proofs.Sums.{get_front, get_end, length_end, none_add, sum_same, sum_add}
+use Rattle.std.proofs.lemmas.List.{append-nil}
 
 pos_times : (a b : ℕ) → 0 < a → 0 < b → 0 < a * b
 pos_times zero b h i = absurd (omega arith)
@@ -108,7 +109,7 @@ module _ {K : Type 0} (Below : K → K → Type 0) (add : K → K → K) (none :
     pub solution_of : (n : ℕ) (pre : List ℕ) (k : K) → n + length pre ≡ m → OpenHas n pre k
         → (t : List ℕ) × (0 < completes (rows_after parent group) n pre t) × (rows_key add none rank (pre ++ t) ≡ k)
     unfolding completes sum_from is_empty
-    solution_of zero pre k e o = ([], omega arith, ap (λ z. rows_key add none rank z) (append_nil pre) ∙ sym (keys.add_none _) ∙ sym o.2)
+    solution_of zero pre k e o = ([], omega arith, ap (λ z. rows_key add none rank z) (append-nil pre) ∙ sym (keys.add_none _) ∙ sym o.2)
     solution_of (suc n) pre k e o =
         let s : (i : ℕ) × (i < length (rows_after parent group pre)) × OpenHas n (pre ++ (get_or (rows_after parent group pre) i 0 ∷ [])) k = opened n pre k e o in
         let r : ℕ = get_or (rows_after parent group pre) s.0 0 in
@@ -166,7 +167,7 @@ module _ {K : Type 0} (Below : K → K → Type 0) (add : K → K → K) (none :
     keys_of zero pre t e h = (
       (λ q. none),
       (λ q a b c. absurd (omega arith)),
-      ap (λ z. rows_key add none rank (pre ++ z)) (empty_found t h) ∙ ap (λ z. rows_key add none rank z) (append_nil pre) ∙ sym (keys.add_none _),
+      ap (λ z. rows_key add none rank (pre ++ z)) (empty_found t h) ∙ ap (λ z. rows_key add none rank z) (append-nil pre) ∙ sym (keys.add_none _),
     )
     keys_of (suc n) pre [] e h = absurd (omega arith)
     keys_of (suc n) pre (r ∷ rest) e h =

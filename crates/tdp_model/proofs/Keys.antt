@@ -6,6 +6,10 @@ use Rattle.tdp_model.specs.KeyLaws.{IsKeys}
 use Rattle.tdp_model.specs.Remains.{AtMost}
 use Rattle.rankings.proofs.Members.{below_member, get_member}
 
+pub not_above : {K : Type 0} (Below : K → K → Type 0) → IsOrder K Below → (x y : K) → Below x y → AtMost Below y x → ⊥
+not_above Below o x y p (inl q) = o.irreflexive x (o.transitive x y x p q)
+not_above Below o x y p (inr e) = o.irreflexive x (subst (λ z. Below x z) e p)
+
 pub at_most_trans : {K : Type 0} (Below : K → K → Type 0) (o : IsOrder K Below) (a b c : K) → AtMost Below a b → AtMost Below b c → AtMost Below a c
 at_most_trans Below o a b c (inl p) (inl q) = inl (o.transitive a b c p q)
 at_most_trans Below o a b c (inl p) (inr e) = inl (subst (λ z. Below a z) e p)
@@ -39,13 +43,9 @@ module _ {K : Type 0} (Below : K → K → Type 0) (add : K → K → K) (none :
     | inl p ↦ inl p
     | inr q ↦ elim q [
       | inl f ↦ inr f
-      | inr p ↦ absurd (above (add b c) (add a c) (keys.add_below b a c p) h)
+      | inr p ↦ absurd (not_above Below keys.order (add b c) (add a c) (keys.add_below b a c p) h)
     ]
   ]
-    where
-      above : (x y : K) → Below x y → AtMost Below y x → ⊥
-      above x y p (inl q) = keys.order.irreflexive x (keys.order.transitive x y x p q)
-      above x y p (inr e) = keys.order.irreflexive x (subst (λ z. Below x z) e p)
 
 pub ascending_below : {K : Type 0} (Below : K → K → Type 0) (xs : List K) (i j : ℕ) (d : K) → IsAscending Below xs → i < j → j < length xs → Below (get_or xs i d) (get_or xs j d)
 ascending_below Below [] i j d a l m = absurd (omega arith)

@@ -7,7 +7,8 @@ use Rattle.tdp_model.specs.Regions.{place_of, stands, completes, held, Region, i
 use Rattle.tdp_model.specs.StagedProblem.{IsStaged}
 use Rattle.tdp_model.proofs.Keys.{at_most_trans}
 use Rattle.tdp_model.proofs.Subtrees.{climbs_ordered, climbs_all}
-use Rattle.tdp_model.proofs.Division.{get_place, stands_place, past_found, empty_found, append_nil, times_pos}
+use Rattle.tdp_model.proofs.Division.{get_place, stands_place, past_found, empty_found, times_pos}
+use Rattle.std.proofs.lemmas.List.{append-nil}
 
 module _ {K : Type 0} (Below : K → K → Type 0) (o : IsOrder K Below) (members : List ℕ → List ℕ) (bound : List ℕ → K) (Reach : ℕ → List ℕ → Type 0)
     (staged : IsStaged K Below members bound Reach) where
@@ -25,7 +26,7 @@ module _ {K : Type 0} (Below : K → K → Type 0) (o : IsOrder K Below) (member
 
   pub bound_completes : (n : ℕ) (pre t : List ℕ) → Reach n pre → 0 < completes members n pre t → AtMost Below (bound pre) (bound (pre ++ t))
   unfolding completes
-  bound_completes zero pre t reach h = inr (ap bound (sym (append_nil pre) ∙ ap (λ z. pre ++ z) (sym (empty_found t h))))
+  bound_completes zero pre t reach h = inr (ap bound (sym (append-nil pre) ∙ ap (λ z. pre ++ z) (sym (empty_found t h))))
   bound_completes (suc n) pre [] reach h = absurd (omega arith)
   bound_completes (suc n) pre (r ∷ rest) reach h =
       let both : (0 < stands r (members pre)) × (0 < completes members n (pre ++ (r ∷ [])) rest) = times_pos _ _ h in

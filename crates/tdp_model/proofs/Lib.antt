@@ -27,3 +27,4 @@ pub mod Example
 pub mod Ranges
 pub mod OpenRanges
 pub mod KeyNumbers
+pub mod Chosen

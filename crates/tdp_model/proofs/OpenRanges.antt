@@ -6,7 +6,7 @@ use Rattle.tdp_model.specs.Below.{is_below}
 use Rattle.tdp_model.specs.TreeProblem.{sum_from, open_part, key_of, least_of, IsTree, IsReached, IsAbove}
 use Rattle.tdp_model.proofs.Picks.{pick_ge, pick_lt, pick_pos}
 use Rattle.tdp_model.proofs.Descent.{below_less, below_once, nodes_apart}
-use Rattle.tdp_model.proofs.Ranges.{sum_of, sum_of_le, sum_of_zero, sum_of_eq, sum_of_join, times_small, under_yes, under_no, weight_sum, span, weight_row}
+use Rattle.tdp_model.proofs.Ranges.{sum_of, sum_of_le, sum_of_zero, sum_of_eq, sum_of_join, times_small, weight_sum, span, weight_row}
 use Rattle.tdp_model.proofs.Bests.{best_had}
 use Rattle.tdp_model.proofs.TreeStaged.{other_of}
 
@@ -18,7 +18,7 @@ sum_of_first f (suc k) j q p e =
     let l : k + j + 1 ≡ suc k + j = omega arith in
     let h : suc (k + j) ≡ suc k + j = omega arith in
     subst (λ z. f q + sum_of f k (suc q) ≤ sum_of (λ u. cond (nat_lt u p) 1 0 * f u) z q) h
-    (omega (arith, ap (λ z. z * f q) (under_yes q p 1 (omega arith)), sum_of_first f k j (suc q) p (omega arith)))
+    (omega (arith, ap (λ z. z * f q) (pick_lt {K = ℕ} q p 1 0 (omega arith)), sum_of_first f k j (suc q) p (omega arith)))
 
 module _ (m : ℕ) (parent : ℕ → ℕ) (parents_first : (q : ℕ) → 0 < q → q < m → parent q < q) where
   -- how many nodes among the n from s on, with a parent below p, have u below them
@@ -32,34 +32,34 @@ module _ (m : ℕ) (parent : ℕ → ℕ) (parents_first : (q : ℕ) → 0 < q �
   none_open (suc n) p c s u l a lc top e h = elim (cases_lt (parent s) p) [
     | inl x ↦ omega (
       arith,
-      under_yes (parent s) p (is_below parent s u) x,
+      pick_lt {K = ℕ} (parent s) p (is_below parent s u) 0 x,
       nodes_apart m parent parents_first u c s u (omega arith) l (omega arith) (omega arith) (λ w. omega arith) h,
       none_open n p c (suc s) u l a (omega arith) (omega arith) e h,
     )
-    | inr x ↦ omega (arith, under_no (parent s) p (is_below parent s u) x, none_open n p c (suc s) u l a (omega arith) (omega arith) e h)
+    | inr x ↦ omega (arith, pick_ge {K = ℕ} (parent s) p (is_below parent s u) 0 x, none_open n p c (suc s) u l a (omega arith) (omega arith) e h)
   ]
 
   -- a node is before p, or below p, or below one open node after p
   open_once : (n p s u : ℕ) → u < m → p < m → p < s → s + n ≤ m → opens_with n p s u + (is_below parent p u + cond (nat_lt u p) 1 0) ≤ 1
   unfolding opens_with
   open_once zero p s u l lp a top = elim (cases_lt u p) [
-    | inl x ↦ omega (arith, below_less m parent parents_first p u l x, under_yes u p 1 x)
-    | inr x ↦ omega (arith, below_once m parent parents_first u p u (omega arith) l, under_no u p 1 x)
+    | inl x ↦ omega (arith, below_less m parent parents_first p u l x, pick_lt {K = ℕ} u p 1 0 x)
+    | inr x ↦ omega (arith, below_once m parent parents_first u p u (omega arith) l, pick_ge {K = ℕ} u p 1 0 x)
   ]
   open_once (suc n) p s u l lp a top = elim (cases_lt (parent s) p) [
-    | inr x ↦ omega (arith, under_no (parent s) p (is_below parent s u) x, open_once n p (suc s) u l lp (omega arith) (omega arith))
+    | inr x ↦ omega (arith, pick_ge {K = ℕ} (parent s) p (is_below parent s u) 0 x, open_once n p (suc s) u l lp (omega arith) (omega arith))
     | inl x ↦ elim (cases_lt 0 (is_below parent s u)) [
-      | inr z ↦ omega (arith, under_yes (parent s) p (is_below parent s u) x, open_once n p (suc s) u l lp (omega arith) (omega arith))
+      | inr z ↦ omega (arith, pick_lt {K = ℕ} (parent s) p (is_below parent s u) 0 x, open_once n p (suc s) u l lp (omega arith) (omega arith))
       | inl h ↦
           let above : parent p < p = parents_first p (omega arith) lp in
           let far : s ≤ u = at_least s u l h in
           omega (
             arith,
-            under_yes (parent s) p (is_below parent s u) x,
+            pick_lt {K = ℕ} (parent s) p (is_below parent s u) 0 x,
             below_once m parent parents_first u s u (omega arith) l,
             none_open n p s (suc s) u l (omega arith) (omega arith) (omega arith) x h,
             nodes_apart m parent parents_first u s p u (omega arith) l x (omega arith) (λ w. omega arith) h,
-            under_no u p 1 (omega arith),
+            pick_ge {K = ℕ} u p 1 0 (omega arith),
           )
     ]
   ]
@@ -79,12 +79,12 @@ module _ {K : Type 0} (Below : K → K → Type 0) (add : K → K → K) (none :
   open_span zero p s = sym (sum_of_zero (λ u. 0 * cap u) m 0 (λ u. omega arith))
   open_span (suc n) p s = elim (cases_lt (parent s) p) [
     | inl e ↦
-        ap (λ z. z + sum_of (λ q. cond (nat_lt (parent q) p) (span_of q) 0) n (suc s)) (under_yes (parent s) p (span_of s) e)
+        ap (λ z. z + sum_of (λ q. cond (nat_lt (parent q) p) (span_of q) 0) n (suc s)) (pick_lt {K = ℕ} (parent s) p (span_of s) 0 e)
         ∙ ap (λ z. span_of s + z) (open_span n p (suc s))
         ∙ sum_of_join (is_below parent s) (opens_with m parent tree.parents_first n p (suc s)) (opens_with m parent tree.parents_first (suc n) p s) cap m 0
-        (λ u. ap (λ z. z + opens_with m parent tree.parents_first n p (suc s) u) (under_yes (parent s) p (is_below parent s u) e))
+        (λ u. ap (λ z. z + opens_with m parent tree.parents_first n p (suc s) u) (pick_lt {K = ℕ} (parent s) p (is_below parent s u) 0 e))
     | inr e ↦
-        ap (λ z. z + sum_of (λ q. cond (nat_lt (parent q) p) (span_of q) 0) n (suc s)) (under_no (parent s) p (span_of s) e)
+        ap (λ z. z + sum_of (λ q. cond (nat_lt (parent q) p) (span_of q) 0) n (suc s)) (pick_ge {K = ℕ} (parent s) p (span_of s) 0 e)
         ∙ ap (λ z. 0 + z) (open_span n p (suc s))
         ∙ zero_plus (sum_of (λ u. opens_with m parent tree.parents_first n p (suc s) u * cap u) m 0)
         ∙ sum_of_eq (λ u. opens_with m parent tree.parents_first n p (suc s) u * cap u) (λ u. opens_with m parent tree.parents_first (suc n) p s u * cap u) m 0
@@ -95,7 +95,7 @@ module _ {K : Type 0} (Below : K → K → Type 0) (add : K → K → K) (none :
       zero_plus a = omega arith
 
       same_opens : (n p s u : ℕ) → p ≤ parent s → opens_with m parent tree.parents_first n p (suc s) u ≡ cond (nat_lt (parent s) p) (is_below parent s u) 0 + opens_with m parent tree.parents_first n p (suc s) u
-      same_opens n p s u e = omega (arith, under_no (parent s) p (is_below parent s u) e)
+      same_opens n p s u e = omega (arith, pick_ge {K = ℕ} (parent s) p (is_below parent s u) 0 e)
 
   -- a row's best stays within its node's span
   pub best_weight : (v r : ℕ) → v < m → IsRow v r → weight (best v r) ≤ span_of v
@@ -115,7 +115,7 @@ module _ {K : Type 0} (Below : K → K → Type 0) (add : K → K → K) (none :
           ap weight (pick_pos q (least_of add none m parent rank group best q (get_or pre (parent q) 0)) (cond (nat_lt (parent q) (length pre)) (least_of add none m parent rank group best q (get_or pre (parent q) 0)) none) (omega arith)
               ∙ pick_lt (parent q) (length pre) (least_of add none m parent rank group best q (get_or pre (parent q) 0)) none e),
           best_weight q (get_or (group q (get_or pre (parent q) 0)) 0 0) h row,
-          under_yes (parent q) (length pre) (span_of q) e,
+          pick_lt {K = ℕ} (parent q) (length pre) (span_of q) 0 e,
         )
     | inr e ↦
         omega (
@@ -123,7 +123,7 @@ module _ {K : Type 0} (Below : K → K → Type 0) (add : K → K → K) (none :
           ap weight (pick_pos q (least_of add none m parent rank group best q (get_or pre (parent q) 0)) (cond (nat_lt (parent q) (length pre)) (least_of add none m parent rank group best q (get_or pre (parent q) 0)) none) (omega arith)
               ∙ pick_ge (parent q) (length pre) (least_of add none m parent rank group best q (get_or pre (parent q) 0)) none e),
           weight_none,
-          under_no (parent q) (length pre) (span_of q) e,
+          pick_ge {K = ℕ} (parent q) (length pre) (span_of q) 0 e,
         )
   ]
 

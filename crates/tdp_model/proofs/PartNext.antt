@@ -1,7 +1,6 @@
 -- One answer of an enumeration by regions keeps what its queue is.
-use Rattle.std.proofs.Common.{◌≡◌, ℕ, zero, suc, ◌+◌, ◌<◌, ◌≤◌, Bool, true, false, cond, nat_eq, nat_lt, List, [], ◌∷◌, ◌++◌, length, get_or, refl, sym, ap, ◌∙◌, subst, inl, inr, arith}
+use Rattle.std.proofs.Common.{◌≡◌, ℕ, zero, suc, ◌+◌, ◌<◌, ◌≤◌, Bool, true, false, cond, nat_eq, List, [], ◌∷◌, ◌++◌, length, get_or, refl, sym, ap, ◌∙◌, subst, inl, inr, arith}
 use Rattle.std.proofs.lemmas.Bool.{cases_lt}
-use Rattle.std.proofs.lemmas.Bool.Decides.{nat_tests}
 use Rattle.rankings.specs.Order.{IsOrder}
 use Rattle.tdp_model.specs.Remains.{AtMost, Remains}
 use Rattle.tdp_model.specs.Regions.{past, completes, held, deviations, exactly, Region, in_region, in_regions, opening, best_of, divided}
@@ -12,6 +11,7 @@ use Rattle.tdp_model.proofs.Division.{past_same, held_past_end, completes_held, 
 use Rattle.tdp_model.proofs.Cover.{region_division}
 use Rattle.tdp_model.proofs.Keys.{at_most_trans}
 use Rattle.tdp_model.proofs.Least.{region_least, best_bound}
+use Rattle.tdp_model.proofs.Picks.{pick_lt, pick_ge}
 
 pub in_regions_append : (members : List ℕ → List ℕ) (xs ys : List Region) (s : List ℕ) → in_regions members (xs ++ ys) s ≡ in_regions members xs s + in_regions members ys s
 unfolding in_regions
@@ -27,12 +27,6 @@ past_zero (x ∷ xs) (y ∷ ys) = at (nat_eq x y) (past xs (λ t. 0) ys) (past_z
     at : (b : Bool) (z : ℕ) → z ≡ 0 → cond b z 0 ≡ 0
     at true z e = e
     at false z e = refl
-
-kept : (i n : ℕ) (xs ys : List Region) → i < n → cond (nat_lt i n) xs ys ≡ xs
-kept i n xs ys l = grind (arith, nat_tests)
-
-dropped : (i n : ℕ) (xs ys : List Region) → n ≤ i → cond (nat_lt i n) xs ys ≡ ys
-dropped i n xs ys l = grind (arith, nat_tests)
 
 whole_at : (members : List ℕ → List ℕ) (n : ℕ) (s : List ℕ) → completes members (suc n) [] s ≡ in_regions members (whole_region n ∷ []) s
 unfolding in_regions in_region past
@@ -78,8 +72,8 @@ module _ {K : Type 0} (Below : K → K → Type 0) (o : IsOrder K Below) (member
   unfolding in_regions present
   present_same [] s = refl
   present_same (r ∷ rs) s = elim (cases_lt r.place (length (members r.chosen))) [
-    | inl l ↦ ap (λ z. in_regions members z s) (kept r.place (length (members r.chosen)) (r ∷ present members rs) (present members rs) l) ∙ ap (λ z. in_region members r s + z) (present_same rs s)
-    | inr g ↦ ap (λ z. in_regions members z s) (dropped r.place (length (members r.chosen)) (r ∷ present members rs) (present members rs) g)
+    | inl l ↦ ap (λ z. in_regions members z s) (pick_lt r.place (length (members r.chosen)) (r ∷ present members rs) (present members rs) l) ∙ ap (λ z. in_region members r s + z) (present_same rs s)
+    | inr g ↦ ap (λ z. in_regions members z s) (pick_ge r.place (length (members r.chosen)) (r ∷ present members rs) (present members rs) g)
         ∙ omega (arith, present_same rs s, none_past members r s g)
   ]
 
@@ -87,8 +81,8 @@ module _ {K : Type 0} (Below : K → K → Type 0) (o : IsOrder K Below) (member
   unfolding present
   present_open [] a = tt
   present_open (r ∷ rs) a = elim (cases_lt r.place (length (members r.chosen))) [
-    | inl l ↦ subst (λ z. AllOpen members Reach z) (sym (kept r.place (length (members r.chosen)) (r ∷ present members rs) (present members rs) l)) ((a.0, l), present_open rs a.1)
-    | inr g ↦ subst (λ z. AllOpen members Reach z) (sym (dropped r.place (length (members r.chosen)) (r ∷ present members rs) (present members rs) g)) (present_open rs a.1)
+    | inl l ↦ subst (λ z. AllOpen members Reach z) (sym (pick_lt r.place (length (members r.chosen)) (r ∷ present members rs) (present members rs) l)) ((a.0, l), present_open rs a.1)
+    | inr g ↦ subst (λ z. AllOpen members Reach z) (sym (pick_ge r.place (length (members r.chosen)) (r ∷ present members rs) (present members rs) g)) (present_open rs a.1)
   ]
 
   pub deviations_reached : (n : ℕ) (pre : List ℕ) → Reach n pre → AllReached Reach (deviations members n pre)

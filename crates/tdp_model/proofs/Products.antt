@@ -7,6 +7,7 @@ use Rattle.tdp_model.specs.KeyLaws.{IsKeys}
 use Rattle.tdp_model.specs.Remains.{total, IsDivided}
 use Rattle.tdp_model.proofs.Keys.{add_at_most, ascending_at_most}
 use Rattle.tdp_model.specs.Product.{Pair, pair_key, is_pair, stands_for, same_pair, offered}
+use Rattle.tdp_model.proofs.Picks.{pick_eq}
 
 -- over numbers: the frontier's pair (i, j), and a pair (x, y) of the product of m and n
 split_numbers : (m n i j x y : ℕ) → i < m → j < n →
@@ -40,10 +41,7 @@ same_pair_only f p h =
     let g : pair_of p.left p.right ≡ pair_of f.left f.right = ap (λ i. pair_of i p.right) e.0 ∙ ap (λ j. pair_of f.left j) e.1 in g
 
 pub same_pair_at : (f : Pair) → same_pair f f ≡ 1
-same_pair_at f = at f.left f.right
-  where
-    at : (i j : ℕ) → cond {A = ℕ} (nat_eq i i) (cond (nat_eq j j) 1 0) 0 ≡ 1
-    at i j = grind (arith, nat_tests)
+same_pair_at f = pick_eq f.left f.left _ 0 refl ∙ pick_eq f.right f.right 1 0 refl
 
 total_cond : {R X : Type 0} (count : R → X → ℕ) (b : Bool) (xs ys : List R) (x : X) → total count (cond b xs ys) x ≡ cond b (total count xs x) (total count ys x)
 total_cond count true xs ys x = refl

@@ -4,6 +4,7 @@ use Rattle.std.proofs.Common.{◌≡◌, ℕ, ◌+◌, ◌<◌, ◌≤◌, List,
 use Rattle.rankings.specs.Order.{IsOrder, IsMember}
 use Rattle.tdp_model.specs.Remains.{AtMost, Remains}
 use Rattle.rankings.proofs.Members.{below_member}
+use Rattle.tdp_model.proofs.Keys.{not_above}
 
 module _ {X K : Type 0} (Below : K → K → Type 0) (o : IsOrder K Below) (key : X → K) (count one rest : X → ℕ) (b : X)
     (split : (x : X) → count x ≡ one x + rest x) (at : 0 < one b) (only : (x : X) → 0 < one x → x ≡ b)
@@ -11,15 +12,11 @@ module _ {X K : Type 0} (Below : K → K → Type 0) (o : IsOrder K Below) (key 
   held_best : 0 < count b
   held_best = omega (arith, split b)
 
-  not_above : (k l : K) → Below k l → AtMost Below l k → ⊥
-  not_above k l p (inl q) = o.irreflexive k (o.transitive k l k p q)
-  not_above k l p (inr e) = o.irreflexive k (subst (λ z. Below k z) e p)
-
   head_is : (k : K) (ks : List K) → Remains X K Below key count (k ∷ ks) → IsMember (key b) (k ∷ ks) → key b ≡ k
   head_is k ks r (inl e) = e
   head_is k ks r (inr m) =
       let s : (x : X) × (0 < count x) × (key x ≡ k) = r.sound k (inl refl) in
-      absurd (not_above k (key b) (below_member Below k (key b) ks r.ascending.0 m) (subst (λ z. AtMost Below (key b) z) s.2 (least s.0 s.1)))
+      absurd (not_above Below o k (key b) (below_member Below k (key b) ks r.ascending.0 m) (subst (λ z. AtMost Below (key b) z) s.2 (least s.0 s.1)))
 
   spent : (x : X) → count b ≤ 1 → x ≡ b → 0 < rest x → ⊥
   spent x u e h = let h' : 0 < rest b = subst (λ z. 0 < rest z) e h in omega (arith, split b)

@@ -1,7 +1,6 @@
 -- Ties below a node: a subtree solution's key is determined by the numbers in its slots, and so are the two parts of a product.
-use Rattle.std.proofs.Common.{◌≡◌, ◌≢◌, ℕ, zero, suc, ◌+◌, ◌-◌, ◌<◌, ◌≤◌, cond, nat_eq, List, length, get_or, refl, sym, ap, ◌∙◌, subst, inl, inr, arith}
+use Rattle.std.proofs.Common.{◌≡◌, ◌≢◌, ℕ, zero, suc, ◌+◌, ◌-◌, ◌<◌, ◌≤◌, List, length, get_or, refl, sym, ap, ◌∙◌, subst, inl, inr, arith}
 use Rattle.std.proofs.lemmas.Bool.{cases_lt}
-use Rattle.std.proofs.lemmas.Bool.Decides.{nat_tests}
 use Rattle.tdp_model.specs.KeyLaws.{IsKeys}
 use Rattle.tdp_model.specs.Below.{is_below}
 use Rattle.tdp_model.specs.TreeProblem.{sum_from, kid_key, RowHas, GroupHas, PartHas, IsTieFree}
@@ -10,20 +9,15 @@ use Rattle.tdp_model.proofs.Keys.{cancel}
 use Rattle.tdp_model.proofs.Sums.{sum_same}
 use Rattle.tdp_model.proofs.Ties.{slot_zero, slot_at}
 use Rattle.tdp_model.proofs.Descent.{below_itself, below_less, kids_apart, child_below}
+use Rattle.tdp_model.proofs.Picks.{pick_eq, pick_ne}
 
 pub kid_yes : {K : Type 0} (none : K) (parent : ℕ → ℕ) (v : ℕ) (f : ℕ → K) (q : ℕ) → parent q ≡ v → kid_key none parent v f q ≡ f q
 unfolding kid_key
-kid_yes none parent v f q e = at (parent q) v (f q) none e
-  where
-    at : {K : Type 0} (x y : ℕ) (a b : K) → x ≡ y → cond (nat_eq x y) a b ≡ a
-    at x y a b e = grind (arith, nat_tests)
+kid_yes none parent v f q e = pick_eq (parent q) v (f q) none e
 
 pub kid_no : {K : Type 0} (none : K) (parent : ℕ → ℕ) (v : ℕ) (f : ℕ → K) (q : ℕ) → parent q ≢ v → kid_key none parent v f q ≡ none
 unfolding kid_key
-kid_no none parent v f q e = at (parent q) v (f q) none e
-  where
-    at : {K : Type 0} (x y : ℕ) (a b : K) → x ≢ y → cond (nat_eq x y) a b ≡ b
-    at x y a b e = grind (arith, nat_tests)
+kid_no none parent v f q e = pick_ne (parent q) v (f q) none e
 
 module _ {K : Type 0} (Below : K → K → Type 0) (add : K → K → K) (none : K) (keys : IsKeys K Below add none)
     (m : ℕ) (parent : ℕ → ℕ) (rank : ℕ → ℕ → K) (group : ℕ → ℕ → List ℕ) (parents_first : (q : ℕ) → 0 < q → q < m → parent q < q)

@@ -1,5 +1,5 @@
 -- What an enumeration still holds, as a count of each solution, and the ranking of that.
-use Rattle.std.specs.Prelude.{◌≡◌, ℕ, ◌+◌, ◌<◌, ◌≤◌, ◌⊎◌, List, [], ◌∷◌, ◌++◌}
+use Rattle.std.specs.Prelude.{◌≡◌, ℕ, ◌+◌, ◌<◌, ◌≤◌, ◌⊎◌, List, [], ◌∷◌}
 use Rattle.rankings.specs.Order.{IsMember, IsAscending}
 
 abbrev pub AtMost : {K : Type 0} → (K → K → Type 0) → K → K → Type 0
@@ -33,11 +33,3 @@ pub record IsDivided (R X K : Type 0) (Below : K → K → Type 0) (key : X → 
 abbrev pub IsLeastKey : {R X K : Type 0} → (K → K → Type 0) → (X → K) → (R → X → ℕ) → K → List R
     → Type 0
 IsLeastKey {R} {X} Below key count k rs = (x : X) → 0 < total count rs x → AtMost Below k (key x)
-
--- A stream of the ranking `whole`: `given` has been passed, and the queue holds the rest. The
--- queue's top, if there is one, is the entry that follows `given`.
-pub record IsStream (R X K : Type 0) (Below : K → K → Type 0) (key : X → K) (count : R → X → ℕ)
-    (whole given : List K) (queue : List R) : Type 0 where
-  pub rest : List K
-  pub joined : whole ≡ given ++ rest
-  pub remains : Remains X K Below key (total count queue) rest

@@ -39,10 +39,7 @@ module _ (d : ℕ) (query : Query) (tables : List Table) (few : length query.ite
   pub combinations_told : (list : List (List ℕ)) → AllByRecursion (IsCombination (row_counts query.items tables)) list
       → combinations_in query (answers_of_ranking d query tables list) ≡ list
   combinations_told [] all = refl
-  combinations_told (rows ∷ list) all =
-      let first = same_rows rows all.0 in
-      let rest = combinations_told list all.1 in
-      λ i. first i ∷ rest i
+  combinations_told (rows ∷ list) all = λ i. (same_rows rows all.0) i ∷ (combinations_told list all.1) i
 
   pub combinations_all : (list : List (List ℕ)) → AllByRecursion (IsCombination (row_counts query.items tables)) list
       → AreCombinations query tables (answers_of_ranking d query tables list)

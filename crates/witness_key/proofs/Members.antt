@@ -1,16 +1,6 @@
--- Members of a mapped list, and an ascending list that stays ascending.
-use Rattle.std.proofs.Common.{◌≡◌, List, [], ◌∷◌, map, refl, ap, inl, inr}
+-- An ascending list stays ascending if it is mapped in order.
+use Rattle.std.proofs.Common.{List, [], ◌∷◌, map, refl, inl, inr}
 use Rattle.rankings.specs.Order.{IsMember, BelowAll, IsAscending}
-
-pub member_map : {A B : Type 0} (f : A → B) (x : A) (xs : List A) → IsMember x xs → IsMember (f x) (map f xs)
-member_map f x [] m = absurd m
-member_map f x (y ∷ xs) (inl e) = inl (ap f e)
-member_map f x (y ∷ xs) (inr m) = inr (member_map f x xs m)
-
-pub map_member : {A B : Type 0} (f : A → B) (y : B) (xs : List A) → IsMember y (map f xs) → (x : A) × IsMember x xs × (y ≡ f x)
-map_member f y [] m = absurd m
-map_member f y (x ∷ xs) (inl e) = (x, inl refl, e)
-map_member f y (x ∷ xs) (inr m) = let p = map_member f y xs m in (p.0, inr p.1, p.2)
 
 module _ {A B : Type 0} (f : A → B) (Has : A → Type 0) (Below : A → A → Type 0) (Under : B → B → Type 0)
     (keeps : (x y : A) → Has x → Has y → Below x y → Under (f x) (f y)) where

@@ -58,9 +58,7 @@ slots_tell e (u ∷ us) [] few same alike = absurd (omega arith)
 slots_tell zero (u ∷ us) (v ∷ vs) few same alike = absurd (omega arith)
 slots_tell (suc e) (u ∷ us) (v ∷ vs) few same alike =
     let head : u ≡ v = ap (λ (k : SlotsOf (suc e)). k.0) alike in
-    let tail : slots_of_list e us ≡ slots_of_list e vs = ap (λ (k : SlotsOf (suc e)). k.1) alike in
-    let rest = slots_tell e us vs (omega arith) (omega arith) tail in
-    λ i. head i ∷ rest i
+    λ i. head i ∷ (slots_tell e us vs (omega arith) (omega arith) (ap (λ (k : SlotsOf (suc e)). k.1) alike)) i
 
 pub keys_tell : (d e : ℕ) (xs ys : List ℤ) (us vs : List ℕ) → length us ≤ e → length us ≡ length vs
     → key_of_lists d e xs us ≡ key_of_lists d e ys vs → us ≡ vs

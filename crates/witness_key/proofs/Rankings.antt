@@ -11,10 +11,10 @@ use Rattle.anyk_model.specs.Query.{Item, Query, IsWitness, rank_of, row_counts}
 use Rattle.anyk_model.specs.Ranking.{Precedes, ranking_of}
 use Rattle.anyk_model.proofs.Exists.{ranking_is}
 use Rattle.witness_key.specs.WitnessKey.{IsWitnessKey, witness_key}
-use Rattle.witness_key.proofs.Members.{ascending_map, map_member, member_map}
+use Rattle.rankings.proofs.Members.{member_map, member_unmap}
+use Rattle.witness_key.proofs.Members.{ascending_map}
 use Rattle.witness_key.proofs.Orders.{keys_agree_lem, keys_tell}
 
--- a combination has a row of each item
 -- a witness has a row of each item
 pub witness_length : (query : Query) (tables : List Table) (rows : List ℕ) → IsWitness query tables rows → length rows ≡ length query.items
 witness_length query tables rows w =
@@ -46,7 +46,7 @@ module _ (d : ℕ) (query : Query) (tables : List Table) where
             (λ a b p q. (orders_agree a b keys items (witness_length query tables a p) (witness_length query tables b q)).1)
             list ranking.sound ranking.ascending;
         sound = λ k m.
-            let from = map_member key k list m in
+            let from = member_unmap key k list m in
             record { rows = from.0; witness = ranking.sound from.0 from.1; is = from.2 };
         complete = λ k w. subst (λ l. IsMember l (map key list)) (sym w.is) (member_map key w.rows list (ranking.complete w.rows w.witness));
       }

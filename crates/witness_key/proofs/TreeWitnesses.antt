@@ -38,18 +38,15 @@ module _ (query : Query) (tables : List Table) (graph : Hypergraph) (atoms paren
   -- a node of an item
   node_of : (a : ℕ) → a < length query.items → (k : ℕ) × (k < length query.items) × (atom k ≡ a)
   node_of a l =
-      let c = as_many in
-      let g = of_query.atoms in
-      let k = tree.each a (omega (arith, g, l)) in
-      let inside = k.1 in (k.0, omega (arith, inside, c), k.2)
+      let k = tree.each a (omega (arith, of_query.atoms, l)) in
+      let inside = k.1 in (k.0, omega (arith, inside, as_many), k.2)
 
   -- the nodes' items are the items, each once
   pub nodes_ordered : IsOrderOf (length query.items) (slice_index atoms)
   nodes_ordered =
       let c = as_many in
-      let g = of_query.atoms in
       record {
-        within = λ v l. let h = tree.within v (omega (arith, c, l)) in omega (arith, h, g);
+        within = λ v l. let h = tree.within v (omega (arith, c, l)) in omega (arith, h, of_query.atoms);
         distinct = λ u v less l e. tree.distinct u v less (omega (arith, c, l)) e;
         each = node_of;
       }
@@ -60,9 +57,7 @@ module _ (query : Query) (tables : List Table) (graph : Hypergraph) (atoms paren
       ≡ witness_key d query tables rows
   nodes_add rows d within count =
       let f : ℕ → KeyOf d 16 = λ q. item_key d query tables rows (atom q) in
-      let atoms_few = of_query.is_graph.few in
-      let same = of_query.atoms in
-      let few : length query.items ≤ 16 = omega (arith, atoms_few, same) in
+      let few : length query.items ≤ 16 = omega (arith, of_query.is_graph.few, of_query.atoms) in
       ap (λ n. sum_from (key_add d 16) (key_none d 16) f n 0) as_many
       ∙ keys_add query tables within d (slice_index atoms) rows f few nodes_ordered count (λ v l. refl)
 
@@ -102,9 +97,8 @@ module _ (query : Query) (tables : List Table) (graph : Hypergraph) (atoms paren
 
         one_place : (k p q : ℕ) → Has (atom k) number p → Has (atom k) number q → p ≡ q
         one_place k p q a b =
-            let less = a.least q (linked_append (linked_back a.linked) b.linked) in
             let more = b.least p (linked_append (linked_back b.linked) a.linked) in
-            omega (arith, less, more)
+            omega (arith, a.least q (linked_append (linked_back a.linked) b.linked), more)
 
         nodes_agree : (j k p q : ℕ) → j < length query.items → k < length query.items
             → Has (atom j) number p → Has (atom k) number q → field (atom j) p ≡ field (atom k) q

@@ -40,8 +40,7 @@ module _ (d : ℕ) (f : ℕ → KeyOf d 16) where
   whole_slots i (suc n) q =
       let next : suc q ≡ q + 1 = omega arith in
       let rest = whole_slots i n (suc q) ∙ ap (λ r. total (map (λ v. pos (slot_of d 16 i (f v))) (range_with_len r n))) next in
-      let both = slot_of_add d 16 i (f q) (whole n (suc q)) in
-      omega (arith, ints, rest, both)
+      omega (arith, ints, rest, slot_of_add d 16 i (f q) (whole n (suc q)))
 
 -- the slots of the key of one row
 slot_alone : (slot row i : ℕ) → i < 16 → get_or (set (replicate 16 0) slot row) i 0 ≡ cond (i == slot) row 0

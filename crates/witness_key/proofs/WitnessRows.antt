@@ -1,12 +1,11 @@
 -- Combinations of rows, place by place, and variables by their number in another list.
-use Rattle.std.proofs.Common.{◌≡◌, ◌<◌, ◌≤◌, ℕ, suc, List, [], ◌∷◌, length, get_or, sym, subst, inl, inr, arith}
+use Rattle.std.proofs.Common.{◌≡◌, ◌<◌, ◌≤◌, ℕ, suc, List, [], ◌∷◌, length, get_or, sym, subst, arith}
 use Rattle.std.proofs.lemmas.List.{get_or-map, length-map}
-use Rattle.rankings.specs.Order.{IsMember}
 use Rattle.anyk_model.specs.Table.{Table, table_at}
 use Rattle.anyk_model.specs.Query.{Column, Equality, IsCombination, Item, Query, item_table, row_counts}
 use Rattle.anyk_model.proofs.Combinations.{combination_at, combination_length}
 use Rattle.bound_query.specs.Classes.{AreVariables, HasVariable, Linked, variable_at}
-use Rattle.bound_query.proofs.Least.{at_member}
+use Rattle.bound_query.proofs.Least.{at_member, member_at}
 
 -- ---- combinations
 
@@ -43,8 +42,7 @@ module _ (query : Query) (tables : List Table) (rows : List ℕ) where
 
   pub each_of_combination : IsCombination (row_counts query.items tables) rows → (i : ℕ) → i < length query.items → IsThere i
   each_of_combination c i inside =
-      let size = counts_length in
-      let at = combination_at (row_counts query.items tables) rows i c (omega (arith, size, inside)) in
+      let at = combination_at (row_counts query.items tables) rows i c (omega (arith, counts_length, inside)) in
       (at.0, subst (λ m. get_or rows i 0 ≤ m) (count_at i inside) at.1)
 
   pub length_of_combination : IsCombination (row_counts query.items tables) rows → length rows ≡ length query.items
@@ -52,15 +50,10 @@ module _ (query : Query) (tables : List Table) (rows : List ℕ) where
 
 -- ---- variables
 
-number_at : (c : Column) (list : List Column) → IsMember c list → (n : ℕ) × (n < length list) × (variable_at list n ≡ c)
-number_at c [] m = absurd m
-number_at c (x ∷ list) (inl e) = (0, omega arith, sym e)
-number_at c (x ∷ list) (inr m) = let p = number_at c list m in let h = p.1 in (suc p.0, omega (arith, h), p.2)
-
 module _ (es : List Equality) (variables others : List Column) (known : AreVariables es variables) (too : AreVariables es others) where
   -- a variable has a number in the other list
   pub other_number : (n : ℕ) → n < length variables → (m : ℕ) × (m < length others) × (variable_at others m ≡ variable_at variables n)
-  other_number n l = number_at (variable_at variables n) others ((too.members (variable_at variables n)).1 ((known.members (variable_at variables n)).0 (at_member variables n l)))
+  other_number n l = member_at (variable_at variables n) others ((too.members (variable_at variables n)).1 ((known.members (variable_at variables n)).0 (at_member variables n l)))
 
 -- it is a variable of the same items there
 pub numbered_again : (es : List Equality) (variables others : List Column) (n m i p : ℕ) → m < length others → variable_at others m ≡ variable_at variables n

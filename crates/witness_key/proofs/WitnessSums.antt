@@ -1,11 +1,12 @@
 -- Sums over numbers in another order, and lists that are chosen place by place.
-use Rattle.std.proofs.Common.{◌≡◌, ◌≢◌, ◌+◌, ◌<◌, ◌==◌, ℕ, zero, suc, Bool, true, false, cond, ℤ, pos, ◌+ℤ◌, List, [], ◌∷◌, map, length, get_or, refl, sym, ap, ◌∙◌, inl, inr, arith}
+use Rattle.std.proofs.Common.{◌≡◌, ◌≢◌, ◌+◌, ◌<◌, ◌==◌, ℕ, zero, suc, Bool, true, false, cond, ℤ, pos, ◌+ℤ◌, map, refl, sym, ap, ◌∙◌, inl, inr, arith}
 use Rattle.std.specs.List.{range_with_len}
 use Rattle.std.proofs.lemmas.Bool.{cases_eq}
 use Rattle.std.proofs.lemmas.Bool.Decides.{Decides-eqb}
 use Rattle.std.proofs.lemmas.Int.{ints}
 use Rattle.anyk_model.specs.Query.{total}
 use Rattle.bound_query.proofs.Parts.{picks}
+pub use Rattle.tdp_model.proofs.Chosen.{Chosen, choose}
 
 -- ---- tests of equal numbers
 
@@ -28,10 +29,7 @@ total_zeros a (suc n) = let h = total_zeros (a + 1) n in omega (arith, ints, h)
 -- values that are equal on the range have equal sums
 total_within : (f g : ℕ → ℤ) (a n m : ℕ) → a + n ≡ m → ((i : ℕ) → i < m → f i ≡ g i) → total (map f (range_with_len a n)) ≡ total (map g (range_with_len a n))
 total_within f g a zero m at e = refl
-total_within f g a (suc n) m at e =
-    let h = total_within f g (a + 1) n m (omega arith) e in
-    let first = e a (omega arith) in
-    omega (arith, ints, h, first)
+total_within f g a (suc n) m at e = omega (arith, ints, total_within f g (a + 1) n m (omega arith) e, e a (omega arith))
 
 pub total_same : (f g : ℕ → ℤ) (n : ℕ) → ((i : ℕ) → i < n → f i ≡ g i) → total (map f (range_with_len 0 n)) ≡ total (map g (range_with_len 0 n))
 total_same f g n e = total_within f g 0 n n (omega arith) e
@@ -46,10 +44,7 @@ total_last f n = last_at f 0 n n (omega arith)
 
 -- the sum of a function that is 0 except at one number
 pub total_one : (m n : ℕ) (v : ℕ → ℤ) → m < n → total (map (λ (i : ℕ). cond (m == i) (v i +ℤ pos 0) (pos 0)) (range_with_len 0 n)) ≡ v m
-total_one m n v inside =
-    let h = picks m v (λ i. pos 0) 0 n (omega arith) (omega arith) in
-    let none = total_zeros 0 n in
-    omega (arith, ints, h, none)
+total_one m n v inside = omega (arith, ints, picks m v (λ i. pos 0) 0 n (omega arith) (omega arith), total_zeros 0 n)
 
 -- ---- numbers below n in another order
 
@@ -70,10 +65,8 @@ module _ (n : ℕ) (item : ℕ → ℕ) (order : IsOrderOf n item) (g : ℕ → 
   met_total zero few = sym (total_zeros 0 n)
   met_total (suc k) few =
       let inside : item k < n = order.within k (omega arith) in
-      let h = met_total k (omega arith) in
-      let more = total_last (λ v. g (item v)) k in
       let p : total (map (met (suc k)) (range_with_len 0 n)) ≡ g (item k) +ℤ total (map (met k) (range_with_len 0 n)) = picks (item k) g (met k) 0 n (omega arith) (omega arith) in
-      omega (arith, ints, h, more, p)
+      omega (arith, ints, met_total k (omega arith), total_last (λ v. g (item v)) k, p)
 
   met_none : (k a : ℕ) → ((v : ℕ) → v < k → item v ≢ a) → met k a ≡ pos 0
   unfolding met
@@ -88,9 +81,8 @@ module _ (n : ℕ) (item : ℕ → ℕ) (order : IsOrderOf n item) (g : ℕ → 
   met_one (suc k) a v few l e = elim (cases_eq v k) [
     | inl is ↦
         let here : item k ≡ a = ap item (sym is) ∙ e in
-        let rest : met k a ≡ pos 0 = met_none k a (λ u m s. order.distinct u k m (omega arith) (s ∙ sym here)) in
         let step : met (suc k) a ≡ g a +ℤ met k a = ap (λ (b : Bool). cond b (g a +ℤ met k a) (met k a)) (equal_test (item k) a here) in
-        omega (arith, ints, rest, step)
+        omega (arith, ints, met_none k a (λ u m s. order.distinct u k m (omega arith) (s ∙ sym here)), step)
     | inr other ↦
         let below : v < k = omega (arith, other, l) in
         let there : item k ≢ a = λ s. order.distinct v k below (omega arith) (e ∙ sym s) in
@@ -102,22 +94,3 @@ module _ (n : ℕ) (item : ℕ → ℕ) (order : IsOrderOf n item) (g : ℕ → 
   total_reordered =
       met_total n (omega arith)
       ∙ total_same (met n) g n (λ a l. let at = order.each a l in met_one n a at.0 (omega arith) at.1 at.2)
-
--- ---- lists that are chosen place by place
-
--- if there is a number with P at each place below n, there is a list of them
-pub record Chosen (n : ℕ) (P : ℕ → ℕ → Type 0) : Type 0 where
-  pub list : List ℕ
-  pub count : length list ≡ n
-  pub each : (a : ℕ) → a < n → P a (get_or list a 0)
-
-pub choose : (n : ℕ) (P : ℕ → ℕ → Type 0) → ((a : ℕ) → a < n → (x : ℕ) × P a x) → Chosen n P
-choose zero P f = record { list = []; count = refl; each = λ a l. absurd (omega arith) }
-choose (suc n) P f =
-    let first = f 0 (omega arith) in
-    let rest = choose n (λ a. P (suc a)) (λ a l. f (suc a) (omega arith)) in
-    record { list = first.0 ∷ rest.list; count = ap suc rest.count; each = pick first.0 first.1 rest.list rest.each }
-  where
-    pick : (x : ℕ) → P 0 x → (list : List ℕ) → ((a : ℕ) → a < n → P (suc a) (get_or list a 0)) → (a : ℕ) → a < suc n → P a (get_or (x ∷ list) a 0)
-    pick x p list rest zero l = p
-    pick x p list rest (suc a) l = rest a (omega arith)

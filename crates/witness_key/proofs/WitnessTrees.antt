@@ -12,8 +12,7 @@ module _ {X : Type 0} (parents : List ℕ) (At : ℕ → ℕ → Type 0) (value 
   one_node : (j k p q : ℕ) → j ≡ k → At j p → At k q → value j p ≡ value k q
   one_node j k p q same a b =
       let here : At j q = subst (λ i. At i q) (sym same) b in
-      let place : p ≡ q = alone j p q a here in
-      subst (λ i. value j p ≡ value i q) same (ap (value j) place)
+      subst (λ i. value j p ≡ value i q) same (ap (value j) (alone j p q a here))
 
   places_agree : (n j k p q : ℕ) → j + k ≤ n → j < length parents → k < length parents → At j p → At k q → value j p ≡ value k q
   places_agree zero j k p q s lj lk a b = one_node j k p q (omega arith) a b

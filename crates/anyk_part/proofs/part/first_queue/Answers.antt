@@ -21,8 +21,7 @@ returns-then-not-live-clause-part g c =
 
 pub best-best-requires-clause-row : goal.best-best-requires-clause-row
 best-best-requires-clause-row g c =
-    let t = c.args.tree.now in
-    let formed = c.live.ensures.formed in
+    let t = c.args.tree.now in let formed = c.live.ensures.formed in
     let some : 0 < length t = omega (arith, formed.shaped.some_node) in
     let full : 0 < length (members t 0 0) = search rules in
     subst (λ r. r < rows t 0) (sym c.member-row.ensures.member) (member_is_row g.R.Rank.KEYS g.R.Rank.key t formed 0 0 0 some full)

@@ -9,8 +9,7 @@ loop-node-init g c = record { long = search rules; placed = λ v some below insi
 
 pub loop-node-preserved : goal.loop-node-preserved
 loop-node-preserved g c =
-    let t = c.args.tree.now in
-    let l = c.loop-node.invariant in
+    let t = c.args.tree.now in let l = c.loop-node.invariant in
     record {
       long = length-set c.loop-node.places c.loop-node.node c.child_place.result ∙ l.long;
       placed = placed_next (λ v p. (p ≡ child_place t v) × (p < child_count t (parent t v))) c.loop-node.places c.loop-node.node c.child_place.result (length t)

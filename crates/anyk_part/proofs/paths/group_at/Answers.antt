@@ -4,16 +4,14 @@ use Rattle.anyk_part.proofs.paths.group_at.Goals as goal
 
 pub bounds-chosen-parent : goal.bounds-chosen-parent
 bounds-chosen-parent g c =
-    let t = c.args.tree.now in
     let some : 0 < c.args.node = search rules in
-    let is : c.shape.result.now.parent ≡ parent t c.args.node = search rules in
+    let is : c.shape.result.now.parent ≡ parent c.args.tree.now c.args.node = search rules in
     omega (arith, c.requires.formed.shaped.parents_first c.args.node some c.requires.node, c.requires.formed.shaped.few_nodes, is, c.requires.node)
 
 pub group_of-requires-clause-node : goal.group_of-requires-clause-node
 group_of-requires-clause-node g c =
-    let t = c.args.tree.now in
     let some : 0 < c.args.node = search rules in
-    let is : c.shape.result.now.parent ≡ parent t c.args.node = search rules in
+    let is : c.shape.result.now.parent ≡ parent c.args.tree.now c.args.node = search rules in
     omega (arith, c.requires.formed.shaped.parents_first c.args.node some c.requires.node, is, c.requires.node)
 
 pub group_of-requires-clause-row : goal.group_of-requires-clause-row

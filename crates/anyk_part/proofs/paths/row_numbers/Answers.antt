@@ -7,8 +7,7 @@ use Rattle.anyk_part.proofs.paths.row_numbers.Goals as goal
 
 pub loop-node-preserved : goal.loop-node-preserved
 loop-node-preserved g c =
-    let t = c.args.tree.now in
-    let l = c.loop-node.invariant in
+    let t = c.args.tree.now in let l = c.loop-node.invariant in
     let n : ℕ = c.loop-node.node in
     let of : ℕ → ℕ = λ u. number t u (get_or c.args.chosen.now u 0) in
     let shaped = c.nodes-node-end.ensures.formed.shaped in
@@ -27,8 +26,7 @@ loop-node-preserved g c =
 
 pub returns-clause-numbers : goal.returns-clause-numbers
 returns-clause-numbers g c =
-    let t = c.args.tree.now in
-    let l = c.loop-node.invariant in
+    let t = c.args.tree.now in let l = c.loop-node.invariant in
     let end : length t ≤ c.loop-node.node = search rules in
     numbers_are g.R.Rank.KEYS g.R.Rank.key t c.nodes-node-end.ensures.formed c.requires.tie_free c.loop-node.numbers c.args.chosen.now l.long c.told-chosen c.requires.rows
     (λ u h. l.own u (omega (arith, h, end))) (λ i no_one. l.others i (λ u h. no_one u (omega (arith, h, l.to))))

@@ -1,7 +1,6 @@
-use Rattle.std.proofs.Common.{◌≡◌, ◌+◌, ◌<◌, ◌≤◌, ◌∙◌, ℕ, Bool, false, true, nat_lt, List, [], length, inl, inr, ap, sym, subst, arith}
+use Rattle.std.proofs.Common.{◌≡◌, ◌+◌, ◌<◌, ◌≤◌, ◌∙◌, ℕ, Bool, false, true, nat_lt, List, [], length, ap, sym, subst, arith}
 use Rattle.std.specs.List.{All}
-use Rattle.std.proofs.lemmas.Bool.{false≢true, lt-ltb, cases_lt}
-use Rattle.std.proofs.lemmas.Bool.Decides.{nat_tests}
+use Rattle.std.proofs.lemmas.Bool.{ltb-false, ltb-true}
 use Rattle.std.proofs.lemmas.List.{get_or_past}
 use Rattle.std.proofs.lemmas.Result.{IfOk-from_err}
 use Rattle.std.proofs.lemmas.List.Elements.{All-nil}
@@ -19,7 +18,7 @@ use Rattle.best_per.proofs.queue.first_queue.Goals as goal
 
 -- what a test that failed says
 none_below : (n : ℕ) (b : Bool) → b ≡ nat_lt 0 n → b ≡ false → n ≤ 0
-none_below n b is fails = elim (cases_lt 0 n) [ inl some ↦ absurd (false≢true (sym fails ∙ is ∙ lt-ltb 0 n some)) | inr none ↦ none ]
+none_below n b is fails = ltb-false 0 n (sym is ∙ fails)
 
 some_room : (n room : ℕ) → n + 1 ≤ room → 0 < room
 some_room n room l = omega (arith, l)
@@ -34,10 +33,7 @@ one_bit : bit_length 1 ≡ 1
 one_bit = bit_length_is 1 1 (omega arith) (λ _. omega arith)
 
 is_live : (n : ℕ) (b : Bool) → b ≡ nat_lt 0 n → b ≡ true → 0 < n
-is_live n b is holds = elim (cases_lt 0 n) [ inl some ↦ some | inr none ↦ absurd (not_below n none (sym is ∙ holds)) ]
-  where
-    not_below : (n : ℕ) → n ≤ 0 → nat_lt 0 n ≡ true → ⊥
-    not_below n none test = grind (arith, nat_tests)
+is_live n b is holds = ltb-true 0 n (sym is ∙ holds)
 
 -- the queue over a tree without solutions
 none_begins : {R : Type 0} (d : ℕ) (key : R → KeyOf d 16) (t : List (NodeView R)) (es : List (Entry R ℕ)) (spare : ℕ) → IsFormed d key t → IsTieFreeTree t → group_count t 0 ≤ 0 → es ≡ []
@@ -50,8 +46,7 @@ none_begins {R} d key t es spare formed apart dead is =
 pub offer-requires-clause-entries : goal.offer-requires-clause-entries
 offer-requires-clause-entries g c =
     let Placed : Entry g.row.R.Denot ℕ → Type 0 = IsPlace g.R.Rank.KEYS g.R.Rank.key c.args.tree.now in
-    let empty : c.reserve.new.self.entries ≡ [] = c.reserve.ensures.entries ∙ c.new-queue.ensures.entries in
-    subst (All Placed) (sym empty) (All-nil Placed)
+    subst (All Placed) (sym (c.reserve.ensures.entries ∙ c.new-queue.ensures.entries)) (All-nil Placed)
 
 pub returns-in_err-reserve : goal.returns-in_err-reserve
 returns-in_err-reserve g c =

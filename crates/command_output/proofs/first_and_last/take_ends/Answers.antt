@@ -2,11 +2,22 @@ use Rattle.std.proofs.Common.{◌+◌, refl, arith}
 use Rattle.std.proofs.lemmas.List.{length-take-le}
 use Rattle.std.proofs.lemmas.Result.{IfOk-from_err}
 use Rattle.bound_query.proofs.Pacing.{calls_more, calls_same}
-use Rattle.bound_query.proofs.Calls.{called_more, counted_few, limit_below, limit_reached, limit_within}
+use Rattle.bound_query.proofs.Calls.{called_more, counted_few, limit_below, limit_reached, limit_within, HasCalled}
 use Rattle.command_output.proofs.GivenEnds.{calls_within, taken_all, taken_limit, taken_more}
 use Rattle.tdp_core.proofs.OptionFacts.{at_none, at_some}
 use Rattle.command_output.proofs.Limits.{none_within, reached_within}
+use Rattle.command_output.proofs.first_and_last.take_ends.Given.{Over}
+use Rattle.command_output.proofs.first_and_last.take_ends.Goals.{After-next}
 use Rattle.command_output.proofs.first_and_last.take_ends.Goals as goal
+
+-- the calls, with the next one
+called_next : (g : Over) (c : After-next g) → HasCalled g.E.Ranked.share (g.E.Ranked.size c.args.engine.now) (g.E.Ranked.calls c.args.engine.now) (c.loop-given._given + 1)
+    (g.E.Ranked.size c.next.new.self) (g.E.Ranked.calls c.next.new.self) c.args.steps.now c.next.new.steps
+called_next g c =
+    called_more g.E.Ranked.share g.met.E.Ranked.share_rises (g.E.Ranked.size c.args.engine.now) (g.E.Ranked.calls c.args.engine.now) c.loop-given._given
+    (g.E.Ranked.size c.loop-given.engine) (g.E.Ranked.size c.next.new.self) (g.E.Ranked.calls c.loop-given.engine) (g.E.Ranked.calls c.next.new.self)
+    c.args.steps.now c.loop-given.steps c.next.new.steps (g.E.Ranked.due c.loop-given.engine) c.loop-given.invariant.called
+    (g.met.E.Ranked.due_within c.loop-given.engine) c.next.ensures.cost (counted_few _ _ c.next.ensures.counted) c.next.ensures.size
 
 pub returns-in_err-answer : goal.returns-in_err-answer
 returns-in_err-answer g c =
@@ -16,10 +27,7 @@ returns-in_err-answer g c =
     record {
       ends = IfOk-from_err c.from_residual.result _ c.from_residual.ensures.0;
       bounded =
-          let called = called_more g.E.Ranked.share g.met.E.Ranked.share_rises (g.E.Ranked.size c.args.engine.now) (g.E.Ranked.calls c.args.engine.now) i (g.E.Ranked.size c.loop-given.engine)
-          (g.E.Ranked.size c.next.new.self) (g.E.Ranked.calls c.loop-given.engine) (g.E.Ranked.calls c.next.new.self) c.args.steps.now c.loop-given.steps c.next.new.steps (g.E.Ranked.due c.loop-given.engine)
-          c.loop-given.invariant.called (g.met.E.Ranked.due_within c.loop-given.engine)
-          c.next.ensures.cost (counted_few _ _ c.next.ensures.counted) c.next.ensures.size in
+          let called = called_next g (goal.at.returns-in_err-answer g c).After-next in
           calls_within g.E.Ranked.share g.met.E.Ranked.share_rises (g.E.Ranked.size c.args.engine.now) (g.E.Ranked.calls c.args.engine.now) (i + 1) _ (g.E.Ranked.size c.next.new.self)
           (g.E.Ranked.calls c.next.new.self) c.args.steps.now c.next.new.steps called (calls_more c.args.limit answers i c.loop-given.invariant.within below);
     }
@@ -35,19 +43,14 @@ returns-in_default g c =
       ends = taken_all (g.E.Ranked.rest c.args.engine.now) i (g.E.Ranked.rest c.loop-given.engine) c.loop-given.ends g.E.Ranked.share (g.E.Ranked.size c.args.engine.now) (g.E.Ranked.calls c.args.engine.now)
           (g.E.Ranked.size c.loop-given.engine) (g.E.Ranked.calls c.loop-given.engine) c.args.steps.now c.loop-given.steps c.loop-given.invariant c.args.limit low ended.0;
       bounded =
-          let called = called_more g.E.Ranked.share g.met.E.Ranked.share_rises (g.E.Ranked.size c.args.engine.now) (g.E.Ranked.calls c.args.engine.now) i (g.E.Ranked.size c.loop-given.engine)
-          (g.E.Ranked.size c.next.new.self) (g.E.Ranked.calls c.loop-given.engine) (g.E.Ranked.calls c.next.new.self) c.args.steps.now c.loop-given.steps c.next.new.steps (g.E.Ranked.due c.loop-given.engine)
-          c.loop-given.invariant.called (g.met.E.Ranked.due_within c.loop-given.engine)
-          c.next.ensures.cost (counted_few _ _ c.next.ensures.counted) c.next.ensures.size in
+          let called = called_next g (goal.at.returns-in_default g c).After-next in
           calls_within g.E.Ranked.share g.met.E.Ranked.share_rises (g.E.Ranked.size c.args.engine.now) (g.E.Ranked.calls c.args.engine.now) (i + 1) _ (g.E.Ranked.size c.next.new.self)
           (g.E.Ranked.calls c.next.new.self) c.args.steps.now c.next.new.steps called (calls_more c.args.limit answers i c.loop-given.invariant.within below);
     }
 
 pub push-requires : goal.push-requires
 push-requires g c =
-    let answers = g.E.Ranked.rest c.args.engine.now in
-    let i = c.loop-given._given in
-    let taken = length-take-le i answers c.loop-given.invariant.within in
+    let taken = length-take-le c.loop-given._given (g.E.Ranked.rest c.args.engine.now) c.loop-given.invariant.within in
     omega (arith, taken, c.loop-given.invariant.kept.count, c.loop-given-test.true, c.loop-given.auto._given-end)
 
 pub loop-given-preserved : goal.loop-given-preserved
@@ -55,13 +58,9 @@ loop-given-preserved g c =
     let answers = g.E.Ranked.rest c.args.engine.now in
     let i = c.loop-given._given in
     let found = at_some _ _ _ c.in-Some.is c.in_ok-answer.ensures.found in
-    let called = called_more g.E.Ranked.share g.met.E.Ranked.share_rises (g.E.Ranked.size c.args.engine.now) (g.E.Ranked.calls c.args.engine.now) i (g.E.Ranked.size c.loop-given.engine)
-    (g.E.Ranked.size c.next.new.self) (g.E.Ranked.calls c.loop-given.engine) (g.E.Ranked.calls c.next.new.self) c.args.steps.now c.loop-given.steps c.next.new.steps (g.E.Ranked.due c.loop-given.engine)
-    c.loop-given.invariant.called (g.met.E.Ranked.due_within c.loop-given.engine)
-    c.next.ensures.cost (counted_few _ _ c.next.ensures.counted) c.next.ensures.size in
     taken_more answers i (g.E.Ranked.rest c.loop-given.engine) c.loop-given.ends g.E.Ranked.share (g.E.Ranked.size c.args.engine.now) (g.E.Ranked.calls c.args.engine.now)
     (g.E.Ranked.size c.loop-given.engine) (g.E.Ranked.calls c.loop-given.engine) c.args.steps.now c.loop-given.steps c.loop-given.invariant _ _ _ _ _ _ found
-    (c.push.ensures _ _ c.loop-given.invariant.kept refl) called
+    (c.push.ensures _ _ c.loop-given.invariant.kept refl) (called_next g (goal.at.loop-given-preserved g c).After-next)
 
 pub returns-then-is_none : goal.returns-then-is_none
 returns-then-is_none g c =

@@ -87,8 +87,7 @@ returns-then-is_reached g c =
 
 pub returns-in_default : goal.returns-in_default
 returns-in_default g c =
-    let place = c.args.place.now in
-    let set = c.args.set.now in
+    let place = c.args.place.now in let set = c.args.set.now in
     record {
       some = tt;
       end = tt;

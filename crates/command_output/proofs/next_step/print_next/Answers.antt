@@ -95,8 +95,7 @@ loop-given-init g c =
 pub returns-in_default : goal.returns-in_default
 returns-in_default g c =
     let loop = (goal.at.returns-in_default g c).At-loop-given in
-    let start = c.args.place.now in
-    let done = c.loop-given._given in
+    let start = c.args.place.now in let done = c.loop-given._given in
     let ended = at_none _ _ c.in_default.is c.in_ok-answer.ensures.end in
     let short = answers_ended (rows_of g loop) c.args.listing.now.query.now.query.limit c.args.set.now.answers start done c.loop-given.place c.loop-given.invariant.place
     (subst (λ (l : List AnswerView). length (cut c.args.listing.now.query.now.query.limit l) ≤ c.loop-given.place) c.loop-given.invariant.answers
@@ -135,10 +134,8 @@ print_answer-requires-clause-rows g c =
 pub loop-given-preserved : goal.loop-given-preserved
 loop-given-preserved g c =
     let loop = (goal.at.loop-given-preserved g c).At-loop-given in
-    let limit = c.args.listing.now.query.now.query.limit in
-    let start = c.args.place.now in
-    let done = c.loop-given._given in
-    let place = c.loop-given.place in
+    let limit = c.args.listing.now.query.now.query.limit in let start = c.args.place.now in
+    let done = c.loop-given._given in let place = c.loop-given.place in
     let at = c.loop-given.invariant.place in
     let found = at_some _ _ _ c.in-Some.is c.in_ok-answer.ensures.some in
     let below = told_below _ c.args.listing.now.query.now.query.limit c.loop-given.place c.limit.ensures found.0 in
@@ -167,15 +164,13 @@ loop-given-preserved g c =
 pub returns : goal.returns
 returns g c =
     let loop = (goal.at.returns g c).At-loop-given in
-    let start = c.args.place.now in
-    let done = c.loop-given._given in
+    let start = c.args.place.now in let done = c.loop-given._given in
     let all = given_all (members g loop) c.args.place.now c.loop-given._given c.args.count c.loop-given.invariant.within (all_were _ _ c.loop-given.auto._given-end c.loop-given-test.false) in
     record {
       printed =
           left_none (whole g loop) (left g loop) _ _ c.loop-given.invariant.left
           (next_done (line g loop) (ending g loop) (members g loop) (start + done) (c.args.count - done) (none_over _ _ c.loop-given-test.false));
-      moved =
-          stands_at _ _ _ _ c.loop-given.invariant.place all;
+      moved = stands_at _ _ _ _ c.loop-given.invariant.place all;
       places = c.loop-given.invariant.places;
       kept = c.loop-given.invariant.answers;
       paid =

@@ -15,8 +15,7 @@ use Rattle.command_output.proofs.session.print_session.Goals as goal
 
 pub returns : goal.returns
 returns g c =
-    let is = c.new-set.ensures.set in
-    let query = c.args.query.now.query in
+    let is = c.new-set.ensures.set in let query = c.args.query.now.query in
     let script = c.args.script.now in
     let told = ap (λ (s : CursorSet). s.answers) is in
     let all : List AnswerView → List (List ℕ) = λ (l : List AnswerView). combinations_in query l in

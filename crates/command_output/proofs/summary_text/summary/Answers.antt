@@ -15,8 +15,7 @@ joined a b c d e f g h i =
 
 pub returns : goal.returns
 returns c =
-    let query = c.args.query.now.query in
-    let tables = c.args.tables.now in
+    let query = c.args.query.now.query in let tables = c.args.tables.now in
     let member = λ (rows : Option (List ℕ)). member_text query tables (option_map (take (length query.items)) rows) in
     ap (λ text. text.items) c.into_bytes.ensures.value
     ∙ rw (c.rows_in_all-rows.ensures, c.in_ok-first.ensures, c.in_ok-last.ensures) at c.in_ok-text.ensures.ok

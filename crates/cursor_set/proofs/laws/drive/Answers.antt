@@ -2,10 +2,11 @@ use Rattle.std.proofs.Common.{◌≡◌, ◌+◌, Option, inl, inr, refl, sym, �
 use Rattle.std.proofs.lemmas.Bool.{false≢true}
 use Rattle.tdp_core.specs.declared.ranked.Answer.{Answer}
 use Rattle.tdp_core.specs.AnswerView.{counted}
-use Rattle.cursor_set.proofs.Counting.{all_given, known_from, least, never_behind, one_more, refused_all, refused_more, refused_past, room_at_start, room_left}
+use Rattle.cursor_set.proofs.Counting.{known_from, least, never_behind, one_more, refused_all, refused_more, refused_past, room_at_start, room_left}
 use Rattle.cursor_set.proofs.Driving.{start_of, start_is, IsDriven-none, IsDriven-place, IsDriven-same, IsDriven-more, IsDriven-moved, IsDriven-end, refused_at, refused_counted, counted_none}
 use Rattle.cursor_set.proofs.laws.drive.Goals.{then-refused-refusals-via-then-refused-refusals, then-refused-refusals-via-else-refused-refusals+then-refused}
 use Rattle.cursor_set.proofs.laws.drive.Goals as goal
+use Rattle.tdp_core.proofs.LoopCounts.{ended}
 
 pub loop-given-init : goal.loop-given-init
 loop-given-init g c = record {
@@ -97,7 +98,7 @@ returns g c =
       places = λ place at. IsDriven-moved c.args.cursors.now c.loop-given.cursors c.args.id.number c.loop-given.given place c.loop-given.invariant.driven at;
       kept = c.loop-given.invariant.driven.kept;
       counted = c.loop-given.invariant.counted;
-      outcome = λ place at. inl (all_given _ _ before.given c.loop-given-test.false, refl, before.refused);
+      outcome = λ place at. inl (ended _ _ before.given c.loop-given-test.false, refl, before.refused);
       covered = λ place at within. before.covered (known_from _ _ _ _ within (start_is c.args.cursors.now c.args.id.number place at));
       after_end = c.loop-given.invariant.after_end;
     }

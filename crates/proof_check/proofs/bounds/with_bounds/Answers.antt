@@ -64,19 +64,15 @@ name_all-requires-clause-few g c = λ v l.
     c.as_slice.result.now (map (λ b. b.ranks.items) c.in_ok-tops.field-0.bounds.items) p (length c.args.proof.now.bounds.items)
     (no_more (length c.args.proof.now.bounds.items)) c.in_ok-groups.groups.items c.in_ok-groups.ensures.groups v l in
     let all = rows_few g.R.Rank.KEYS g.R.Rank.key c.args.raw c.nodes-nodes.ensures.formed v in
-    let read = ap (λ xs. length (get_or xs v [])) c.as_slice-2.ensures.value in
-    few_more _ _ 4194304 _ few all (sym read)
+    few_more _ _ 4194304 _ few all (sym (ap (λ xs. length (get_or xs v [])) c.as_slice-2.ensures.value))
 
 pub returns : goal.returns
 returns g c = record {
   bounded =
-      let query = c.args.query.now.query in
-      let tables = c.args.tables.now in
-      let join = c.args.join.now in
-      let raw = c.args.raw in
+      let query = c.args.query.now.query in let tables = c.args.tables.now in
+      let join = c.args.join.now in let raw = c.args.raw in
       let certificate = proof_view c.args.proof.now in
-      let items = c.args.proof.now.bounds.items in
-      let shape = c.requires.shape in
+      let items = c.args.proof.now.bounds.items in let shape = c.requires.shape in
       let all = sym (length-map items bound_view) in
       let ranks = ap (map (λ b. b.ranks.items)) (sym c.as_mut_slice.ensures.value) ∙ sym c.in_ok-name_all.ensures.ranks in
       let p = subst (λ k. ArePlacedLines query tables join g.R.Rank.KEYS g.R.Rank.key raw certificate k c.as_slice.result.now

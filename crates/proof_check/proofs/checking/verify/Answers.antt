@@ -17,7 +17,7 @@ use Rattle.proof_model.specs.Valid.{IsFirstFlaw, IsValid, missed}
 use Rattle.proof_check.specs.Choices.{IsMissed, TellsMissed}
 use Rattle.proof_check.specs.RowLists.{item_rows, list_at}
 use Rattle.proof_check.proofs.Counts.{at_list}
-use Rattle.proof_check.proofs.Missing.{missed_first}
+use Rattle.proof_check.proofs.Firsts.{missed_first}
 use Rattle.proof_check.proofs.Rows.{rows_at, rows_seen, tree_size}
 use Rattle.proof_check.proofs.Tellings.{told_err}
 use Rattle.proof_check.proofs.checking.verify.Goals as goal
@@ -35,30 +35,23 @@ rows_of-requires-clause-few g c = c.requires.ordered.few
 
 pub rows_of-requires-clause-each : goal.rows_of-requires-clause-each
 rows_of-requires-clause-each g c =
-    let join = c.args.join.now in
-    let query = c.args.query.now.query in
-    let tables = c.args.tables.now in
-    let xs = c.args.proof.now.answers.items in
-    let placed = c.in_ok-answers.ensures.placed in
+    let join = c.args.join.now in let xs = c.args.proof.now.answers.items in
     let long : length join.atom ≡ 16 = omega arith in
     let some : 0 < join.count = at_list 0 _ _ c.requires.fits.some c.requires.count in
     let each : (i : ℕ) → i < length xs → length (list_at (map (λ a. a.rows.items) xs) i) ≡ join.count = λ i l.
     ap length (rows_at xs i l)
-    ∙ (placed.answers i (at_list _ _ _ l (length-map xs listed_view))).count
-    ∙ tree_size query tables join c.requires.ordered long some in
+    ∙ (c.in_ok-answers.ensures.placed.answers i (at_list _ _ _ l (length-map xs listed_view))).count
+    ∙ tree_size c.args.query.now.query c.args.tables.now join c.requires.ordered long some in
     subst (λ ys. (i : ℕ) → i < length ys → length (list_at (map (λ a. a.rows.items) ys) i) ≡ join.count)
     (sym c.deref.ensures.value) each
 
 pub returns-in-Ok : goal.returns-in-Ok
 returns-in-Ok g c =
-    let query = c.args.query.now.query in
-    let tables = c.args.tables.now in
+    let query = c.args.query.now.query in let tables = c.args.tables.now in
     let join = c.args.join.now in
     let cert = proof_view c.args.proof.now in
-    let xs = c.args.proof.now.answers.items in
-    let bounded = c.in_ok-tree.ensures.bounded in
-    let placed = c.in_ok-answers.ensures.placed in
-    let r = c.rows_of.result in
+    let xs = c.args.proof.now.answers.items in let bounded = c.in_ok-tree.ensures.bounded in
+    let placed = c.in_ok-answers.ensures.placed in let r = c.rows_of.result in
     let same : map (λ (a : Listed). a.rows.items) c.deref.result.now ≡ map (λ (a : AnswerLine). a.rows) (map listed_view xs) =
     ap (map (λ (a : Listed). a.rows.items)) c.deref.ensures.value ∙ sym (rows_seen xs) in
     let valid : IsValid (problem_in query tables join) cert query.limit = record {
@@ -82,25 +75,22 @@ returns-in-Ok g c =
 
 pub returns : goal.returns
 returns g c =
-    let query = c.args.query.now.query in
-    let tables = c.args.tables.now in
+    let query = c.args.query.now.query in let tables = c.args.tables.now in
     let join = c.args.join.now in
     let cert = proof_view c.args.proof.now in
-    let bounded = c.in_ok-tree.ensures.bounded in
-    let placed = c.in_ok-answers.ensures.placed in
+    let bounded = c.in_ok-tree.ensures.bounded in let placed = c.in_ok-answers.ensures.placed in
     record {
       valid = tt;
       few = tt;
       rows = tt;
       fault = told_first query tables join cert bounded.shape bounded.is_shape
-          (missed_first (problem_in query tables join) cert query.limit bounded.solutions bounded.apart placed.covered placed.answers
+          (missed_first (problem_in query tables join) cert query.limit bounded.solutions bounded.apart (λ v l row is. placed.covered v row l is) placed.answers
           placed.ascending placed.limited) c.in-Err.fault c.in-Err.ensures.fault;
     }
 
 pub returns-in_err-tree : goal.returns-in_err-tree
 returns-in_err-tree g c =
-    let r = c.from_residual.result in
-    let e = c.from_residual.ensures in
+    let r = c.from_residual.result in let e = c.from_residual.ensures in
     record {
       valid = IfOk-from_err r _ e.0;
       few = IfOk-from_err r _ e.0;

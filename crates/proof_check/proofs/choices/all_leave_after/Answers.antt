@@ -17,7 +17,6 @@ module _ (g : Over) where
 pub node_leaves_after-requires-clause-ready : goal.node_leaves_after-requires-clause-ready
 node_leaves_after-requires-clause-ready g c =
     let b = c.requires.bounded in
-    let join = c.args.join in
     let long = has_room g (goal.at.node_leaves_after-requires-clause-ready g c).Start in
     record {
       ordered = c.requires.ordered;
@@ -26,7 +25,7 @@ node_leaves_after-requires-clause-ready g c =
       long = long;
       node = below_count _ _ _ c.loop-node-test.true
           (c.nodes-node-end.ensures.count ∙ ap (λ z. length z.raw.shapes) c.tree.view_is ∙ b.bounded.rows.nodes
-          ∙ all_nodes b.query b.tables join c.requires.ordered long);
+          ∙ all_nodes b.query b.tables c.args.join c.requires.ordered long);
     }
 
 pub node_leaves_after-requires-clause-within : goal.node_leaves_after-requires-clause-within
@@ -41,14 +40,13 @@ loop-node-init g c = record { prefixes = c.in_ok-prefixes.ensures; passed = λ p
 pub loop-node-preserved : goal.loop-node-preserved
 loop-node-preserved g c =
     let key = g.R.Rank.key in
-    let last = option_map key c.args.last.now in
     record {
       prefixes = c.in-Ok-true.ensures.prefixes;
       passed = λ p l. elim (cases_lt p c.loop-node.node) [
         | inl less ↦ c.loop-node.invariant.passed p less
         | inr far ↦
             let at : p ≡ c.loop-node.node = last_one _ _ l far in
-            subst (IsPassedAt c.args.join c.args.tree.now g.R.Rank.KEYS key c.args.places.now last) (sym at)
+            subst (IsPassedAt c.args.join c.args.tree.now g.R.Rank.KEYS key c.args.places.now (option_map key c.args.last.now)) (sym at)
             (c.in-Ok-true.ensures.passed c.in-Ok-true.field-0-test)
       ];
     }
@@ -58,8 +56,6 @@ returns g c = record {
   room = has_room g (goal.at.returns g c).Start;
   passed = λ _ p l.
       let b = c.requires.bounded in
-      let join = c.args.join in
-      let long = has_room g (goal.at.returns g c).Start in
       c.loop-node.invariant.passed p (omega (
         arith,
         l,
@@ -67,7 +63,7 @@ returns g c = record {
         c.nodes-node-end.ensures.count,
         ap (λ z. length z.raw.shapes) c.tree.view_is,
         b.bounded.rows.nodes,
-        all_nodes b.query b.tables join c.requires.ordered long,
+        all_nodes b.query b.tables c.args.join c.requires.ordered (has_room g (goal.at.returns g c).Start),
       ));
   missed = λ bad. absurd (false≢true (sym bad));
 }

@@ -8,37 +8,41 @@ use Rattle.proof_check.specs.RowPlaces.{place_at}
 use Rattle.proof_model.specs.QueryProblem.{problem_in}
 use Rattle.proof_check.proofs.Passing.{IsLimit, all_passed, is_missed, limit_from, none_passed}
 use Rattle.proof_check.proofs.Counts.{below_count}
+use Rattle.proof_check.proofs.choices.check_choices.Given.{Over}
 use Rattle.proof_check.proofs.choices.check_choices.Goals as goal
-use Rattle.proof_check.proofs.choices.check_choices.Goals.{then-proof, else-proof}
+use Rattle.proof_check.proofs.choices.check_choices.Goals.{After-all_leave_after, then-proof, else-proof}
 use Rattle.proof_check.proofs.choices.check_choices.Goals.{else-not-proof-via-then-not-proof+else-is_none}
 use Rattle.proof_check.proofs.choices.check_choices.Goals.{else-not-proof-via-else-not-proof}
+
+-- # Whether the certificate has a last answer, as the tests have it
+
+module _ (g : Over) (c : After-all_leave_after g) where
+  long : length c.args.join.now.atom ≡ 16
+  long = c.all_leave_after.ensures.room
+
+  limit : IsLimit c.args.query.now.query c.args.tables.now c.args.join.now g.R.Rank.KEYS g.R.Rank.key (proof_view c.args.proof.now)
+      c.args.tree.now c.requires.keys c.requires.bounded c.requires.ordered long c.args.answers.now.places.items c.requires.placed
+      (option_map g.R.Rank.key c.if-proof.last)
+  limit = elim c.if-proof.branch [
+    | then-proof w ↦ inl (w.if-proof.true, ap (option_map g.R.Rank.key) w.last-is)
+    | else-proof w ↦ elim c.else-not-proof.branch [
+      | else-not-proof-via-then-not-proof+else-is_none v ↦
+          limit_from c.args.query.now.query c.args.tables.now c.args.join.now g.R.Rank.KEYS g.R.Rank.key (proof_view c.args.proof.now)
+          c.args.tree.now c.requires.keys c.requires.bounded c.requires.ordered long c.args.answers.now.places.items c.requires.placed
+          c.args.answers.now.last c.requires.last (v.is_none.ensures ∙ ap not v.if-is_none.false) w.if-proof.false
+          (option_map g.R.Rank.key c.if-proof.last) (ap (option_map g.R.Rank.key) w.last-is)
+      | else-not-proof-via-else-not-proof v ↦ absurd (false≢true (sym w.if-proof.false ∙ v.if-not-proof.false))
+    ]
+  ]
 
 pub returns-in-Ok-true : goal.returns-in-Ok-true
 returns-in-Ok-true g c = record {
   passed =
-      let d = g.R.Rank.KEYS in
-      let key = g.R.Rank.key in
-      let query = c.args.query.now.query in
-      let tables = c.args.tables.now in
-      let join = c.args.join.now in
-      let cert = proof_view c.args.proof.now in
-      let tree = c.args.tree.now in
-      let long : length join.atom ≡ 16 = c.all_leave_after.ensures.room in
-      let limit : IsLimit query tables join d key cert tree c.requires.keys c.requires.bounded c.requires.ordered long
-      c.args.answers.now.places.items c.requires.placed (option_map key c.if-proof.last) = elim c.if-proof.branch [
-        | then-proof w ↦ inl (w.if-proof.true, ap (option_map key) w.last-is)
-        | else-proof w ↦ elim c.else-not-proof.branch [
-          | else-not-proof-via-then-not-proof+else-is_none v ↦
-              limit_from query tables join d key cert tree c.requires.keys c.requires.bounded c.requires.ordered long
-              c.args.answers.now.places.items c.requires.placed c.args.answers.now.last c.requires.last
-              (v.is_none.ensures ∙ ap not v.if-is_none.false) w.if-proof.false (option_map key c.if-proof.last)
-              (ap (option_map key) w.last-is)
-          | else-not-proof-via-else-not-proof v ↦ absurd (false≢true (sym w.if-proof.false ∙ v.if-not-proof.false))
-        ]
-      ] in
-      all_passed query tables join d key cert tree c.requires.keys c.requires.bounded c.requires.ordered long
-      c.args.answers.now.places.items c.requires.placed (option_map key c.if-proof.last) limit
-      (λ p l. subst (λ xs. IsPassedAt join tree d key xs (option_map key c.if-proof.last) p) c.deref.ensures.value
+      let at = (goal.at.returns-in-Ok-true g c).After-all_leave_after in let key = g.R.Rank.key in
+      all_passed c.args.query.now.query c.args.tables.now c.args.join.now g.R.Rank.KEYS key (proof_view c.args.proof.now) c.args.tree.now
+      c.requires.keys c.requires.bounded c.requires.ordered (long g at) c.args.answers.now.places.items c.requires.placed
+      (option_map key c.if-proof.last) (limit g at)
+      (λ p l. subst (λ xs. IsPassedAt c.args.join.now c.args.tree.now g.R.Rank.KEYS key xs (option_map key c.if-proof.last) p) c.deref.ensures.value
       (c.in-Ok-true.ensures.passed c.in-Ok-true.field-0-test p l));
   fault = tt;
 }
@@ -47,31 +51,13 @@ pub returns-in-Ok-false : goal.returns-in-Ok-false
 returns-in-Ok-false g c = record {
   passed = tt;
   fault =
-      let d = g.R.Rank.KEYS in
-      let key = g.R.Rank.key in
-      let query = c.args.query.now.query in
-      let tables = c.args.tables.now in
-      let join = c.args.join.now in
-      let cert = proof_view c.args.proof.now in
-      let tree = c.args.tree.now in
-      let long : length join.atom ≡ 16 = c.all_leave_after.ensures.room in
-      let limit : IsLimit query tables join d key cert tree c.requires.keys c.requires.bounded c.requires.ordered long
-      c.args.answers.now.places.items c.requires.placed (option_map key c.if-proof.last) = elim c.if-proof.branch [
-        | then-proof w ↦ inl (w.if-proof.true, ap (option_map key) w.last-is)
-        | else-proof w ↦ elim c.else-not-proof.branch [
-          | else-not-proof-via-then-not-proof+else-is_none v ↦
-              limit_from query tables join d key cert tree c.requires.keys c.requires.bounded c.requires.ordered long
-              c.args.answers.now.places.items c.requires.placed c.args.answers.now.last c.requires.last
-              (v.is_none.ensures ∙ ap not v.if-is_none.false) w.if-proof.false (option_map key c.if-proof.last)
-              (ap (option_map key) w.last-is)
-          | else-not-proof-via-else-not-proof v ↦ absurd (false≢true (sym w.if-proof.false ∙ v.if-not-proof.false))
-        ]
-      ] in
+      let at = (goal.at.returns-in-Ok-false g c).After-all_leave_after in let key = g.R.Rank.key in
       inr (
         refl,
-        is_missed query tables join d key cert tree c.requires.keys c.requires.bounded c.requires.ordered long
-            c.args.answers.now.places.items c.requires.placed (option_map key c.if-proof.last) limit
-            (subst (λ xs. IsMissedAt join tree d key xs (option_map key c.if-proof.last)) c.deref.ensures.value
+        is_missed c.args.query.now.query c.args.tables.now c.args.join.now g.R.Rank.KEYS key (proof_view c.args.proof.now) c.args.tree.now
+            c.requires.keys c.requires.bounded c.requires.ordered (long g at) c.args.answers.now.places.items c.requires.placed
+            (option_map key c.if-proof.last) (limit g at)
+            (subst (λ xs. IsMissedAt c.args.join.now c.args.tree.now g.R.Rank.KEYS key xs (option_map key c.if-proof.last)) c.deref.ensures.value
             (c.in-Ok-false.ensures.missed c.in-Ok-false.field-0-test)),
       );
 }
@@ -86,12 +72,8 @@ returns-then-is_none g c = record {
 
 pub all_leave_after-requires-clause-within : goal.all_leave_after-requires-clause-within
 all_leave_after-requires-clause-within g c i q l h =
-    let query = c.args.query.now.query in
-    let tables = c.args.tables.now in
-    let join = c.args.join.now in
-    let placed = c.requires.placed in
-    let value = c.deref.ensures.value in
-    let node : q < (problem_in query tables join).nodes = omega arith in
+    let placed = c.requires.placed in let value = c.deref.ensures.value in
+    let node : q < (problem_in c.args.query.now.query c.args.tables.now c.args.join.now).nodes = omega arith in
     subst (λ xs. place_at xs i q < raw_len c.args.tree.now.raw q) (sym value)
     (placed.within i q (below_count _ _ _ (subst (λ xs. i < length xs) value l) placed.count) node)
 

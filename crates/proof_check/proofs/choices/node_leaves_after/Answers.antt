@@ -14,20 +14,16 @@ leaves_after-good-requires-clause-ready g c = c.requires.ready
 
 pub leaves_after-good-requires-clause-rows : goal.leaves_after-good-requires-clause-rows
 leaves_after-good-requires-clause-rows g c n q l h =
-    let before = c.args.prefixes.now in
-    let value = c.deref.ensures.value in
+    let before = c.args.prefixes.now in let value = c.deref.ensures.value in
     subst (λ xs. slice_index (list_at xs n) q < raw_len c.args.tree.now.raw q) (sym value)
     (start_rows (raw_len c.args.tree.now.raw) c.args.join.now.count c.args.node c.args.places.now before.numbers.items
     before.starts.items c.requires.ready.node c.requires.within c.requires.prefixes n q (subst (λ xs. n < length xs) value l) h)
 
 pub returns-in-Ok : goal.returns-in-Ok
 returns-in-Ok g c = record {
-  prefixes =
-      IfOk-weaker c.leaves_after-good.result _ _ (λ good _. c.in-Ok.ensures.next) c.leaves_after-good.ensures.passed;
+  prefixes = IfOk-weaker c.leaves_after-good.result _ _ (λ good _. c.in-Ok.ensures.next) c.leaves_after-good.ensures.passed;
   passed =
-      let d = g.R.Rank.KEYS in
-      let key = g.R.Rank.key in
-      let pairs = c.with_node.new.taken in
+      let d = g.R.Rank.KEYS in let key = g.R.Rank.key in let pairs = c.with_node.new.taken in
       IfOk-weaker c.leaves_after-good.result _ _
       (λ good after is. record {
         numbers = c.args.prefixes.now.numbers.items;

@@ -12,15 +12,12 @@ returns-then-not-is_covered g c = record {
   covered = λ same. absurd (false≢true (sym same));
   weak = λ same query tables cert few bounded.
       let t = problem_in query tables c.args.join.now in
-      let v = c.args.node in
-      let i = c.loop-row.row in
-      let node : v < t.nodes = below_count _ _ _ c.requires.node bounded.rows.nodes in
+      let v = c.args.node in let i = c.loop-row.row in
       let inside : i < raw_len c.args.tree.now.raw v =
       below_count _ _ _ c.loop-row-test.true (c.len-row-end.ensures ∙ ap (λ z. raw_len z.raw v) c.tree.view_is) in
-      let is = c.is_covered.ensures query tables cert few bounded in
       let weak : IsCovered t cert v (raw_number c.args.tree.now.raw v i) → ⊥ =
-      λ p. not-true (sym c.if-not-is_covered.true ∙ is.1 p) in
-      (raw_number c.args.tree.now.raw v i, bounded.rows.is_row v i node inside, weak);
+      λ p. not-true (sym c.if-not-is_covered.true ∙ (c.is_covered.ensures query tables cert few bounded).1 p) in
+      (raw_number c.args.tree.now.raw v i, bounded.rows.is_row v i (below_count _ _ _ c.requires.node bounded.rows.nodes) inside, weak);
 }
 
 pub loop-row-preserved : goal.loop-row-preserved
@@ -31,11 +28,9 @@ loop-row-preserved g c query tables cert few bounded =
 pub returns : goal.returns
 returns g c = record {
   covered = λ same query tables cert few bounded row is_row.
-      let t = problem_in query tables c.args.join.now in
       let v = c.args.node in
-      let node : v < t.nodes = below_count _ _ _ c.requires.node bounded.rows.nodes in
-      let at = bounded.rows.every_row v row node is_row in
-      subst (λ r. IsCovered t cert v r) at.2
+      let at = bounded.rows.every_row v row (below_count _ _ _ c.requires.node bounded.rows.nodes) is_row in
+      subst (λ r. IsCovered (problem_in query tables c.args.join.now) cert v r) at.2
       (c.loop-row.invariant query tables cert few bounded at.0
       (within_end _ _ _ (at_list _ _ _ at.1 (c.len-row-end.ensures ∙ ap (λ z. raw_len z.raw v) c.tree.view_is)) c.loop-row-test.false));
   weak = λ same. absurd (false≢true same);

@@ -3,7 +3,7 @@ use Rattle.std.proofs.lemmas.Bool.{false≢true}
 use Rattle.std.proofs.lemmas.List.{get_or-map}
 use Rattle.proof_check.specs.Levels.{AreTaken, IsFirstPast, IsPairAt, is_past}
 use Rattle.proof_check.specs.declared.offers.Offer.{Offer}
-use Rattle.proof_check.proofs.Known.{in_some}
+use Rattle.std.proofs.lemmas.Option.{same_Some}
 use Rattle.proof_check.proofs.deviations.branch_leaves_after.Given.{Over}
 use Rattle.proof_check.proofs.deviations.branch_leaves_after.Goals.{After-deref}
 use Rattle.proof_check.proofs.deviations.branch_leaves_after.Goals as goal
@@ -17,8 +17,7 @@ module _ (g : Over) (c : After-deref g) where
       ∙ sym (ap (λ v. v.items) c.index-lists-branch.is) ∙ sym c.deref.ensures.value
 
 pub bounds-lists-branch : goal.bounds-lists-branch
-bounds-lists-branch g c =
-    c.requires.group c.in-Some.branch c.in-Some.is
+bounds-lists-branch g c = c.requires.group c.in-Some.branch c.in-Some.is
 
 pub join-rank-requires : goal.join-rank-requires
 join-rank-requires g c =
@@ -36,13 +35,11 @@ returns-in_default g c = record {
 pub returns-in_default-first_open : goal.returns-in_default-first_open
 returns-in_default-first_open g c = record {
   passed = λ _ b e.
-      let d = g.R.Rank.KEYS in
-      let key = g.R.Rank.key in
-      let pairs = c.args.taken.now in
+      let d = g.R.Rank.KEYS in let key = g.R.Rank.key in let pairs = c.args.taken.now in
       let last = option_map key c.args.last.now in
       let lists = map (λ v. v.items) c.args.lists.now in
       let at = goal.at.returns-in_default-first_open g c in
-      subst (λ x. IsFirstPast d key pairs c.args.number last x lists) (in_some c.in-Some.branch b (sym c.in-Some.is ∙ e))
+      subst (λ x. IsFirstPast d key pairs c.args.number last x lists) (same_Some c.in-Some.branch b (sym c.in-Some.is ∙ e))
       (inl (subst (λ xs. (i : ℕ) (a : Offer g.row.R.Denot) → slice_get xs i ≡ Some a
       → (k : ℕ) × IsPairAt pairs k (c.args.number, a.row)) (sym (list_is g at.After-deref)) c.in_default-first_open.ensures.none));
   missed = λ bad. absurd (false≢true (sym bad));
@@ -51,16 +48,13 @@ returns-in_default-first_open g c = record {
 pub returns : goal.returns
 returns g c = record {
   passed = λ good b e.
-      let d = g.R.Rank.KEYS in
-      let key = g.R.Rank.key in
-      let pairs = c.args.taken.now in
+      let d = g.R.Rank.KEYS in let key = g.R.Rank.key in let pairs = c.args.taken.now in
       let last = option_map key c.args.last.now in
       let lists = map (λ v. v.items) c.args.lists.now in
-      let at = goal.at.returns g c in
       let found = c.in-Some-first_open.ensures.found in
-      let is = sym (list_is g at.After-deref) in
+      let is = sym (list_is g (goal.at.returns g c).After-deref) in
       let o = c.in-Some-first_open.offer in
-      subst (λ x. IsFirstPast d key pairs c.args.number last x lists) (in_some c.in-Some.branch b (sym c.in-Some.is ∙ e))
+      subst (λ x. IsFirstPast d key pairs c.args.number last x lists) (same_Some c.in-Some.branch b (sym c.in-Some.is ∙ e))
       (inr (
         found.0,
         (
@@ -72,7 +66,6 @@ returns g c = record {
       ));
   missed = λ bad.
       let last = option_map g.R.Rank.key c.args.last.now in
-      let at = goal.at.returns g c in
       let found = c.in-Some-first_open.ensures.found in
       let o = c.in-Some-first_open.offer in (
         c.in-Some.branch,
@@ -81,7 +74,7 @@ returns g c = record {
           found.0,
           (
             o,
-            subst (λ xs. slice_get xs found.0 ≡ Some o) (sym (list_is g at.After-deref)) found.1,
+            subst (λ xs. slice_get xs found.0 ≡ Some o) (sym (list_is g (goal.at.returns g c).After-deref)) found.1,
             found.2,
             ap (is_past g.R.Rank.KEYS last) (sym c.join-rank.ensures.sum) ∙ sym c.is_past.ensures ∙ bad,
           ),

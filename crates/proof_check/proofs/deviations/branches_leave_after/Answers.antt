@@ -36,8 +36,7 @@ loop-number-preserved g c n b l e = elim (cases_lt n c.loop-number.number) [
 pub returns : goal.returns
 returns g c = record {
   passed = λ _ n b l e.
-      let end = c.loop-number-test.false in
-      c.loop-number.invariant n b (within_end _ _ _ l end) e;
+      c.loop-number.invariant n b (within_end _ _ _ l c.loop-number-test.false) e;
   missed = λ bad. absurd (false≢true (sym bad));
 }
 

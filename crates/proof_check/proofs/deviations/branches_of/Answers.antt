@@ -10,16 +10,10 @@ use Rattle.proof_check.proofs.deviations.branches_of.Goals as goal
 
 pub loop-n-preserved : goal.loop-n-preserved
 loop-n-preserved g c =
-    let d = g.R.Rank.KEYS in
-    let key = g.R.Rank.key in
-    let join = c.args.join.now in
-    let tree = c.args.tree.now in
-    let p = c.args.node in
-    let starts = c.args.starts.now in
-    let n = c.loop-n.n in
-    let old = c.loop-n.branches.items in
-    let x = c.open_place_of-branch.result in
-    let size = c.loop-n.invariant.count in
+    let d = g.R.Rank.KEYS in let key = g.R.Rank.key in let join = c.args.join.now in
+    let tree = c.args.tree.now in let p = c.args.node in let starts = c.args.starts.now in
+    let n = c.loop-n.n in let old = c.loop-n.branches.items in
+    let x = c.open_place_of-branch.result in let size = c.loop-n.invariant.count in
     let Is : ℕ → Option (OpenPlace g.row.R.Denot) → Type 0 =
     λ m o. MatchOption o (IsNoOpenPlace join tree d key p (list_at starts m)) (IsOpenPlace join tree d key p (list_at starts m)) in
     let here : Is n x = c.open_place_of-branch.ensures in

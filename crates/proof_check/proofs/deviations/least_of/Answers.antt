@@ -19,16 +19,13 @@ lower-requires g c = record {
       let here : get_or c.args.branches.now c.loop-n.n None ≡ Some c.in-Some.branch =
       get_or_default c.args.branches.now c.loop-n.n None c.index-branches-n.result c.loop-n-test.true
       ∙ sym c.index-branches-n.is ∙ c.in-Some.is in
-      let l = c.requires.within c.loop-n.n c.in-Some.branch c.loop-n-test.true here in
       let n = c.loop-n.invariant.count in
-      at_list _ _ _ l (c.loop-n.least.ok.0 ∙ n);
+      at_list _ _ _ (c.requires.within c.loop-n.n c.in-Some.branch c.loop-n-test.true here) (c.loop-n.least.ok.0 ∙ n);
 }
 
 pub loop-n-preserved : goal.loop-n-preserved
 loop-n-preserved g c =
-    let d = g.R.Rank.KEYS in
-    let key = g.R.Rank.key in
-    let branches = c.args.branches.now in
+    let d = g.R.Rank.KEYS in let key = g.R.Rank.key in let branches = c.args.branches.now in
     let n = c.loop-n.n in
     let element : get_or branches n None ≡ c.index-branches-n.result =
     get_or_default branches n None c.index-branches-n.result c.loop-n-test.true ∙ sym c.index-branches-n.is in
@@ -41,20 +38,17 @@ loop-n-preserved g c =
                 (least_kept d key n branches c.loop-n.least.items c.loop-n.invariant.least (element ∙ w.in-None.is));
           }
       | in-Some w ↦
-          let b = w.in-Some.branch in
-          let old = c.loop-n.least.items in
+          let b = w.in-Some.branch in let old = c.loop-n.least.items in
           let here = element ∙ w.in-Some.is in
           let now = w.lower.ensures.0 in
           let within : b.group < length old =
-          let l = c.requires.within n b c.loop-n-test.true here in
-          let size = c.loop-n.invariant.count in omega (arith, l, size) in
-          let lesser : IsLesser d key (get_or old b.group None) b.base now = w.lower.ensures.2 in
+          let size = c.loop-n.invariant.count in omega (arith, c.requires.within n b c.loop-n-test.true here, size) in
           let new : c.match-branch-2.least.items ≡ set old b.group (Some now) =
           ap (λ v. v.items) w.least-is ∙ w.lower.ensures.1 in
           record {
             count = ap length new ∙ length-set old b.group (Some now) ∙ c.loop-n.invariant.count;
             least = subst (AreLeast d key (n + 1) branches) (sym new)
-                (least_lowered d key n branches old c.loop-n.invariant.least b here within now lesser);
+                (least_lowered d key n branches old c.loop-n.invariant.least b here within now w.lower.ensures.2);
           }
     ]
 
@@ -62,7 +56,6 @@ pub returns : goal.returns
 returns g c = record {
   count = c.loop-n.least.ok.0 ∙ c.loop-n.invariant.count;
   least =
-      let end = c.loop-n.auto.n-end in
-      let done : c.loop-n.n ≡ length c.args.branches.now = let f = c.loop-n-test.false in omega (arith, end, f) in
+      let done : c.loop-n.n ≡ length c.args.branches.now = let f = c.loop-n-test.false in omega (arith, c.loop-n.auto.n-end, f) in
       subst (λ m. AreLeast g.R.Rank.KEYS g.R.Rank.key m c.args.branches.now c.loop-n.least.items) done c.loop-n.invariant.least;
 }

@@ -31,8 +31,7 @@ lists_of-requires-clause-ready g c = c.requires.ready
 
 pub lists_of-requires-clause-branches : goal.lists_of-requires-clause-branches
 lists_of-requires-clause-branches g c n b l e =
-    let at = goal.at.lists_of-requires-clause-branches g c in
-    can g at.In_ok-branches n b (subst (λ xs. n < length xs) c.deref.ensures.value l)
+    can g (goal.at.lists_of-requires-clause-branches g c).In_ok-branches n b (subst (λ xs. n < length xs) c.deref.ensures.value l)
     (subst (λ xs. slice_index_or xs n None ≡ Some b) c.deref.ensures.value e)
 
 pub branches_leave_after-requires-clause-group : goal.branches_leave_after-requires-clause-group
@@ -46,11 +45,8 @@ branches_leave_after-requires-clause-group g c n b l e =
 
 pub branches_leave_after-requires-clause-fits : goal.branches_leave_after-requires-clause-fits
 branches_leave_after-requires-clause-fits g c n b l e =
-    let d = g.R.Rank.KEYS in
-    let key = g.R.Rank.key in
-    let join = c.args.join.now in
-    let tree = c.args.tree.now in
-    let p = c.args.node in
+    let d = g.R.Rank.KEYS in let key = g.R.Rank.key in let join = c.args.join.now in
+    let tree = c.args.tree.now in let p = c.args.node in
     let at = goal.at.branches_leave_after-requires-clause-fits g c in
     let l' = subst (λ xs. n < length xs) c.deref-2.ensures.value l in
     let e' = subst (λ xs. slice_index_or xs n None ≡ Some b) c.deref-2.ensures.value e in
@@ -63,34 +59,24 @@ branches_leave_after-requires-clause-fits g c n b l e =
 pub returns : goal.returns
 returns g c = record {
   passed = λ is.
-      let d = g.R.Rank.KEYS in
-      let key = g.R.Rank.key in
-      let join = c.args.join.now in
-      let tree = c.args.tree.now in
-      let p = c.args.node in
+      let d = g.R.Rank.KEYS in let key = g.R.Rank.key in let join = c.args.join.now in
+      let tree = c.args.tree.now in let p = c.args.node in
       let at = goal.at.returns g c in
-      let branches = c.in_ok-branches.branches.items in
-      let lists = map (λ v. v.items) c.in_ok-lists.lists.items in
-      let pairs = c.args.taken.now in
+      let branches = c.in_ok-branches.branches.items in let pairs = c.args.taken.now in
       let last = option_map key c.args.last.now in
       way_past join tree d key p c.args.starts.now branches c.in_ok-branches.ensures.each pairs last (count_is g at.In_ok-branches)
       (λ n b l e.
       let its = c.in_ok-lists.ensures n b (subst (λ xs. n < length xs) (sym c.deref.ensures.value) l)
       (subst (λ xs. slice_index_or xs n None ≡ Some b) (sym c.deref.ensures.value) e) in
-      left_after join tree d key p c.requires.ready last b lists its pairs n
+      left_after join tree d key p c.requires.ready last b (map (λ v. v.items) c.in_ok-lists.lists.items) its pairs n
       (subst (λ xs. IsFirstPast d key pairs n last b (map (λ v. v.items) xs)) c.deref-3.ensures.value
       (c.branches_leave_after.ensures.passed is n b (subst (λ xs. n < length xs) (sym c.deref-2.ensures.value) l)
       (subst (λ xs. slice_index_or xs n None ≡ Some b) (sym c.deref-2.ensures.value) e))));
   missed = λ is.
-      let d = g.R.Rank.KEYS in
-      let key = g.R.Rank.key in
-      let join = c.args.join.now in
-      let tree = c.args.tree.now in
-      let p = c.args.node in
+      let d = g.R.Rank.KEYS in let key = g.R.Rank.key in let join = c.args.join.now in
+      let tree = c.args.tree.now in let p = c.args.node in
       let at = goal.at.returns g c in
-      let branches = c.in_ok-branches.branches.items in
-      let lists = map (λ v. v.items) c.in_ok-lists.lists.items in
-      let pairs = c.args.taken.now in
+      let branches = c.in_ok-branches.branches.items in let pairs = c.args.taken.now in
       let last = option_map key c.args.last.now in
       let m = c.branches_leave_after.ensures.missed is in
       let n = m.0 in
@@ -101,7 +87,7 @@ returns g c = record {
       (subst (λ xs. slice_index_or xs n None ≡ Some b) (sym c.deref.ensures.value) e) in
       way_from join tree d key p c.args.starts.now branches c.in_ok-branches.ensures.each pairs last (count_is g at.In_ok-branches)
       n b l e
-      (left_before join tree d key p c.requires.ready last b lists its pairs n
+      (left_before join tree d key p c.requires.ready last b (map (λ v. v.items) c.in_ok-lists.lists.items) its pairs n
       (subst (λ xs. IsFirstEarly d key pairs n last b (map (λ v. v.items) xs)) c.deref-3.ensures.value m.1.3));
 }
 

@@ -29,11 +29,8 @@ offers_of-requires-clause-rows g c m l =
 
 pub offers_of-requires-clause-fits : goal.offers_of-requires-clause-fits
 offers_of-requires-clause-fits g c k is =
-    let d = g.R.Rank.KEYS in
-    let key = g.R.Rank.key in
-    let join = c.args.join.now in
-    let tree = c.args.tree.now in
-    let p = c.args.node in
+    let d = g.R.Rank.KEYS in let key = g.R.Rank.key in let join = c.args.join.now in
+    let tree = c.args.tree.now in let p = c.args.node in
     let here : slice_index_or c.args.least.now c.loop-group.group None ≡ Some k =
     get_or_default c.args.least.now c.loop-group.group None c.index-least-group.result c.loop-group-test.true
     ∙ sym c.index-least-group.is ∙ is in
@@ -43,14 +40,10 @@ offers_of-requires-clause-fits g c k is =
 
 pub loop-group-preserved : goal.loop-group-preserved
 loop-group-preserved g c =
-    let d = g.R.Rank.KEYS in
-    let key = g.R.Rank.key in
-    let join = c.args.join.now in
-    let tree = c.args.tree.now in
-    let p = c.args.node in
+    let d = g.R.Rank.KEYS in let key = g.R.Rank.key in let join = c.args.join.now in
+    let tree = c.args.tree.now in let p = c.args.node in
     let last = option_map key c.args.last.now in
-    let h = c.loop-group.group in
-    let old = c.loop-group.lists.items in
+    let h = c.loop-group.group in let old = c.loop-group.lists.items in
     let one = c.in_ok-offers.offers in
     subst (AreLists join tree d key p last c.args.groups.now c.args.least.now (h + 1))
     (sym (ap (map (λ v. v.items)) c.in_ok-push.ensures.items ∙ map-append (λ v. v.items) old (one ∷ [])))
@@ -61,14 +54,9 @@ loop-group-preserved g c =
 
 pub returns : goal.returns
 returns g c =
-    let d = g.R.Rank.KEYS in
-    let key = g.R.Rank.key in
-    let join = c.args.join.now in
-    let tree = c.args.tree.now in
-    let p = c.args.node in
-    let end = c.loop-group.auto.group-end in
-    let f = c.loop-group-test.false in
-    let done : c.loop-group.group ≡ length c.args.least.now = omega (arith, end, f) in
+    let d = g.R.Rank.KEYS in let key = g.R.Rank.key in let join = c.args.join.now in
+    let tree = c.args.tree.now in let p = c.args.node in let f = c.loop-group-test.false in
+    let done : c.loop-group.group ≡ length c.args.least.now = omega (arith, c.loop-group.auto.group-end, f) in
     subst (λ n. AreLists join tree d key p (option_map key c.args.last.now) c.args.groups.now c.args.least.now n
     (map (λ v. v.items) c.loop-group.lists.items)) done c.loop-group.invariant
 

@@ -8,12 +8,10 @@ use Rattle.proof_check.proofs.Walking.{listed}
 use Rattle.proof_check.proofs.deviations.lists_of.Goals as goal
 
 pub bound_count-count-requires : goal.bound_count-count-requires
-bound_count-count-requires g c =
-    node_bounds c.args.join.now c.args.tree.now g.R.Rank.KEYS g.R.Rank.key c.args.node c.requires.ready
+bound_count-count-requires g c = node_bounds c.args.join.now c.args.tree.now g.R.Rank.KEYS g.R.Rank.key c.args.node c.requires.ready
 
 pub own_numbers-requires : goal.own_numbers-requires
-own_numbers-requires g c =
-    node_bounds c.args.join.now c.args.tree.now g.R.Rank.KEYS g.R.Rank.key c.args.node c.requires.ready
+own_numbers-requires g c = node_bounds c.args.join.now c.args.tree.now g.R.Rank.KEYS g.R.Rank.key c.args.node c.requires.ready
 
 pub rows_by_bound-requires-clause-few : goal.rows_by_bound-requires-clause-few
 rows_by_bound-requires-clause-few g c =
@@ -49,12 +47,8 @@ lists_by_group-requires-clause-fits g c h k e =
 
 pub returns : goal.returns
 returns g c =
-    let d = g.R.Rank.KEYS in
-    let key = g.R.Rank.key in
-    let join = c.args.join.now in
-    let tree = c.args.tree.now in
-    let p = c.args.node in
-    let least = c.deref.result.now in
+    let d = g.R.Rank.KEYS in let key = g.R.Rank.key in let join = c.args.join.now in
+    let tree = c.args.tree.now in let p = c.args.node in let least = c.deref.result.now in
     let size : c.bound_count-count.result ≡ length least = sym c.in_ok-least.ensures.count ∙ sym c.deref.ensures.len in
     let grouped = subst (λ n. AreGroups (own_bounds tree p) n c.in_ok-groups.groups) size
     (subst (λ xs. AreGroups xs c.bound_count-count.result c.in_ok-groups.groups) c.own_numbers.ensures c.in_ok-groups.ensures) in

@@ -22,8 +22,7 @@ loop-i-preserved c =
     let own = c.args.own.now in
     let here : c.unwrap_or-number.result ≡ unwrap_or (slice_index_or own c.loop-i.i None) c.args.count =
     c.unwrap_or-number.ensures ∙ ap (unwrap_or (slice_index_or own c.loop-i.i None)) c.in-Ok.ensures.1 in
-    let old = c.loop-i.numbers.items in
-    let one = c.unwrap_or-number.result in
+    let old = c.loop-i.numbers.items in let one = c.unwrap_or-number.result in
     record {
       count = ap length c.in_ok-push.ensures.items ∙ length-append old (one ∷ []) ∙ ap (λ n. n + 1) c.loop-i.invariant.count;
       each = numbers_more (λ k. unwrap_or (slice_index_or own k None) c.args.count) old c.push.new.self.items one c.loop-i.i
@@ -43,8 +42,7 @@ of_numbers-requires-clause-few c =
 
 pub returns : goal.returns
 returns c =
-    let own = c.args.own.now in
-    let count = c.args.count in
+    let own = c.args.own.now in let count = c.args.count in
     let all = at_end _ _ c.loop-i.auto.i-end c.loop-i-test.false in
     IfOk-weaker c.of_numbers.result (λ groups. groups ≡ places_by_number c.deref.result.now (count + 1)) (AreGroups own count)
     (λ groups e. subst (AreGroups own count)

@@ -14,8 +14,7 @@ use Rattle.proof_check.proofs.groups.line_groups.Goals as goal
 
 pub overflow_sub-node : goal.overflow_sub-node
 overflow_sub-node g c =
-    let h = c.requires.lines in
-    let value = c.deref-bound-items.ensures.value in
+    let h = c.requires.lines in let value = c.deref-bound-items.ensures.value in
     some_node_lem h.query h.tables h.join g.R.Rank.KEYS g.R.Rank.key c.args.raw.now c.nodes.ensures.formed.shaped h.tree c.args.proof.now
     c.args.tops.now h.ranks h.placed c.loop-line.line c.bound-item.result
     (subst (λ xs. c.loop-line.line < length xs) value c.loop-line-test.true)
@@ -23,8 +22,7 @@ overflow_sub-node g c =
 
 pub group_link-link-requires-clause-node : goal.group_link-link-requires-clause-node
 group_link-link-requires-clause-node g c =
-    let h = c.requires.lines in
-    let value = c.deref-bound-items.ensures.value in
+    let h = c.requires.lines in let value = c.deref-bound-items.ensures.value in
     node_within h.query h.tables h.join g.R.Rank.KEYS g.R.Rank.key c.args.raw.now c.nodes.ensures.formed.shaped h.tree c.args.proof.now
     c.args.tops.now h.ranks h.placed c.loop-line.line c.bound-item.result
     (subst (λ xs. c.loop-line.line < length xs) value c.loop-line-test.true)
@@ -32,8 +30,7 @@ group_link-link-requires-clause-node g c =
 
 pub group_link-link-requires-clause-place : goal.group_link-link-requires-clause-place
 group_link-link-requires-clause-place g c =
-    let h = c.requires.lines in
-    let value = c.deref-bound-items.ensures.value in
+    let h = c.requires.lines in let value = c.deref-bound-items.ensures.value in
     let inside = subst (λ xs. c.loop-line.line < length xs) value c.loop-line-test.true in
     h.placed.within (c.bound-item.result.node - 1) c.loop-line.line inside
     (node_read h.query h.tables h.join g.R.Rank.KEYS g.R.Rank.key c.args.raw.now c.nodes.ensures.formed.shaped h.tree c.args.proof.now
@@ -42,8 +39,7 @@ group_link-link-requires-clause-place g c =
 
 pub index_mut-requires : goal.index_mut-requires
 index_mut-requires g c =
-    let h = c.requires.lines in
-    let value = c.deref-bound-items.ensures.value in
+    let h = c.requires.lines in let value = c.deref-bound-items.ensures.value in
     let low = node_within h.query h.tables h.join g.R.Rank.KEYS g.R.Rank.key c.args.raw.now c.nodes.ensures.formed.shaped h.tree c.args.proof.now
     c.args.tops.now h.ranks h.placed c.loop-line.line c.bound-item.result
     (subst (λ xs. c.loop-line.line < length xs) value c.loop-line-test.true)
@@ -53,8 +49,7 @@ index_mut-requires g c =
 
 pub add_group-requires : goal.add_group-requires
 add_group-requires g c =
-    let h = c.requires.lines in
-    let value = c.deref-bound-items.ensures.value in
+    let h = c.requires.lines in let value = c.deref-bound-items.ensures.value in
     let inside = subst (λ xs. c.loop-line.line < length xs) value c.loop-line-test.true in
     let low = node_within h.query h.tables h.join g.R.Rank.KEYS g.R.Rank.key c.args.raw.now c.nodes.ensures.formed.shaped h.tree c.args.proof.now
     c.args.tops.now h.ranks h.placed c.loop-line.line c.bound-item.result inside
@@ -71,8 +66,7 @@ pub returns-in-Ok-false : goal.returns-in-Ok-false
 returns-in-Ok-false g c = record {
   groups = tt;
   fault = λ query tables join ranks has p.
-      let shaped = c.nodes.ensures.formed.shaped in
-      let items = c.args.proof.now.bounds.items in
+      let shaped = c.nodes.ensures.formed.shaped in let items = c.args.proof.now.bounds.items in
       let none_at : BoundLine = record { line = 0; node = 0; rows = [] } in
       let value = c.deref-bound-items.ensures.value in
       let inside = subst (λ xs. c.loop-line.line < length xs) value c.loop-line-test.true in
@@ -97,8 +91,7 @@ returns-in-Ok-false g c = record {
 
 pub loop-line-preserved : goal.loop-line-preserved
 loop-line-preserved g c =
-    let h = c.requires.lines in
-    let shaped = c.nodes.ensures.formed.shaped in
+    let h = c.requires.lines in let shaped = c.nodes.ensures.formed.shaped in
     let value = c.deref-bound-items.ensures.value in
     let inside = subst (λ xs. c.loop-line.line < length xs) value c.loop-line-test.true in
     let is = subst (λ xs. c.bound-item.result ≡ get_or xs c.loop-line.line c.bound-item.result) value c.bound-item.is in
@@ -150,8 +143,7 @@ bounds-tops-line g c =
 
 pub loop-line-init : goal.loop-line-init
 loop-line-init g c =
-    let none = c.in_ok-groups.ensures in
-    let count = c.nodes.ensures.count in
+    let none = c.in_ok-groups.ensures in let count = c.nodes.ensures.count in
     record {
       each_node = ap length none ∙ length-replicate c.nodes.result [] ∙ count;
       links = λ v l. ap (λ xs. get_or xs v []) none ∙ get_or-replicate c.nodes.result v [] [] (at_list _ _ _ l count);

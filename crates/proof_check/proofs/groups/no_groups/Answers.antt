@@ -8,12 +8,10 @@ pub returns-in_err-push : goal.returns-in_err-push
 returns-in_err-push c = IfOk-from_err c.from_residual.result _ c.from_residual.ensures.0
 
 pub returns : goal.returns
-returns c =
-    c.loop-node.invariant ∙ ap (λ n. replicate n []) (ended _ _ c.loop-node.auto._node-end c.loop-node-test.false)
+returns c = c.loop-node.invariant ∙ ap (λ n. replicate n []) (ended _ _ c.loop-node.auto._node-end c.loop-node-test.false)
 
 pub loop-node-preserved : goal.loop-node-preserved
 loop-node-preserved c =
-    let old = c.loop-node.groups.items in
     c.in_ok-push.ensures.items
-    ∙ ap (λ x. old ++ (x ∷ [])) c.new-none.ensures
+    ∙ ap (λ x. c.loop-node.groups.items ++ (x ∷ [])) c.new-none.ensures
     ∙ ap (λ xs. xs ++ ([] ∷ [])) c.loop-node.invariant ∙ replicate-append-replicate c.loop-node._node 1 []

@@ -61,7 +61,6 @@ rank_of_places-rank-requires-clause-node g c =
 pub rank_of_places-rank-requires-clause-solution : goal.rank_of_places-rank-requires-clause-solution
 rank_of_places-rank-requires-clause-solution g c =
     let s = c.in-Some.ensures c.requires.problem.query c.requires.problem.tables c.requires.problem.join c.requires.problem.tree in
-    let node = line_pred c.bound-item.result.node s.0 s.2 in
     record {
       query = c.requires.problem.query;
       tables = c.requires.problem.tables;
@@ -69,7 +68,7 @@ rank_of_places-rank-requires-clause-solution g c =
       rows = c.bound-item.result.rows.items;
       tree = c.requires.problem.tree;
       placed = subst (λ v. ArePlacesOf c.requires.problem.query c.requires.problem.tables c.requires.problem.join c.args.raw.now v
-          c.bound-item.result.rows.items c.in-Some.places) node s.3;
+          c.bound-item.result.rows.items c.in-Some.places) (line_pred c.bound-item.result.node s.0 s.2) s.3;
     }
 
 pub bounds-places-node : goal.bounds-places-node
@@ -86,8 +85,7 @@ index_mut-of_node-requires g c =
 pub loop-bound-preserved : goal.loop-bound-preserved
 loop-bound-preserved g c =
     let node : ℕ = c.bound-item.result.node - 1 in
-    let bounds = c.loop-bound.bounds.items in
-    let old = c.index_mut-of_node.result.now in
+    let bounds = c.loop-bound.bounds.items in let old = c.index_mut-of_node.result.now in
     let s0 = c.in-Some.ensures c.requires.problem.query c.requires.problem.tables c.requires.problem.join c.requires.problem.tree in
     let room : c.bound-item.result.node - 1 < length bounds =
     at_list (c.bound-item.result.node - 1) (length c.args.raw.now.shapes) (length bounds)
@@ -99,8 +97,7 @@ loop-bound-preserved g c =
       each_node = length-set bounds (c.bound-item.result.node - 1) (record old { ranks = c.push-in-loop-bound.new.self })
           ∙ c.loop-bound.invariant.each_node;
       placed = λ query tables join few has.
-          let shaped = c.nodes.ensures.formed.shaped in
-          let items = c.args.proof.now.bounds.items in
+          let shaped = c.nodes.ensures.formed.shaped in let items = c.args.proof.now.bounds.items in
           let none_at : BoundLine = record { line = 0; node = 0; rows = [] } in
           let n : ℕ = c.loop-bound.bound-index in
           let value = c.deref-bound-items.ensures.value in
@@ -108,12 +105,10 @@ loop-bound-preserved g c =
           let is = subst (λ xs. c.bound-item.result ≡ get_or xs c.loop-bound.bound-index c.bound-item.result) value c.bound-item.is in
           let s = c.in-Some.ensures query tables join has in
           let same = line_pred c.bound-item.result.node s.0 s.2 in
-          let read = line_is items c.loop-bound.bound-index c.bound-item.result none_at inside is in
-          let number = line_number items c.loop-bound.bound-index c.bound-item.result none_at inside is in
           let here : line_node (proof_view c.args.proof.now) c.loop-bound.bound-index ≡ suc (c.bound-item.result.node - 1) =
-          number ∙ line_suc c.bound-item.result.node s.0 s.2 in
+          (line_number items c.loop-bound.bound-index c.bound-item.result none_at inside is) ∙ line_suc c.bound-item.result.node s.0 s.2 in
           let placed = subst (λ rows. ArePlacesOf query tables join c.args.raw.now (c.bound-item.result.node - 1) rows c.in-Some.places)
-          (sym (ap (λ x. x.rows) read))
+          (sym (ap (λ x. x.rows) (line_is items c.loop-bound.bound-index c.bound-item.result none_at inside is)))
           (subst (λ v. ArePlacesOf query tables join c.args.raw.now v c.bound-item.result.rows.items c.in-Some.places) same s.3) in
           let rank = c.rank_of_places-rank.ensures query tables join
           (bound_at (problem_in query tables join) (proof_view c.args.proof.now) c.loop-bound.bound-index).rows few has placed in
@@ -135,9 +130,8 @@ loop-bound-preserved g c =
 pub returns : goal.returns
 returns g c = record {
   placed = λ query tables join few has.
-      let long = ap length c.deref-bound-items.ensures.value in
       let end : c.loop-bound.bound-index ≡ length c.args.proof.now.bounds.items =
-      ended _ _ c.loop-bound.auto.bound-index-end c.loop-bound-test.false ∙ long in
+      ended _ _ c.loop-bound.auto.bound-index-end c.loop-bound-test.false ∙ (ap length c.deref-bound-items.ensures.value) in
       subst (λ k. ArePlacedLines query tables join g.R.Rank.KEYS g.R.Rank.key c.args.raw.now (proof_view c.args.proof.now) k
       c.loop-bound.tops.items (map (λ b. b.ranks.items) c.loop-bound.bounds.items)) end
       (c.loop-bound.invariant.placed query tables join few has);
@@ -162,8 +156,7 @@ returns-in_err-push g c = record {
 
 pub returns-in_err-push-2 : goal.returns-in_err-push-2
 returns-in_err-push-2 g c =
-    let r = c.from_residual-in_err-push-2.result in
-    let e = c.from_residual-in_err-push-2.ensures in
+    let r = c.from_residual-in_err-push-2.result in let e = c.from_residual-in_err-push-2.ensures in
     record {
       placed = IfOk-from_err r _ e.0;
       each_node = IfOk-from_err r _ e.0;

@@ -14,9 +14,8 @@ name_groups-requires-clause-node g c = below_count _ _ _ c.loop-node-test.true c
 pub name_groups-requires-clause-groups : goal.name_groups-requires-clause-groups
 name_groups-requires-clause-groups g c =
     let l : c.loop-node.node < length c.args.raw.now.shapes = below_count _ _ _ c.loop-node-test.true c.nodes-node-end.ensures.count in
-    let there = at_list _ _ _ l c.requires.each_group in
     subst (λ xs. length xs ≤ 4194304)
-    (list_read c.args.groups.now c.loop-node.node c.index-groups-node.result there c.index-groups-node.is)
+    (list_read c.args.groups.now c.loop-node.node c.index-groups-node.result (at_list _ _ _ l c.requires.each_group) c.index-groups-node.is)
     (c.requires.few c.loop-node.node l)
 
 pub returns : goal.returns

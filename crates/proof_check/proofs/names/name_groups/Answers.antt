@@ -1,7 +1,7 @@
 use Rattle.std.proofs.Common.{◌≡◌, ℕ, ◌<◌, ◌≤◌, None, Some, refl, sym, ap, subst, arith}
 use Rattle.std.proofs.lemmas.Result.{IfOk-from_err}
 use Rattle.tdp_core.specs.RawView.{shape_children}
-use Rattle.proof_check.proofs.Known.{in_some}
+use Rattle.std.proofs.lemmas.Option.{same_Some}
 use Rattle.proof_check.proofs.Naming.{named_from, named_root}
 use Rattle.proof_check.proofs.names.name_groups.Goals as goal
 
@@ -46,7 +46,7 @@ row_numbers-requires-then-node-gt0-clause-node g c =
 pub row_numbers-requires-then-node-gt0-clause-child : goal.row_numbers-requires-then-node-gt0-clause-child
 row_numbers-requires-then-node-gt0-clause-child g c q e =
     let shapes = c.args.raw.now.shapes in
-    subst (λ x. x < shape_children shapes c.shape.result.now.parent) (in_some c.child_place-child.result q e)
+    subst (λ x. x < shape_children shapes c.shape.result.now.parent) (same_Some c.child_place-child.result q e)
     (subst (λ p. c.child_place-child.result < shape_children shapes p) (sym (ap (λ s. s.parent) c.shape.ensures))
     c.child_place-child.ensures.within)
 

@@ -20,8 +20,7 @@ loop-at-init g c = record { parts = λ q l. absurd (none_below _ l); sum = c.zer
 
 pub loop-at-preserved : goal.loop-at-preserved
 loop-at-preserved g c =
-    let d = g.R.Rank.KEYS in
-    let at = c.loop-at.at in
+    let d = g.R.Rank.KEYS in let at = c.loop-at.at in
     let part : ℕ → KeyOf d 16 =
     part_key c.args.join.now c.args.tree.now d g.R.Rank.key c.args.node c.args.start.now in
     let base : ℕ → Option (KeyOf d 16) =
@@ -33,8 +32,7 @@ loop-at-preserved g c =
       parts = λ q l. elim (cases_lt q at) [
         | inl less ↦ c.loop-at.invariant.parts q less
         | inr far ↦
-            let e : q ≡ at = last_one _ _ l far in
-            subst (λ z. base z ≡ Some (part z)) (sym e) (sym here ∙ ap Some is)
+            subst (λ z. base z ≡ Some (part z)) (sym (last_one _ _ l far)) (sym here ∙ ap Some is)
       ];
       sum = c.join-base.ensures.sum ∙ ap (λ z. key_add d 16 z (g.R.Rank.key c.in_ok-part.part)) c.loop-at.invariant.sum
           ∙ ap (λ z. key_add d 16 (sum_from (key_add d 16) (key_none d 16) part at 0) z) is
@@ -44,12 +42,8 @@ loop-at-preserved g c =
 
 pub join-base-requires : goal.join-base-requires
 join-base-requires g c =
-    let d = g.R.Rank.KEYS in
-    let key = g.R.Rank.key in
-    let b = c.requires.ready.bounded in
-    let join = c.args.join.now in
-    let tree = c.args.tree.now in
-    let at = c.loop-at.at in
+    let d = g.R.Rank.KEYS in let key = g.R.Rank.key in let b = c.requires.ready.bounded in
+    let join = c.args.join.now in let tree = c.args.tree.now in let at = c.loop-at.at in
     let t = problem_in b.query b.tables join in
     let part : ℕ → KeyOf d 16 = part_key join tree d key c.args.node c.args.start.now in
     let base : ℕ → Option (KeyOf d 16) = base_part join tree d key c.args.node c.args.start.now in
@@ -79,15 +73,11 @@ join-base-requires g c =
 
 pub returns : goal.returns
 returns g c =
-    let d = g.R.Rank.KEYS in
-    let b = c.requires.ready.bounded in
-    let join = c.args.join.now in
+    let d = g.R.Rank.KEYS in let b = c.requires.ready.bounded in let join = c.args.join.now in
     let part : ℕ → KeyOf d 16 = part_key join c.args.tree.now d g.R.Rank.key c.args.node c.args.start.now in
-    let long = c.requires.ready.long in
-    let end = c.loop-at.auto.at-end in
     let done : c.loop-at.at ≡ join.count =
-    ended _ _ end c.loop-at-test.false ∙ c.nodes-at-end.ensures.count ∙ ap (λ z. length z.raw.shapes) c.tree.view_is
-    ∙ b.bounded.rows.nodes ∙ all_nodes b.query b.tables join c.requires.ready.ordered long in (
+    ended _ _ c.loop-at.auto.at-end c.loop-at-test.false ∙ c.nodes-at-end.ensures.count ∙ ap (λ z. length z.raw.shapes) c.tree.view_is
+    ∙ b.bounded.rows.nodes ∙ all_nodes b.query b.tables join c.requires.ready.ordered c.requires.ready.long in (
       part,
       λ q l. c.loop-at.invariant.parts q (omega (arith, done, l)),
       subst (λ n. g.R.Rank.key c.loop-at.base ≡ sum_from (key_add d 16) (key_none d 16) part n 0) done c.loop-at.invariant.sum,
@@ -95,14 +85,11 @@ returns g c =
 
 pub returns-in_err-part : goal.returns-in_err-part
 returns-in_err-part g c =
-    let d = g.R.Rank.KEYS in
-    let b = c.requires.ready.bounded in
-    let join = c.args.join.now in
-    let long = c.requires.ready.long in
+    let d = g.R.Rank.KEYS in let b = c.requires.ready.bounded in let join = c.args.join.now in
     let l : c.loop-at.at < join.count =
     below_count _ _ _ c.loop-at-test.true
     (c.nodes-at-end.ensures.count ∙ ap (λ z. length z.raw.shapes) c.tree.view_is ∙ b.bounded.rows.nodes
-    ∙ all_nodes b.query b.tables join c.requires.ready.ordered long) in
+    ∙ all_nodes b.query b.tables join c.requires.ready.ordered c.requires.ready.long) in
     subst (λ r. IsBase join c.args.tree.now d g.R.Rank.key c.args.node c.args.start.now (option_map g.R.Rank.key r))
     (sym c.from_residual.ensures) (c.loop-at.at, l, sym c.in_err-part.ensures)
 

@@ -10,16 +10,14 @@ use Rattle.proof_check.proofs.open_places.base_part.Goals.{then-at-node-2-via-el
 pub named_rank-requires-clause-above : goal.named_rank-requires-clause-above
 named_rank-requires-clause-above g c =
     let up = slice_index c.args.join.now.parent c.args.at in
-    let x = c.if-at-node-2.false in
-    let y = c.if-at-node.false in
+    let x = c.if-at-node-2.false in let y = c.if-at-node.false in
     (named_row c.args.join.now c.args.tree.now g.R.Rank.KEYS g.R.Rank.key c.requires.ready.bounded c.requires.ready.ordered c.requires.ready.long
     c.args.at c.requires.at (omega (arith, x, y)) (slice_index c.args.start.now up) (c.requires.rows up c.if-above-node.false)).0
 
 pub named_rank-requires-clause-each : goal.named_rank-requires-clause-each
 named_rank-requires-clause-each g c =
     let up = slice_index c.args.join.now.parent c.args.at in
-    let x = c.if-at-node-2.false in
-    let y = c.if-at-node.false in
+    let x = c.if-at-node-2.false in let y = c.if-at-node.false in
     (named_row c.args.join.now c.args.tree.now g.R.Rank.KEYS g.R.Rank.key c.requires.ready.bounded c.requires.ready.ordered c.requires.ready.long
     c.args.at c.requires.at (omega (arith, x, y)) (slice_index c.args.start.now up) (c.requires.rows up c.if-above-node.false)).1
 
@@ -33,29 +31,22 @@ row-requires-clause-row g c =
 pub row-requires-clause-node : goal.row-requires-clause-node
 row-requires-clause-node g c =
     let b = c.requires.ready.bounded in
-    let join = c.args.join.now in
     at_list _ _ _ c.requires.at
     (ap (λ z. length z.raw.shapes) c.tree.view_is ∙ b.bounded.rows.nodes
-    ∙ all_nodes b.query b.tables join c.requires.ready.ordered c.requires.ready.long)
+    ∙ all_nodes b.query b.tables c.args.join.now c.requires.ready.ordered c.requires.ready.long)
 
 pub bounds-start-above : goal.bounds-start-above
-bounds-start-above g c =
-    let few = c.requires.ready.ordered.few in
-    let l = c.requires.ready.node in
-    omega (arith, few, l)
+bounds-start-above g c = omega (arith, c.requires.ready.ordered.few, c.requires.ready.node)
 
 pub named_rank-requires-clause-node : goal.named_rank-requires-clause-node
 named_rank-requires-clause-node g c =
     let b = c.requires.ready.bounded in
-    let join = c.args.join.now in
     at_list _ _ _ c.requires.at
-    (b.bounded.each_node ∙ all_nodes b.query b.tables join c.requires.ready.ordered c.requires.ready.long)
+    (b.bounded.each_node ∙ all_nodes b.query b.tables c.args.join.now c.requires.ready.ordered c.requires.ready.long)
 
 pub returns-then-at-node : goal.returns-then-at-node
 returns-then-at-node g c =
-    let d = g.R.Rank.KEYS in
-    let key = g.R.Rank.key in
-    let start = c.args.start.now in
+    let d = g.R.Rank.KEYS in let key = g.R.Rank.key in let start = c.args.start.now in
     let at = c.args.at in
     ap Some (subst (λ z. key c.row.result.rank ≡ raw_rank z.raw d key at (slice_index start at)) c.tree.view_is c.row.ensures.rank)
     ∙ sym (row_part c.args.join.now c.args.tree.now d key c.args.node start at c.if-at-node.true)

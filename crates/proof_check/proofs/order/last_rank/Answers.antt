@@ -12,8 +12,7 @@ use Rattle.proof_check.proofs.order.last_rank.Goals as goal
 
 pub rank_of_places-rank-requires-clause-solution : goal.rank_of_places-rank-requires-clause-solution
 rank_of_places-rank-requires-clause-solution g c =
-    let a = c.requires.answers in
-    let i = c.loop-i.i in
+    let a = c.requires.answers in let i = c.loop-i.i in
     record {
       query = a.query;
       tables = a.tables;
@@ -28,12 +27,10 @@ returns-then-not-is_after g c = record {
   last = λ query tables join few tree answers. tt;
   ordered = λ query tables join few tree answers. tt;
   fault = λ query tables join few tree answers.
-      let d = g.R.Rank.KEYS in
-      let key = g.R.Rank.key in
+      let d = g.R.Rank.KEYS in let key = g.R.Rank.key in
       let t = problem_in query tables join in
       let cert = proof_view c.args.proof.now in
-      let i = c.loop-i.i in
-      let x = c.index.result.now in
+      let i = c.loop-i.i in let x = c.index.result.now in
       let l : i < length cert.answers = omega (arith, c.loop-i-test.true, answers.count) in
       let before = c.loop-i.invariant query tables join few tree answers in
       let here : key c.rank_of_places-rank.result ≡ query_key query d (answer_key t cert i) =
@@ -51,8 +48,7 @@ returns-then-not-is_after g c = record {
 
 pub loop-i-preserved : goal.loop-i-preserved
 loop-i-preserved g c query tables join few tree answers =
-    let d = g.R.Rank.KEYS in
-    let key = g.R.Rank.key in
+    let d = g.R.Rank.KEYS in let key = g.R.Rank.key in
     let t = problem_in query tables join in
     let cert = proof_view c.args.proof.now in
     let i = c.loop-i.i in

@@ -14,8 +14,7 @@ tests_false : (a b : ℕ) → a ≡ b → (b ≡ 1 → ⊥) → nat_eq a 1 ≡ f
 tests_false a b e f = let n : a ≡ 1 → ⊥ = λ x. f (sym e ∙ x) in grind (arith, nat_tests)
 
 pub loop-at-init : goal.loop-at-init
-loop-at-init g c =
-    c.zero-rank.ensures ∙ rank_begun g.R.Rank.KEYS g.R.Rank.key c.args.raw.now c.args.node c.args.places.now
+loop-at-init g c = c.zero-rank.ensures ∙ rank_begun g.R.Rank.KEYS g.R.Rank.key c.args.raw.now c.args.node c.args.places.now
 
 pub row-row-requires-clause-row : goal.row-row-requires-clause-row
 row-row-requires-clause-row g c =
@@ -40,8 +39,7 @@ join-rank-requires g c =
 
 pub loop-at-preserved : goal.loop-at-preserved
 loop-at-preserved g c =
-    let inside : c.loop-at.at < length c.args.raw.now.shapes = below_count _ _ _ c.loop-at-test.true c.nodes-nodes.ensures.count in
-    let below = sym (c.subtree-below.ensures c.loop-at.at inside) in
+    let below = sym (c.subtree-below.ensures c.loop-at.at (below_count _ _ _ c.loop-at-test.true c.nodes-nodes.ensures.count)) in
     elim c.if-below-at-eq1.branch [
       | then-below-at-eq1 w ↦
           ap g.R.Rank.key w.rank-is ∙ w.join-rank.ensures.sum

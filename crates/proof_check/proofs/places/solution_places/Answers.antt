@@ -34,13 +34,11 @@ pub returns-in_err-place : goal.returns-in_err-place
 returns-in_err-place g c = λ query tables join has.
     let shaped = c.nodes-nodes.ensures.formed.shaped in
     let inside : c.loop-at.at < length c.args.raw.now.shapes = below_count _ _ _ c.loop-at-test.true c.nodes-nodes.ensures.count in
-    let below = c.subtree-below.ensures c.loop-at.at inside in
-    let some : 0 < raw_below c.args.raw.now c.args.node c.loop-at.at = some_of _ _ below c.if-below-at-eq0.false in
     subst (λ r. MatchOption r (IsSolutionAt (problem_in query tables join) c.args.node c.args.rows.now → ⊥)
     (ArePlacesOf query tables join c.args.raw.now c.args.node c.args.rows.now)) (sym c.from_residual.ensures)
     (λ s.
     let row = found query tables join g.R.Rank.KEYS g.R.Rank.key c.args.raw.now shaped has c.args.node c.args.rows.now s c.loop-at.at
-    inside some in
+    inside (some_of _ _ (c.subtree-below.ensures c.loop-at.at inside) c.if-below-at-eq0.false) in
     c.in_err-place.ensures.absent
     (has.ascending c.loop-at.at (in_nodes query tables join g.R.Rank.KEYS g.R.Rank.key c.args.raw.now shaped has c.loop-at.at inside))
     row.0 row.1
@@ -53,10 +51,9 @@ is_linked-requires-clause-above g c =
     let up = ap (λ s. s.parent) c.shape.ensures in
     let low = parents_first_lem c.args.raw.now shaped c.loop-at.at (above_root _ _ c.if-at-node.true) inside in
     let below = c.subtree-below.ensures c.loop-at.at inside in
-    let some : 0 < raw_below c.args.raw.now c.args.node c.loop-at.at = some_of _ _ below c.if-below-at-eq0.false in
     subst (λ p. get_or c.loop-at.places p 0 < raw_len c.args.raw.now (shape_parent c.args.raw.now.shapes c.loop-at.at)) (sym up)
     (c.loop-at.invariant.placed.within (shape_parent c.args.raw.now.shapes c.loop-at.at) low
-    (below_up c.args.raw.now shaped c.args.node c.loop-at.at c.if-at-node.true inside some))
+    (below_up c.args.raw.now shaped c.args.node c.loop-at.at c.if-at-node.true inside (some_of _ _ below c.if-below-at-eq0.false)))
 
 pub returns-then-not-is_linked : goal.returns-then-not-is_linked
 returns-then-not-is_linked g c = λ query tables join has s.
@@ -95,12 +92,9 @@ item_place-requires-clause-below g c = (c.args.node, c.requires, c.subtree-below
 
 pub bounds-rows-item_place : goal.bounds-rows-item_place
 bounds-rows-item_place g c =
-    let inside : c.loop-at.at < length c.args.raw.now.shapes = below_count _ _ _ c.loop-at-test.true c.nodes-nodes.ensures.count in
-    let below = c.subtree-below.ensures c.loop-at.at inside in
-    let some : 0 < raw_below c.args.raw.now c.args.node c.loop-at.at = some_of _ _ below c.if-below-at-eq0.false in
-    let within = c.item_place.ensures.within c.args.node c.requires c.subtree-below.ensures some in
-    let size = c.size.ensures c.args.node c.requires c.subtree-below.ensures in
-    below_count _ _ _ within (sym (c.if-rows-size.false ∙ size))
+    let below = c.subtree-below.ensures c.loop-at.at (below_count _ _ _ c.loop-at-test.true c.nodes-nodes.ensures.count) in
+    let within = c.item_place.ensures.within c.args.node c.requires c.subtree-below.ensures (some_of _ _ below c.if-below-at-eq0.false) in
+    below_count _ _ _ within (sym (c.if-rows-size.false ∙ (c.size.ensures c.args.node c.requires c.subtree-below.ensures)))
 
 pub bounds-places-shape : goal.bounds-places-shape
 bounds-places-shape g c =
@@ -111,8 +105,7 @@ bounds-places-shape g c =
 
 pub bounds-places-at : goal.bounds-places-at
 bounds-places-at g c =
-    let inside : c.loop-at.at < length c.args.raw.now.shapes = below_count _ _ _ c.loop-at-test.true c.nodes-nodes.ensures.count in
-    within_few _ _ 16 inside c.nodes-nodes.ensures.formed.shaped.few_nodes
+    within_few _ _ 16 (below_count _ _ _ c.loop-at-test.true c.nodes-nodes.ensures.count) c.nodes-nodes.ensures.formed.shaped.few_nodes
 
 pub overflow_cast-places : goal.overflow_cast-places
 overflow_cast-places g c =
@@ -137,23 +130,19 @@ is_linked-requires-clause-place g c = c.in_ok-place.ensures.within
 pub loop-at-preserved-then-below-at-eq0 : goal.loop-at-preserved-then-below-at-eq0
 loop-at-preserved-then-below-at-eq0 g c =
     let inside : c.loop-at.at < length c.args.raw.now.shapes = below_count _ _ _ c.loop-at-test.true c.nodes-nodes.ensures.count in
-    let none = sym (c.subtree-below.ensures c.loop-at.at inside) ∙ c.if-below-at-eq0.true in
     record {
       long = c.loop-at.invariant.long;
       placed = placed_skip c.args.raw.now c.nodes-nodes.ensures.formed.shaped c.args.node c.args.rows.now c.loop-at.places c.loop-at.at
-          none c.loop-at.invariant.placed;
+          (sym (c.subtree-below.ensures c.loop-at.at inside) ∙ c.if-below-at-eq0.true) c.loop-at.invariant.placed;
     }
 
 pub loop-at-preserved : goal.loop-at-preserved
 loop-at-preserved g c =
-    let raw = c.args.raw.now in
-    let at = c.loop-at.at in
-    let places = c.loop-at.places in
+    let raw = c.args.raw.now in let at = c.loop-at.at in let places = c.loop-at.places in
     let place = c.in_ok-place.place in
     let inside : at < length raw.shapes = below_count _ _ _ c.loop-at-test.true c.nodes-nodes.ensures.count in
     let up = ap (λ s. s.parent) c.shape.ensures in
-    let below = c.subtree-below.ensures at inside in
-    let some : 0 < raw_below raw c.args.node at = some_of _ _ below c.if-below-at-eq0.false in
+    let some : 0 < raw_below raw c.args.node at = some_of _ _ (c.subtree-below.ensures at inside) c.if-below-at-eq0.false in
     let row = c.in_ok-place.ensures.number
     ∙ ap (λ i. get_or c.args.rows.now i 0) (c.item_place.ensures.place c.args.node c.requires c.subtree-below.ensures) in
     record {

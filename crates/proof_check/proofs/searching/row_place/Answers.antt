@@ -56,10 +56,9 @@ loop-low-preserved g c =
     let middle : ℕ = low + (high - low) / 2 in
     let more : c.args.row < raw_number raw node middle =
     above_other _ _ _ c.row-number.ensures.number c.if-number-row.false c.if-number-row-2.false in
-    let inside = middle_within low high c.loop-low-test.true (raw_len raw node) c.loop-low.invariant.most in
     record {
       order = low_up_to low high;
-      most = up_to middle (raw_len raw node) inside;
+      most = up_to middle (raw_len raw node) (middle_within low high c.loop-low-test.true (raw_len raw node) c.loop-low.invariant.most);
       before = c.loop-low.invariant.before;
       after = λ up i l h. elim (cases_lt middle i) [
         | inl b ↦ then_less _ _ _ more (rows_ascend raw node middle i up b h)

@@ -19,10 +19,8 @@ returns-in-None g c = record {
   fault = λ query tables join tree.
       let t = problem_in query tables join in
       let cert = proof_view c.args.proof.now in
-      let items = c.args.proof.now.answers.items in
-      let i = c.loop-answer.answer-index in
-      let x = c.answer-item.result in
-      let list = c.deref-answer-items.ensures.value in
+      let items = c.args.proof.now.answers.items in let i = c.loop-answer.answer-index in
+      let x = c.answer-item.result in let list = c.deref-answer-items.ensures.value in
       let l : i < length items = omega (arith, c.loop-answer-test.true, ap length list) in
       let is : answer_at t cert i ≡ listed_view x =
       seen_at items i x (record { line = 0; rows = [] }) l (c.answer-item.is ∙ ap (λ xs. get_or xs i x) list) in
@@ -41,13 +39,10 @@ returns-in-None g c = record {
 
 pub loop-answer-preserved : goal.loop-answer-preserved
 loop-answer-preserved g c =
-    let items = c.args.proof.now.answers.items in
-    let i = c.loop-answer.answer-index in
-    let x = c.answer-item.result in
-    let list = c.deref-answer-items.ensures.value in
+    let items = c.args.proof.now.answers.items in let i = c.loop-answer.answer-index in
+    let x = c.answer-item.result in let list = c.deref-answer-items.ensures.value in
     let l : i < length items = omega (arith, c.loop-answer-test.true, ap length list) in
-    let before = c.loop-answer.places.items in
-    let found = c.in-Some.found in
+    let before = c.loop-answer.places.items in let found = c.in-Some.found in
     let pushed : c.push.new.self.items ≡ before ++ found ∷ [] = c.in_ok-push-in-Some.ensures.items in
     record {
       long = ap length pushed ∙ length-append before (found ∷ []) ∙ ap (λ n. n + 1) c.loop-answer.invariant.long;

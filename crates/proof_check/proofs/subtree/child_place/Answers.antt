@@ -11,13 +11,11 @@ rest_after : (v n : ℕ) → v < n → n - (v + 1) + (v + 1) ≡ n
 rest_after v n l = omega (arith, l)
 
 pub loop-other-init : goal.loop-other-init
-loop-other-init g c =
-    sym (kids_below_first (shape_parent c.args.raw.now.shapes) (shape_parent c.args.raw.now.shapes c.args.node))
+loop-other-init g c = sym (kids_below_first (shape_parent c.args.raw.now.shapes) (shape_parent c.args.raw.now.shapes c.args.node))
 
 pub overflow_add-place : goal.overflow_add-place
 overflow_add-place g c =
-    let most = kids_below_most (shape_parent c.args.raw.now.shapes) (shape_parent c.args.raw.now.shapes c.args.node) c.loop-other.other in
-    omega (arith, most)
+    omega (arith, kids_below_most (shape_parent c.args.raw.now.shapes) (shape_parent c.args.raw.now.shapes c.args.node) c.loop-other.other)
 
 pub loop-other-preserved : goal.loop-other-preserved
 loop-other-preserved g c =
@@ -53,6 +51,5 @@ returns g c = record {
       less_of _ _ _ (c.loop-other.invariant ∙ ap kids end)
       (subst (λ n. kids c.args.node < kids n) (rest_after _ _ c.requires.node)
       (child_place_within (shape_parent c.args.raw.now.shapes) c.args.node rest c.requires.below_root));
-  above =
-      parents_first_lem c.args.raw.now c.nodes-nodes.ensures.formed.shaped c.args.node c.requires.below_root c.requires.node;
+  above = parents_first_lem c.args.raw.now c.nodes-nodes.ensures.formed.shaped c.args.node c.requires.below_root c.requires.node;
 }

@@ -15,21 +15,19 @@ loop-other-init g c = record {
 pub overflow_add-place : goal.overflow_add-place
 overflow_add-place g c =
     let inside : c.loop-other.other < length c.args.raw.now.shapes = below_count _ _ _ c.loop-other-test.true c.nodes-nodes.ensures.count in
-    let few = c.nodes-nodes.ensures.formed.shaped.few_nodes in
     let at = c.requires.below.2 c.loop-other.other inside in
     let small = below_small c.args.raw.now c.nodes-nodes.ensures.formed.shaped c.requires.below.0 c.loop-other.other inside in
-    few_fits _ _ _ _ _ at small c.loop-other.invariant.few inside few
+    few_fits _ _ _ _ _ at small c.loop-other.invariant.few inside c.nodes-nodes.ensures.formed.shaped.few_nodes
 
 pub loop-other-preserved : goal.loop-other-preserved
 loop-other-preserved g c =
     let inside : c.loop-other.other < length c.args.raw.now.shapes = below_count _ _ _ c.loop-other-test.true c.nodes-nodes.ensures.count in
-    let at = c.requires.below.2 c.loop-other.other inside in
     let small = below_small c.args.raw.now c.nodes-nodes.ensures.formed.shaped c.requires.below.0 c.loop-other.other inside in
     let here = ap (λ s. s.item) c.shape.ensures in
     let there = ap (λ s. s.item) c.shape-in-loop-other.ensures in
     elim c.if-shape-item.branch [
       | then-shape-item w ↦ record {
-        few = few_added _ _ _ _ _ w.place-is at small c.loop-other.invariant.few;
+        few = few_added _ _ _ _ _ w.place-is (c.requires.below.2 c.loop-other.other inside) small c.loop-other.invariant.few;
         sum = λ v l are. w.place-is
             ∙ place_more c.args.raw.now c.nodes-nodes.ensures.formed.shaped v c.args.node c.loop-other.other c.loop-other.place
             c.args.below.now are inside (less_both _ _ _ _ there here w.if-shape-item.true) (c.loop-other.invariant.sum v l are);

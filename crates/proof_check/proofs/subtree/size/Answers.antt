@@ -12,18 +12,16 @@ loop-node-init g c = record { few = no_more 0; sum = λ v l are. sym (sum_none (
 pub overflow_add-size : goal.overflow_add-size
 overflow_add-size g c =
     let inside : c.loop-node.node < length c.args.raw.now.shapes = below_count _ _ _ c.loop-node-test.true c.nodes-nodes.ensures.count in
-    let few = c.nodes-nodes.ensures.formed.shaped.few_nodes in
     let at = c.requires.2 c.loop-node.node inside in
     let small = below_small c.args.raw.now c.nodes-nodes.ensures.formed.shaped c.requires.0 c.loop-node.node inside in
-    few_fits _ _ _ _ _ at small c.loop-node.invariant.few inside few
+    few_fits _ _ _ _ _ at small c.loop-node.invariant.few inside c.nodes-nodes.ensures.formed.shaped.few_nodes
 
 pub loop-node-preserved : goal.loop-node-preserved
 loop-node-preserved g c =
     let inside : c.loop-node.node < length c.args.raw.now.shapes = below_count _ _ _ c.loop-node-test.true c.nodes-nodes.ensures.count in
-    let at = c.requires.2 c.loop-node.node inside in
     let small = below_small c.args.raw.now c.nodes-nodes.ensures.formed.shaped c.requires.0 c.loop-node.node inside in
     record {
-      few = few_added _ _ _ _ _ refl at small c.loop-node.invariant.few;
+      few = few_added _ _ _ _ _ refl (c.requires.2 c.loop-node.node inside) small c.loop-node.invariant.few;
       sum = λ v l are.
           size_more c.args.raw.now c.nodes-nodes.ensures.formed.shaped v c.loop-node.node c.loop-node.size c.args.below.now are inside
           (c.loop-node.invariant.sum v l are);

@@ -15,14 +15,13 @@ loop-child-init g c = record {
 pub loop-child-preserved : goal.loop-child-preserved
 loop-child-preserved g c =
     let inside : c.loop-child.child < length c.args.raw.now.shapes = below_count _ _ _ c.loop-child-test.true c.nodes-nodes.ensures.count in
-    let up = ap (λ s. s.parent) c.shape.ensures in
     record {
       long = length-set c.loop-child.below c.loop-child.child (get_or c.loop-child.below c.shape.result.now.parent 0)
           ∙ c.loop-child.invariant.long;
       below = subst (λ (p : ℕ). (q : ℕ) → q < c.loop-child.child + 1 → q < length c.args.raw.now.shapes
           → slice_index (set c.loop-child.below c.loop-child.child (get_or c.loop-child.below p 0)) q
           ≡ raw_below c.args.raw.now c.args.node q)
-          (sym up)
+          (sym (ap (λ s. s.parent) c.shape.ensures))
           (below_more c.args.raw.now c.nodes-nodes.ensures.formed.shaped c.args.node c.loop-child.child c.loop-child.below
           (omega arith) inside c.loop-child.invariant.long c.loop-child.invariant.below);
     }

@@ -1,4 +1,4 @@
-use Rattle.std.proofs.Common.{◌≡◌, ◌<◌, length, sym, subst, ap}
+use Rattle.std.proofs.Common.{◌<◌, length, sym, subst, ap}
 use Rattle.tdp_core.specs.TreeView.{item, parent, rows}
 use Rattle.tdp_core.proofs.TreeFacts.{member_is_row}
 use Rattle.proof_write.proofs.ChosenDown.{chosen_all, chosen_start, chosen_under, next_none, next_some}
@@ -22,12 +22,10 @@ loop-below-init g c =
     let d = g.R.Rank.KEYS in
     let key = g.R.Rank.key in
     let formed = c.nodes-nodes.ensures.formed in
-    let full = formed.inhabited v c.args.group c.requires.node c.requires.group in
     let inside = subst (λ x. x < rows t v) (sym c.member-top.ensures.member)
-    (member_is_row d key t formed v c.args.group 0 c.requires.node full) in
+    (member_is_row d key t formed v c.args.group 0 c.requires.node (formed.inhabited v c.args.group c.requires.node c.requires.group)) in
     let start = chosen_start d key t formed v c.args.group c.requires.node c.member-top.result c.member-top.ensures.member inside in
-    let place : c.shape.result.now.item ≡ item t v = ap (λ s. s.item) c.shape.ensures in
-    rw (place, c.row_at.ensures.number) start
+    rw (ap (λ s. s.item) c.shape.ensures, c.row_at.ensures.number) start
 
 pub loop-below-preserved : goal.loop-below-preserved
 loop-below-preserved g c =
@@ -45,11 +43,9 @@ loop-below-preserved g c =
     elim c.match-first_below.branch [
       | in-Some w ↦
           let row = w.in-Some.row in
-          let inside : row < rows t n = w.in-Some.ensures.inside in
           let next = next_some d key t formed v c.args.group c.requires.node n old c.loop-below.rows
-          so_far after l c.first_below.result first row w.in-Some.is inside in
-          let place : w.shape-in-Some.result.now.item ≡ item t n = ap (λ s. s.item) w.shape-in-Some.ensures in
-          rw (w.chosen-is, w.rows-is, place, w.row_at-in-Some.ensures.number) next
+          so_far after l c.first_below.result first row w.in-Some.is w.in-Some.ensures.inside in
+          rw (w.chosen-is, w.rows-is, ap (λ s. s.item) w.shape-in-Some.ensures, w.row_at-in-Some.ensures.number) next
       | in_default w ↦
           rw (w.chosen-is, w.rows-is)
           (next_none d key t formed v c.args.group c.requires.node n old c.loop-below.rows
@@ -86,8 +82,7 @@ pub first_below-requires-clause-node : goal.first_below-requires-clause-node
 first_below-requires-clause-node g c = below_count _ _ _ c.loop-below-test.true c.nodes-nodes.ensures.count
 
 pub member-top-requires-clause-place : goal.member-top-requires-clause-place
-member-top-requires-clause-place g c =
-    c.nodes-nodes.ensures.formed.inhabited c.args.node c.args.group c.requires.node c.requires.group
+member-top-requires-clause-place g c = c.nodes-nodes.ensures.formed.inhabited c.args.node c.args.group c.requires.node c.requires.group
 
 pub bounds-rows-shape : goal.bounds-rows-shape
 bounds-rows-shape g c =

@@ -1,4 +1,4 @@
-use Rattle.std.proofs.Common.{◌≡◌, ◌<◌, ◌∷◌, ◌++◌, [], length, get_or, take, sym, ap, ◌∙◌, arith}
+use Rattle.std.proofs.Common.{◌<◌, ◌∷◌, ◌++◌, [], length, get_or, sym, ap, ◌∙◌, arith}
 use Rattle.std.proofs.lemmas.List.{take_all}
 use Rattle.std.proofs.lemmas.Result.{IfOk-from_err}
 use Rattle.proof_write.specs.Firsts.{listed}
@@ -22,8 +22,7 @@ loop-row-preserved c =
 pub returns : goal.returns
 returns c =
     let rows = c.args.rows.now in
-    let whole : take c.loop-row.row-index rows ≡ rows = take_all c.loop-row.row-index rows (omega arith) in
-    c.loop-row.invariant ∙ ap listed whole
+    c.loop-row.invariant ∙ ap listed (take_all c.loop-row.row-index rows (omega arith))
 
 pub returns-in_err-list : goal.returns-in_err-list
 returns-in_err-list c = IfOk-from_err c.from_residual.result _ c.from_residual.ensures.0

@@ -31,7 +31,6 @@ returns g c = record {
       let ended = c.in_ok-ended.ensures in
       let back = sym same in
       let rest = g.E.Ranked.rest c.args.engine.now in
-      let list = cut query.query.limit (combinations_in query.query rest) in
       let empty : c.new-text.result.items ≡ [] = search rules in
       plan_text d key query tables fits plan is
       (subst (λ (tree : List (NodeView g.row.R.Denot)). IsFormed d key tree) back there.formed)
@@ -41,7 +40,7 @@ returns g c = record {
       bounds (subst (λ (tree : List (NodeView g.row.R.Denot)). AreBounds tree
       (length tree) bounds) back there.appended.1) c.in_ok-ended.ended ended.ended
       c.push_last.new.text.items
-      (text_parts bounds list c.in_ok-ended.ended _ _ _ c.push_last.new.text.items
+      (text_parts bounds (cut query.query.limit (combinations_in query.query rest)) c.in_ok-ended.ended _ _ _ c.push_last.new.text.items
       (c.in_ok-push_header.ensures.appended
       ∙ ap (λ l. l ++ header_text) empty) there.appended.2 ended.appended c.in_ok-push_last.ensures.appended);
 }

@@ -16,18 +16,13 @@ choose-choice-requires-clause-room g c = c.requires.room
 
 pub returns : goal.returns
 returns g c =
-    let d = g.R.Rank.KEYS in
-    let key = g.R.Rank.key in
-    let t = c.args.tree.now in
+    let d = g.R.Rank.KEYS in let key = g.R.Rank.key in let t = c.args.tree.now in
     let w = c.args.walk in
     let links : List (Linked Link) = c.args.self.now.links.entries in
     let more : List (Linked Link) = c.push_reserved-last.new.self.entries in
-    let before = c.args.self.now.queue.entries in
-    let same = c.choose-choice.ensures.links in
-    let choice = c.choose-choice.ensures.choice in
-    let row = c.choose-choice.result.row in
-    let rows = c.choose-choice.new.chosen in
-    let entries = c.choose-choice.new.self.queue.entries in
+    let before = c.args.self.now.queue.entries in let same = c.choose-choice.ensures.links in
+    let choice = c.choose-choice.ensures.choice in let row = c.choose-choice.result.row in
+    let rows = c.choose-choice.new.chosen in let entries = c.choose-choice.new.self.queue.entries in
     let last = c.push_reserved-last.result in
     let made : Linked Link = record { value = record { row = row; before = w.before }; next = None } in
     let grown : more ≡ links ++ (made ∷ []) = c.push_reserved-last.ensures.entries ∙ ap (λ (l : Entries Link). l.entries ++ (made ∷ [])) same in

@@ -85,8 +85,7 @@ pub offer-requires-then-place-size-2-clause-entries : goal.offer-requires-then-p
 offer-requires-then-place-size-2-clause-entries g c = subst (λ (l : Entries Link). All (IsEntry g.R.Rank.KEYS g.R.Rank.key c.args.tree.now l.entries) c.offer.new.self.queue.entries) (sym c.offer.ensures.links) c.offer.ensures.entries
 
 pub offer-requires-then-place-size-2-clause-top : goal.offer-requires-then-place-size-2-clause-top
-offer-requires-then-place-size-2-clause-top g c e =
-    absurd (false≢true e)
+offer-requires-then-place-size-2-clause-top g c e = absurd (false≢true e)
 
 pub offer-requires-then-place-size-2-clause-room : goal.offer-requires-then-place-size-2-clause-room
 offer-requires-then-place-size-2-clause-room g c = omega (arith, c.requires.room, c.offer.ensures.room)
@@ -114,10 +113,9 @@ returns-then-place-size-2 g c = record {
   links = c.offer-then-place-size-2.ensures.links ∙ c.offer.ensures.links;
   room = omega (arith, c.offer-then-place-size-2.ensures.room, c.offer.ensures.room);
   cost = let n = length c.args.self.now.queue.entries in
-      let mid = length c.offer.new.self.queue.entries in
       let more = c.offer.ensures.length in
       let a = bit_length_rises (n + 1) (n + 2) (omega arith) in
-      let b = bit_length_rises (mid + 1) (n + 2) (omega (arith, more)) in
+      let b = bit_length_rises ((length c.offer.new.self.queue.entries) + 1) (n + 2) (omega (arith, more)) in
       omega (arith, a, b, c.group_at-group.ensures.cost, c.member-row.ensures.counted, c.best-best.ensures.counted, c.offer.ensures.cost, c.offer-then-place-size-2.ensures.cost);
 }
 

@@ -25,11 +25,9 @@ loop-walk-init g c =
 
 pub loop-walk-preserved : goal.loop-walk-preserved
 loop-walk-preserved g c =
-    let l = c.loop-walk.invariant in
-    let more = c.advance-walk.ensures in
+    let l = c.loop-walk.invariant in let more = c.advance-walk.ensures in
     let e = more.advanced in
-    let below = l.below in
-    let node = c.loop-walk.walk.node in
+    let below = l.below in let node = c.loop-walk.walk.node in
     let next = c.advance-walk.result.node in
     record {
       at = e.at;

@@ -8,15 +8,13 @@ use Rattle.anyk_part.proofs.frontier.Frontier.offer.Goals as goal
 
 pub best-best-requires-clause-row : goal.best-best-requires-clause-row
 best-best-requires-clause-row g c =
-    let t = c.args.tree.now in
-    let s = c.args.site.now in
+    let t = c.args.tree.now in let s = c.args.site.now in
     let near : c.args.place < length (members t s.node s.group) = c.requires.place in
     subst (λ z. z < rows t s.node) (sym c.member-row.ensures.member) (member_row g.R.Rank.KEYS g.R.Rank.key t c.args.self.now.links.entries s c.requires.site c.args.place near)
 
 pub swap-rank-requires : goal.swap-rank-requires
 swap-rank-requires g c =
-    let t = c.args.tree.now in
-    let s = c.args.site.now in
+    let t = c.args.tree.now in let s = c.args.site.now in
     let near : c.args.place < length (members t s.node s.group) = c.requires.place in
     let row : c.member-row.result < rows t s.node =
     subst (λ z. z < rows t s.node) (sym c.member-row.ensures.member) (member_row g.R.Rank.KEYS g.R.Rank.key t c.args.self.now.links.entries s c.requires.site c.args.place near) in
@@ -34,8 +32,7 @@ new-candidate-requires-clause-before g c = site_begins g.R.Rank.KEYS g.R.Rank.ke
 pub returns : goal.returns
 returns g c = record {
   entries = let t = c.args.tree.now in
-      let s = c.args.site.now in
-      let links = c.args.self.now.links.entries in
+      let s = c.args.site.now in let links = c.args.self.now.links.entries in
       let near : c.args.place < length (members t s.node s.group) = c.requires.place in
       let e : Entry g.row.R.Denot Candidate = record { rank = c.swap-rank.result; tag = c.new-candidate.result } in
       entries_put (IsEntry g.R.Rank.KEYS g.R.Rank.key t links) c.args.top_stands e c.args.self.now.queue.entries c.put.new.self.queue.entries (c.put.ensures.replaced e) c.put.ensures.pushed
@@ -43,8 +40,7 @@ returns g c = record {
       c.new-candidate.result c.new-candidate.ensures.parts)
       c.requires.entries;
   held = let t = c.args.tree.now in
-      let s = c.args.site.now in
-      let links = c.args.self.now.links.entries in
+      let s = c.args.site.now in let links = c.args.self.now.links.entries in
       let e : Entry g.row.R.Denot Candidate = record { rank = c.swap-rank.result; tag = c.new-candidate.result } in
       held_put g.R.Rank.KEYS g.R.Rank.key t links s c.requires.site c.args.top_stands e c.args.place c.new-candidate.ensures.parts c.args.self.now.queue.entries c.put.new.self.queue.entries c.requires.top (c.put.ensures.replaced e) c.put.ensures.pushed;
   links = c.put.ensures.links;

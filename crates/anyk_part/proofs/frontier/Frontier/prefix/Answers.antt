@@ -13,12 +13,11 @@ rest g c = chain_rest c.args.self.now.links.entries c.loop-before.node c.in-Some
 
 pub loop-before-init : goal.loop-before-init
 loop-before-init g c =
-    let links = c.args.self.now.links.entries in
     record {
       within = omega arith;
       long = refl;
       chained = c.requires.chained;
-      rows = prefix_start (chain links c.args.count c.args.last) _ c.args.count;
+      rows = prefix_start (chain c.args.self.now.links.entries c.args.count c.args.last) _ c.args.count;
       cost = omega arith;
     }
 
@@ -39,8 +38,7 @@ loop-before-smaller g c = omega (arith, (rest g (goal.at.loop-before-smaller g c
 
 pub loop-before-preserved : goal.loop-before-preserved
 loop-before-preserved g c =
-    let links = c.args.self.now.links.entries in
-    let l = c.loop-before.invariant in
+    let links = c.args.self.now.links.entries in let l = c.loop-before.invariant in
     let next = rest g (goal.at.loop-before-preserved g c).In-Some in
     let here : link_at links c.in-Some.id ≡ c.get-link.result.now = c.get-link.ensures.value _ in
     let below : c.args.count ≤ length c.loop-before.chosen = omega (arith, l.long, c.requires.count) in
@@ -56,8 +54,7 @@ loop-before-preserved g c =
 
 pub returns-clause-rows : goal.returns-clause-rows
 returns-clause-rows g c =
-    let links = c.args.self.now.links.entries in
-    let l = c.loop-before.invariant in
+    let links = c.args.self.now.links.entries in let l = c.loop-before.invariant in
     prefix_end links (chain links c.args.count c.args.last) (take c.args.count c.loop-before.chosen) c.loop-before.node
     (chain_ends links c.loop-before.node (subst (λ o. IsChain links c.loop-before.node o) c.in_default.is l.chained))
     (subst (λ o. chain links c.args.count c.args.last ≡ chain links c.loop-before.node o ++ drop c.loop-before.node (take c.args.count c.loop-before.chosen)) c.in_default.is l.rows)

@@ -15,6 +15,4 @@ returns-then-top_stands-clause-replaced g c =
 pub returns-then-top_stands-clause-cost : goal.returns-then-top_stands-clause-cost
 returns-then-top_stands-clause-cost g c =
     let n = length c.args.self.now.queue.entries in
-    let cost = c.replace_top.ensures.cost in
-    let digits = bit_length_rises n (n + 1) (omega arith) in
-    omega (arith, cost, digits)
+    omega (arith, c.replace_top.ensures.cost, bit_length_rises n (n + 1) (omega arith))

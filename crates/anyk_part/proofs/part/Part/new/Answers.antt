@@ -37,6 +37,5 @@ returns-clause-cost g c = three_of_sixteen c.args.steps.now c.first_queue.new.st
 
 pub returns-in_err-clone : goal.returns-in_err-clone
 returns-in_err-clone g c =
-    let r = c.from_residual.result in
-    let e = c.from_residual.ensures.0 in
+    let r = c.from_residual.result in let e = c.from_residual.ensures.0 in
     record { tree = IfOk-from_err r _ e; calls = IfOk-from_err r _ e; ranking = IfOk-from_err r _ e; cost = omega arith }

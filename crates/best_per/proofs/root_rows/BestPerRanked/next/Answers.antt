@@ -94,9 +94,7 @@ offer-requires-2-clause-room g c =
 
 pub best_rows-rows-requires-clause-row : goal.best_rows-rows-requires-clause-row
 best_rows-rows-requires-clause-row g c =
-    let d = g.R.Rank.KEYS in
-    let key = g.R.Rank.key in
-    let t = c.self.inside.tree.now in
+    let d = g.R.Rank.KEYS in let key = g.R.Rank.key in let t = c.self.inside.tree.now in
     let formed = c.self.invariant.formed in
     let place = top_place d key t c.self.inside.queue.entries c.self.inside.queue.spare c.self.invariant c.in-Some.top c.pop.new.self.entries c.in-Some.ensures.permutation in
     subst (λ r. r < rows t 0) (sym c.member-row.ensures.member) (member_is_row d key t formed 0 0 c.in-Some.top.tag (first_node _ formed.shaped.some_node) place.within)
@@ -110,9 +108,7 @@ invariant_of-self-2 g c =
 
 pub returns-in_default : goal.returns-in_default
 returns-in_default g c =
-    let d = g.R.Rank.KEYS in
-    let key = g.R.Rank.key in
-    let t = c.self.inside.tree.now in
+    let d = g.R.Rank.KEYS in let key = g.R.Rank.key in let t = c.self.inside.tree.now in
     let entries : List (Entry g.row.R.Denot ℕ) = c.self.inside.queue.entries in
     let empty = none_waits (length entries) c.in_default.ensures.variant.1 in
     let none : answers_of d (rest_keys d key t entries) ≡ [] = ap (answers_of d) (none_rest d key t entries empty) in
@@ -133,9 +129,7 @@ returns-in_default g c =
 
 pub returns : goal.returns
 returns g c =
-    let d = g.R.Rank.KEYS in
-    let key = g.R.Rank.key in
-    let t = c.self.inside.tree.now in
+    let d = g.R.Rank.KEYS in let key = g.R.Rank.key in let t = c.self.inside.tree.now in
     let entries : List (Entry g.row.R.Denot ℕ) = c.self.inside.queue.entries in
     let e : Entry g.row.R.Denot ℕ = c.in-Some.top in
     let left : List (Entry g.row.R.Denot ℕ) = c.offer-2.new.queue.entries in
@@ -149,8 +143,7 @@ returns g c =
     in
     let rows_are : c.best_rows-rows.result ≡ rows_of_key d 16 k = c.best_rows-rows.ensures.rows ∙ ap (λ r. rows_of_key d 16 (best t d key 0 r)) c.member-row.ensures.member in
     let seen : List ℕ → List ℤ → AnswerView = λ r ns. record { rows = r; key = ns } in
-    let spare = c.self.inside.queue.spare in
-    let q = c.self.invariant in
+    let spare = c.self.inside.queue.spare in let q = c.self.invariant in
     let others : List (Entry g.row.R.Denot ℕ) = c.pop.new.self.entries in
     let popped = c.in-Some.ensures.permutation in
     let one : length entries ≡ length others + 1 = one_more _ _ (sym (length_permutation entries (e ∷ others) popped)) in

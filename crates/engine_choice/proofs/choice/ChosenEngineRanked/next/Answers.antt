@@ -1,6 +1,6 @@
-use Rattle.std.proofs.Common.{◌≤◌, ℕ, List, arith}
+use Rattle.std.proofs.Common.{ℕ, List, arith}
 use Rattle.tdp_core.specs.RisingShares.{shares_rise}
-use Rattle.tdp_core.specs.Shares.{share_of, size_of}
+use Rattle.tdp_core.specs.Shares.{size_of}
 use Rattle.engine_choice.proofs.choice.ChosenEngineRanked.next.Goals as goal
 
 pub returns-in-Part : goal.returns-in-Part
@@ -27,12 +27,11 @@ pub returns-in-Best : goal.returns-in-Best
 returns-in-Best g c =
     let size : List ℕ = size_of c.in-Best.best.tree in
     let calls : ℕ = c.in-Best.best.calls in
-    let more : share_of size 0 ≤ share_of size calls = shares_rise size 0 calls (omega arith) in
     record {
       found = rw c.in-Best.is c.next-in-Best.ensures.found;
       end = rw c.in-Best.is c.next-in-Best.ensures.end;
       refused = rw c.in-Best.is c.next-in-Best.ensures.refused;
       counted = rw c.in-Best.is c.next-in-Best.ensures.counted;
       size = rw c.in-Best.is c.next-in-Best.ensures.size;
-      cost = rw c.in-Best.is (omega (arith, c.next-in-Best.ensures.cost, more));
+      cost = rw c.in-Best.is (omega (arith, c.next-in-Best.ensures.cost, shares_rise size 0 calls (omega arith)));
     }

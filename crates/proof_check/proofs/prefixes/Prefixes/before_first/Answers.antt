@@ -11,9 +11,7 @@ returns-in_err-push c = IfOk-from_err c.from_residual-in_err-push.result _ c.fro
 
 pub returns : goal.returns
 returns c =
-    let starts = ap length c.in_ok-push.ensures.items in
-    let none = ap length c.new-starts.ensures.items in
     let more = length-append c.new-starts.result.items (replicate 16 0 ∷ []) in
     first_prefixes c.args.places.now c.push.new.self.items c.in_ok-numbers.numbers.items
     (c.in_ok-numbers.ensures.items_if_clones_equal (λ y same. same))
-    (omega (arith, starts, none, more))
+    (omega (arith, ap length c.in_ok-push.ensures.items, ap length c.new-starts.ensures.items, more))

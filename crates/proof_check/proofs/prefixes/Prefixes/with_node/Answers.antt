@@ -7,8 +7,7 @@ use Rattle.proof_check.proofs.prefixes.Prefixes.with_node.Goals as goal
 
 pub loop-i-init : goal.loop-i-init
 loop-i-init c =
-    let p = c.args.node in
-    let places = c.args.places.now in
+    let p = c.args.node in let places = c.args.places.now in
     let numbers = c.args.self.now.numbers.items in
     subst (λ ps. AreAdded p places numbers 0 ps c.new.result.items c.new-2.result.items) (sym c.requires.empty)
     (subst (λ xs. AreAdded p places numbers 0 [] xs c.new-2.result.items) (sym c.new.ensures.items)
@@ -27,8 +26,7 @@ loop-i-preserved c =
 pub returns : goal.returns
 returns c = record {
   next =
-      let p = c.args.node in
-      let places = c.args.places.now in
+      let p = c.args.node in let places = c.args.places.now in
       let numbers = c.args.self.now.numbers.items in
       let done : c.loop-i.i ≡ length places = omega arith in
       next_prefixes p places numbers c.args.self.now.starts.items c.requires.prefixes c.loop-i.taken
@@ -36,8 +34,7 @@ returns c = record {
       (subst (λ k. AreAdded p places numbers k c.loop-i.taken c.loop-i.next.numbers.items c.loop-i.next.starts.items) done
       c.loop-i.invariant);
   taken =
-      let p = c.args.node in
-      let places = c.args.places.now in
+      let p = c.args.node in let places = c.args.places.now in
       let numbers = c.args.self.now.numbers.items in
       let done : c.loop-i.i ≡ length places = omega arith in
       taken_pairs p places numbers c.args.self.now.starts.items c.requires.prefixes c.loop-i.taken

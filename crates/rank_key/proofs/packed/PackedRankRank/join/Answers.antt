@@ -22,5 +22,4 @@ returns-clause-sum g c =
     let a = c.args.a in let b = c.args.b in
     let sum = number_sum a.number b.number held.0.number a.fits b.fits held.0.fits held.1 in
     let parts = sum_read c.get.result c.get-2.result a.number b.number c.get.ensures c.get-2.ensures a.fits b.fits in
-    let made : c.new.result ≡ held.0.number = c.new.ensures ∙ number_read _ held.0.number (parts ∙ sym sum) held.0.fits in
-    ap packed_key made ∙ held.1
+    ap packed_key (c.new.ensures ∙ number_read _ held.0.number (parts ∙ sym sum) held.0.fits) ∙ held.1

@@ -36,6 +36,5 @@ returns-clause-swapped g c = λ other is.
     let sum = number_sum held.0.number n.number whole.0.number held.0.fits n.fits whole.0.fits (whole.1 ∙ ap (λ k. key_add 1 16 k (packed_key n.number)) (sym held.1)) in
     let left = difference_read c.get.result c.get-2.result t.number o.number c.get.ensures c.get-2.ensures t.fits o.fits in
     let parts = sum_read (read c.get.result -ℤ read c.get-2.result) c.get-3.result held.0.number n.number (left ∙ sym rest) c.get-3.ensures held.0.fits n.fits in
-    let made : c.new.result ≡ whole.0.number = c.new.ensures ∙ number_read _ whole.0.number (parts ∙ sym sum) whole.0.fits in
-    ap packed_key made ∙ whole.1
+    ap packed_key (c.new.ensures ∙ number_read _ whole.0.number (parts ∙ sym sum) whole.0.fits) ∙ whole.1
     ∙ ap (λ k. key_add 1 16 k (packed_key n.number)) (rest_is 1 16 c.requires.rest other (packed_key o.number) (sym c.requires.whole ∙ is))
