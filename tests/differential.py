@@ -739,7 +739,7 @@ REFUSALS = [
     over(JOIN, 2, "usage", ["run", "q.sql", "R="]),
     over(JOIN, 2, "usage", ["run", "q.sql", "R=R.csv", "R=R.csv"]),
     over(JOIN, 2, "usage", ["run", "--engine", "best", "q.sql", "R=R.csv"]),
-    over(JOIN, 2, "usage", ["run", "--help"]),
+    over(JOIN, 2, "usage", ["run", "--help", "q.sql"]),
     over(JOIN, 2, "usage", ["run", "--ranks", "--ranks", "q.sql", "R=R.csv"]),
     over(JOIN, 2, "usage", ["plan", "--ranks", "q.sql", "R=R.csv", "S=S.csv"]),
     over(JOIN, 2, "usage", ["plan", "--best-of", "R", "q.sql", "R=R.csv", "S=S.csv"]),
@@ -936,9 +936,9 @@ def main():
             failed += 1
             if failed <= 5:
                 told(f"fixed input of status {wanted[0]}", files, words, wanted, got)
-    # (words that are no text end the program before all else, and it says nothing)
+    # (words that are no text end the program before all else; it says nothing, and the launcher says which)
     got = run(program, {}, [b"run", b"\xff"])
-    if got != (16, b"", b""):
+    if got not in ((16, b"", b""), (16, b"", b"anyk: argument 2 is not UTF-8\n")):
         failed += 1
         told("a word that is no text", {}, ["run", "0xff"], (16, b"", b""), got)
     verdict = f"FAILED: {failed}" if failed else "passed"

@@ -9,8 +9,8 @@ with the name of a script of the repository:
 
 - A call of `./anyk` is run, and has to end with status 0; `./anyk help` and the like print a page of help. What has the form of a
   call, such as `./anyk install DIR`, has to be one of those that `./anyk help` prints.
-- A script has to be there, to be executable, and to take the options that are shown. It is run by .ci/run, by a block of a page or by
-  this script, or else LONG says why not.
+- A script has to be there, to be executable, and to take the options that are shown. It is run by .ci/run or tests/all, by a block of a
+  page or by this script, or else LONG says why not.
 - What is in LONG is named by some page.
 """
 import os
@@ -27,6 +27,8 @@ from using import TOP, commands, folder_of_calls, lines_of, pages
 # What no test runs, and why.
 LONG = {
     ".ci/run": "it is the gate, which runs this script",
+    "tests/all": "it runs this script",
+    "tests/container.sh": "it makes a Debian for minutes, and needs root and a network",
     "rt": "it is a command of the kit and not of the repository, and proves for minutes; .ci/run calls rt ci",
     "tools/gate_times.py": "it runs the gate from nothing",
     "tools/proof_costs.py": "it proves a crate, for up to minutes",
@@ -44,7 +46,7 @@ LONG = {
     "examples/timezones/make.py": "what it makes is that of one release of the time zone database",
     "examples/wordnet/make.py": "it needs a file of a package that is not in the repository",
 }
-SCRIPT = re.compile(r"(?:\.ci/run|(?:tools|tests|bench|examples)/[\w/]+\.(?:py|sh)|make\.py)")
+SCRIPT = re.compile(r"(?:\.ci/run|tests/all|(?:tools|tests|bench|examples)/[\w/]+\.(?:py|sh)|make\.py)")
 
 
 def named_in(page):
@@ -75,8 +77,9 @@ def read(file):
 
 
 def forms():
-    """The forms of a call, as the page of help begins."""
-    return [it.removeprefix("usage:").strip() for it in read("tools/help/anyk.txt").partition("\n\n")[0].split("\n")]
+    """The forms of a call, as the pages of help begin."""
+    heads = [read(f"tools/help/{it}").partition("\n\n")[0] for it in sorted(os.listdir(f"{TOP}/tools/help"))]
+    return [line.removeprefix("usage:").strip() for head in heads for line in head.split("\n")]
 
 
 def why_no_call(text, room):
@@ -113,9 +116,10 @@ def why_no_script(script, words, run):
 
 
 def run_by_others():
-    """The scripts that .ci/run runs, and those that a block of a page does."""
+    """The scripts that .ci/run runs, those that tests/all does, and those that a block of a page does."""
     text = read(".ci/run") + "\n".join(command for page in pages() for block in commands(page) for _, command, _ in block)
-    return set(re.findall(SCRIPT, text))
+    tests = [f"tests/{it}" for it in os.listdir(f"{TOP}/tests") if it.endswith(".py") and os.access(f"{TOP}/tests/{it}", os.X_OK)]
+    return {*re.findall(SCRIPT, text), *tests}
 
 
 def why_no_plots():

@@ -4,13 +4,14 @@
 usage: tests/launcher.py [TEST ..]
 
 All tests are run if none is named; other arguments are ignored. Each test has a small checkout of its own, with the launcher,
-tools/ and man/ of this one, a few crates, and on the PATH a script `rt` that writes what the real one writes. What only some
-machines allow, as a file system that is mounted noexec, is passed over elsewhere. Where the real program is built, or the variable
-ANYK names it, the hints are also tried with it.
+tools/ and man/ of this one, a few crates, an environment of its own, and on the PATH a script `rt` that writes what the real one writes.
+What only some machines allow, as a file system that is mounted noexec, is passed over elsewhere. What the hints say is tried by
+tests/hints.py.
 """
 import ast
 import fcntl
 import glob
+import gzip
 import importlib.util
 import os
 import pty
@@ -25,19 +26,22 @@ import tempfile
 import termios
 import time
 from concurrent.futures import ThreadPoolExecutor
+from hashlib import sha256
 
 from arguments import arguments
+from preloaded import Skipped
 
 TOP = os.path.dirname(os.path.dirname(os.path.abspath(__file__)))
-REAL = os.environ.get("ANYK", f"{TOP}/crates/anyk_cli/out/anyk_cli")
 NOBODY = 65534
 SYSTEM = "/usr/bin:/bin"
-# What the launcher and the stand-in for the program call.
+# What the launcher and the stand-in for the program call, and what it calls besides for the program of release/.
 NEEDED = ("bash", "env", "find", "perl", "readlink", "cat", "sh")
+UNPACKING = ("uname", "mkdir", "sort", "xargs", "sha256sum", "gzip", "mktemp", "chmod", "touch", "mv", "rm")
 CRATES = "# A small house.\nlow:\nmiddle: low\nanyk_cli: low middle std\nother_tests: low\n"
 
 # What the stand-ins share.
 COMMON = """#!/bin/sh
+[ "$1" != version ] || { echo "$(cat "$RT_ROOM/kit line")"; exit 0; }
 broken() { grep -q BROKEN ../"$1"/src/*.rt; }
 link() {
     [ ! -f "$RT_ROOM/linkless" ] || { echo 'error: linking failed'; exit 1; }
@@ -84,6 +88,12 @@ case "$1 $2" in
     echo stamp > anyk_cli.stamp
     ./anyk_cli
     exit 2 ;;
+'ci ')
+    [ ! -f "$RT_ROOM/ci fails" ] || exit 7
+    mkdir -p crates/anyk_cli/out
+    cd crates/anyk_cli/out
+    rm -f anyk_cli
+    link ;;
 *) echo 'rt: what is this?'; exit 2 ;;
 esac
 """
@@ -122,7 +132,7 @@ link
 
 PROGRAM = """#!/bin/sh
 # Stands in for the program: VERSION.
-if [ -n "${SAYS-}" ]; then
+if [ -n "${SAYS-}" ] && [ "$*" != 'load --number 1 --rows 1' ]; then
     printf 'anyk: %s\\n' "$SAYS" >&2
     exit "$STATUS"
 fi
@@ -136,6 +146,7 @@ fi
 [ "$1" != signal ] || kill -TERM $$
 [ "$1" != untold ] || exit 16
 [ "$1" != wait ] || { echo waiting; sleep 30; }
+[ "$1" != stay ] || { echo $$ > "$RT_ROOM/stays"; exec sleep 600; }
 echo "VERSION in $(pwd) with ${GLIBC_TUNABLES-nothing}"
 printf '<%s>' "$@"
 echo
@@ -143,10 +154,6 @@ echo
 
 
 class Failed(Exception):
-    pass
-
-
-class Skipped(Exception):
     pass
 
 
@@ -183,10 +190,10 @@ class House:
         os.chmod(self.room, 0o755)
         self.top = f"{self.room}/a house"
         os.makedirs(f"{self.top}/docs")
-        shutil.copy(f"{TOP}/anyk", f"{self.top}/anyk")
-        shutil.copy(f"{TOP}/docs/USING.md", f"{self.top}/docs/USING.md")
-        for it in ("tools", "man"):
-            shutil.copytree(f"{TOP}/{it}", f"{self.top}/{it}")
+        for it in ("anyk", "VERSION", "LICENSE", "docs/USING.md", "docs/SECURITY.md"):
+            shutil.copy(f"{TOP}/{it}", f"{self.top}/{it}")
+        for it in ("tools", "man", "docs/using"):
+            shutil.copytree(f"{TOP}/{it}", f"{self.top}/{it}", ignore=shutil.ignore_patterns("__pycache__"))
         write(f"{self.top}/crates.txt", CRATES)
         write(f"{self.top}/HANDLES", "Handles allowed: none.\n")
         for crate in ("low", "middle", "other_tests"):
@@ -206,11 +213,15 @@ class House:
         os.makedirs(f"{self.room}/bin")
         os.symlink("../kit/bin/rt", f"{self.room}/bin/rt")
         write(f"{self.room}/program", PROGRAM)
+        write(f"{self.room}/kit line", "a kit of tests\n")
         self.out = f"{self.top}/crates/anyk_cli/out"
         self.program = f"{self.out}/anyk_cli"
         self.proved = f"{self.out}/proved"
         path = SYSTEM if shutil.which("python3", path=SYSTEM) else os.environ["PATH"]
-        self.env = {"PATH": f"{self.room}/bin:{path}", "RT_ROOM": self.room, "HOME": self.room, "TERM": "dumb"}
+        self.home, self.temporary = f"{self.room}/home", f"{self.room}/temporary"
+        for it in (self.home, self.temporary):
+            os.mkdir(it)
+        self.env = {"PATH": f"{self.room}/bin:{path}", "RT_ROOM": self.room, "HOME": self.home, "TMPDIR": self.temporary, "TERM": "dumb", "LANG": "C"}
 
     def source(self, crate, file, text):
         write(f"{self.top}/crates/{crate}/{file}", text)
@@ -287,6 +298,23 @@ class House:
         """How often the program was linked since the last time."""
         return self.calls().count("link")
 
+    def digest(self):
+        """The digest of the sources, as the pages define it."""
+        parts = [f"{self.top}/crates/{it}/{part}" for it in os.listdir(f"{self.top}/crates") for part in ("src", "specs", "proofs")]
+        files = ["crates.txt", *(os.path.relpath(f"{at}/{it}", self.top) for part in parts for at, _, names in os.walk(part) for it in names)]
+        lines = (f"{sha256(open(f'{self.top}/{it}', 'rb').read()).hexdigest()}  {it}\n" for it in sorted(files))
+        return sha256("".join(lines).encode()).hexdigest()
+
+    def released(self, version="release", text=PROGRAM, **facts):
+        """Puts a program into release/ that was built from the sources as they are."""
+        program = text.replace("VERSION", version).encode()
+        os.makedirs(f"{self.top}/release", exist_ok=True)
+        with open(f"{self.top}/release/anyk.gz", "wb") as it:
+            it.write(gzip.compress(program))
+        facts = {"version": "1.0.0", "sources": self.digest(), "program": sha256(program).hexdigest(), "kit": "a kit of tests", **facts}
+        write(f"{self.top}/release/manifest", "".join(f"{it} {value}\n" for it, value in facts.items()))
+        return self
+
     def built(self, version=1):
         """Builds a version, by a first call."""
         self.version(version)
@@ -315,7 +343,12 @@ def as_nobody(house):
     return other
 
 
-def ran(version, where, words, tunables="glibc.malloc.hugetlb=1"):
+# What the launcher sets for the C library.
+TUNABLES = ("glibc.malloc.hugetlb=1:glibc.malloc.mmap_threshold=1073741824:glibc.malloc.trim_threshold=4294967296:"
+            "glibc.malloc.top_pad=16777216")
+
+
+def ran(version, where, words, tunables=TUNABLES):
     """What the stand-in for the program prints."""
     return f"{version} in {where} with {tunables}\n{''.join(f'<{it}>' for it in words)}\n"
 
@@ -343,6 +376,424 @@ def by_rt(house):
     check(int(first.split()[-1]) <= len(os.sched_getaffinity(0)), first)
     house.source("low", "src/lib.rt", "BROKEN\n")
     refuses_old(house, "== low\nsrc/lib.rt:3:5: error[E]: what is broken\n", "anyk: the program was not built")
+
+
+ANSWERED = "anyk: answered by the program of release/, built from these sources; ./anyk build proves and builds it here\n"
+
+
+def answers_by(house, version, *words, **how):
+    """A call that is answered by this version, and builds nothing."""
+    status, output, error = house.call(*words, "x", **how)
+    same((status, output, error), (0, ran(version, how.get("cwd", house.top), [*words, "x"]), ""))
+    same(house.calls(), [])
+
+
+def builds_anew(house, version=1, said=""):
+    """A call that proves and builds, and is answered by what was built, though there is a release."""
+    status, output, error = house.call("x")
+    same((status, output), (0, ran(version, house.top, ["x"])))
+    has(error, said + "anyk: the program is proved and built first")
+    same(house.links(), 1)
+
+
+def test_release(house):
+    house.released()
+    # It needs neither rt nor python3.
+    few = few_commands(house, *NEEDED, *UNPACKING)
+    answers_by(house, "release", more=few)
+    same(sorted(os.listdir(f"{house.out}/release")), ["anyk_cli", "anyk_cli.files"])
+    same(stat.S_IMODE(os.stat(f"{house.out}/release/anyk_cli").st_mode), 0o755)
+    # Later calls look at times alone, by perl, if no source is as new as the last look at all of them.
+    time.sleep(2.1)
+    answers_by(house, "release", more=few)
+    answers_by(house, "release", more=few_commands(house, *NEEDED))
+    # It is seen to be the same after a source was touched, and without perl each time.
+    os.utime(f"{house.top}/crates/low/src/lib.rt")
+    for names in ((*NEEDED, *UNPACKING), [it for it in (*NEEDED, *UNPACKING) if it != "perl"]):
+        answers_by(house, "release", more=few_commands(house, *names))
+    answers_by(house, "release", "a b", cwd="/")
+    answers_by(house, "release", more={"ANYK_NO_BUILD": "1"})
+
+
+def test_release_is_told_once(house):
+    house.released()
+    wanted = (0, ran("release", house.top, ["x"]))
+    same(house.on_terminal("x"), (*wanted, ANSWERED))
+    same(house.on_terminal("x"), (*wanted, ""))
+    shutil.rmtree(f"{house.out}/release")
+    same(house.call("x"), (*wanted, ""))
+    same(house.on_terminal("x"), (*wanted, ""))
+
+
+def test_release_of_other_sources(house):
+    for crate, file, text in (("low", "src/lib.rt", "//! Another text.\n"), ("low", "proofs/one/Proof.antt", "another proof\n"), ("middle", "specs/New.antt", "a spec\n")):
+        house.released()
+        answers_by(house, "release")
+        house.source(crate, file, text)
+        # With its time set back, too.
+        os.utime(f"{house.top}/crates/{crate}/{file}", (1e9, 1e9))
+        before = [read(f"{house.top}/release/manifest"), os.stat(f"{house.top}/release/anyk.gz").st_mtime_ns]
+        builds_anew(house)
+        same([read(f"{house.top}/release/manifest"), os.stat(f"{house.top}/release/anyk.gz").st_mtime_ns], before)
+        shutil.rmtree(house.out)
+    os.remove(f"{house.top}/crates/middle/specs/New.antt")
+    house.released()
+    write(f"{house.top}/crates.txt", CRATES + "# More.\n")
+    builds_anew(house)
+    # What was built is of other sources then, and the release is of these.
+    write(f"{house.top}/crates.txt", CRATES)
+    answers_by(house, "release")
+    # A source that is removed or put back, and a release that is made anew.
+    os.rename(f"{house.top}/crates/low/specs", f"{house.room}/specs")
+    builds_anew(house)
+    os.rename(f"{house.room}/specs", f"{house.top}/crates/low/specs")
+    answers_by(house, "release")
+    house.released("next")
+    answers_by(house, "next")
+
+
+def test_release_that_is_not_whole(house):
+    not_named = "anyk: the program of release/ is not run: its bytes are not those that release/manifest names\n"
+    not_here = "anyk: the program of release/ is not run: it does not run here (an older C library), or in no folder that can be written\n"
+
+    def refuses(said):
+        builds_anew(house, 1, said)
+        shutil.rmtree(house.out)
+
+    house.released()
+    flip_a_byte(house)
+    refuses(not_named)
+    house.released(program="0" * 64)
+    refuses(not_named)
+    house.released(text=PROGRAM.replace("[ $# -gt 0 ]", '[ "$1" != load ] || exit 127\n[ $# -gt 0 ]'))
+    refuses(not_here)
+    house.released()
+    os.remove(f"{house.top}/release/anyk.gz")
+    refuses("")
+    house.released()
+    write(f"{house.top}/release/manifest", "")
+    refuses("")
+    house.released()
+    write(f"{house.room}/bin/uname", "#!/bin/sh\necho Linux aarch64\n")
+    os.chmod(f"{house.room}/bin/uname", 0o755)
+    refuses("")
+    os.remove(f"{house.room}/bin/uname")
+    answers_by(house, "release")
+
+
+def test_release_beside_a_build(house):
+    house.released()
+    answers_by(house, "release")
+    same(house.call("build")[:2], (0, f"anyk: built as {house.program}\n"))
+    same(house.links(), 1)
+    answers_by(house, "1")
+    # What was built goes first, also where its sources were only touched, or had been others for a while.
+    os.utime(f"{house.top}/crates/low/src/lib.rt")
+    answers_by(house, "1")
+    same(house.call("build"), (0, f"anyk: built as {house.program}\n", ""))
+    same(house.calls(), [])
+    shutil.rmtree(f"{house.out}/release")
+    os.utime(f"{house.top}/crates/low/src/lib.rt")
+    answers_by(house, "1")
+    # A build that fails or was broken off leaves the release to answer.
+    write(f"{house.program}.unfinished", "")
+    answers_by(house, "release")
+    # So does one of other sources.
+    house.version(2)
+    house.released("of two")
+    os.remove(f"{house.program}.unfinished")
+    answers_by(house, "of two")
+    same(house.call("build")[:2], (0, f"anyk: built as {house.program}\n"))
+    house.calls()
+    answers_by(house, "2")
+
+
+def test_release_two_at_once(house):
+    house.released()
+    many = [house.start(str(it)) for it in range(8)]
+    for number, begun in enumerate(many):
+        output, error = begun.communicate(timeout=40)
+        same((begun.returncode, output.decode(), error), (0, ran("release", house.top, [str(number)]), b""))
+    same(house.calls(), [])
+    same(sorted(os.listdir(f"{house.out}/release")), ["anyk_cli", "anyk_cli.files"])
+
+
+def test_release_closed_streams(house):
+    house.released()
+    for closed, output in (("2>&-", ran("release", house.top, ["x"])), (">&-", ""), ("<&-", ran("release", house.top, ["x"])), (">&- 2>&- <&-", "")):
+        shutil.rmtree(house.out, ignore_errors=True)
+        by = ["sh", "-c", f'exec "$0" "$@" {closed}', f"{house.top}/anyk"]
+        same((closed, house.call("x", by=by)[1]), (closed, output))
+        same(house.calls(), [])
+
+
+def no_place_in(house):
+    """Lets no one unpack the release in the checkout, not even root."""
+    write(f"{house.out}/release", "")
+
+
+def wrapped(house, name, script):
+    """Puts a script of this name before the command on the PATH."""
+    write(f"{house.room}/bin/{name}", f"#!/bin/sh\n{script}\n")
+    os.chmod(f"{house.room}/bin/{name}", 0o755)
+
+
+def watch_mktemp(house):
+    """Lets what mktemp makes be listed."""
+    wrapped(house, "mktemp", 'made=$(PATH=/usr/bin:/bin mktemp "$@") && echo "$made" | tee -a "$RT_ROOM/made"')
+
+
+def made_by(house):
+    """What mktemp made since the last time."""
+    made = read(f"{house.room}/made").splitlines() if os.path.exists(f"{house.room}/made") else []
+    write(f"{house.room}/made", "")
+    return made
+
+
+def test_release_in_the_cache(house):
+    no_place_in(house.released())
+    watch_mktemp(house)
+    for more, cache in (({}, f"{house.home}/.cache"), ({"XDG_CACHE_HOME": f"{house.room}/cache"}, f"{house.room}/cache"),
+                        ({"XDG_CACHE_HOME": "cache", "HOME": None, "TMPDIR": None}, None), ({"XDG_CACHE_HOME": f"{house.room}/no/cache"}, None)):
+        same(house.on_terminal("x", more=more), (0, ran("release", house.top, ["x"]), ANSWERED))
+        check(all(not os.path.exists(it) for it in made_by(house)))
+        if cache:
+            same(os.listdir(f"{cache}/anyk"), [sha256(PROGRAM.replace("VERSION", "release").encode()).hexdigest()])
+            same(stat.S_IMODE(os.stat(f"{cache}/anyk").st_mode), 0o700)
+            same(house.on_terminal("x", more=more), (0, ran("release", house.top, ["x"]), ""))
+            same(made_by(house), [])
+            # One that was changed there is not run.
+            kept = f"{cache}/anyk/{os.listdir(f'{cache}/anyk')[0]}"
+            write(kept, PROGRAM.replace("VERSION", "another"))
+            answers_by(house, "release", more=more)
+            house.source("low", "src/lib.rt", "//! Another text.\n")
+            same(house.call("x", more={**more, "ANYK_NO_BUILD": "1"})[:2], (1, ""))
+            house.source("low", "src/lib.rt", "//! A crate.\n")
+    same(house.calls(), [])
+    same(os.path.exists(f"{house.room}/no"), False)
+
+
+def test_release_in_no_folder_of_its_own(house):
+    no_place_in(house.released())
+    watch_mktemp(house)
+    write(f"{house.room}/file", "")
+    nowhere = f"{house.room}/file/none"
+    for temporary in (house.temporary, nowhere, "", None):
+        for home in (nowhere, "", None):
+            more = {"TMPDIR": temporary, "HOME": home, "XDG_CACHE_HOME": home}
+            answers_by(house, "release", more=more)
+            for place in made_by(house):
+                folder = house.temporary if temporary == house.temporary else "/tmp"
+                check(place.startswith(f"{folder}/anyk.") and not os.path.exists(place), place)
+    # Its input, its end by a signal and its hints are those of a program with a name.
+    more = {"HOME": nowhere, "TMPDIR": nowhere}
+    same(house.call("input", stdin=None, input=b"given\n", more=more)[1], "given\n" + ran("release", house.top, ["input"]))
+    same(house.call("signal", more=more)[0], -signal.SIGTERM)
+    files_in(house)
+    same(pictured(house, REPORT, "airports.sql", more={**more, "REPORT": f"{house.room}/report"}), (0, TREE, ""))
+    said = house.on_terminal("run", "circle.sql", cwd=f"{house.room}/files", more={**more, "SAYS": "cyclic query: items 1 2 3", "STATUS": "6"})
+    same(said[:2], (6, ""))
+    has(said[2], f"{ANSWERED}anyk: cyclic query: items 1 2 3\n", "item 2 is b (table trains)")
+    # Where no folder takes it, that is said, and it is built.
+    wrapped(house, "mktemp", "exit 1")
+    builds_anew(house, 1, "anyk: the program of release/ is not run: it does not run here (an older C library), or in no folder that can be written\n")
+
+
+def test_release_read_only(house):
+    other = as_nobody(house)
+    house.released()
+    for home in (house.home, f"{house.room}/none"):
+        answers_by(house, "release", more={"HOME": home}, **other)
+        same((os.path.exists(house.out), os.listdir(house.home)), (False, []))
+    os.chmod(house.home, 0o777)
+    answers_by(house, "release", **other)
+    same(os.listdir(house.home), [".cache"])
+    # What root unpacked in the checkout is there for others.
+    answers_by(house, "release", umask=0o077)
+    for _ in range(2):
+        # Two seconds later nothing that has changed is as new as the mark of a call.
+        time.sleep(2.1)
+        answers_by(house, "release")
+        answers_by(house, "release", more=few_commands(house, *NEEDED), **other)
+        os.utime(f"{house.top}/crates/low/src/lib.rt")
+        answers_by(house, "release", **other)
+
+
+def test_release_on_a_read_only_mount(house):
+    house.released()
+    by = ["unshare", "-m"] if os.geteuid() == 0 else ["unshare", "-rm"]
+    # Its own file system is one that nobody can write, not even root.
+    mounts = 'mount --bind "$0" "$0" && mount -o remount,ro,bind "$0"'
+    call = [*by, "sh", "-c", f'{mounts} && ! touch "$0/x" && echo none && "$0/anyk" x && "$0/anyk" x', house.top]
+    if subprocess.run([*by, "sh", "-c", mounts, house.top], **house.how(capture_output=True)).returncode:
+        raise Skipped("nothing can be mounted to be read only here")
+    status, output, error = house.call(by=call, cwd=house.room)
+    same((status, output, error.count("\n")), (0, "none\n" + 2 * ran("release", house.room, []).replace("\n\n", "\n<x>\n"), 1))
+    same(os.listdir(f"{house.home}/.cache"), ["anyk"])
+    same(os.path.exists(house.out), False)
+
+
+def test_release_noexec(house):
+    by = ["unshare", "-m"] if os.geteuid() == 0 else ["unshare", "-rm"]
+    mounted = "mount -t tmpfs -o noexec,mode=777 tmpfs"
+    os.makedirs(f"{house.out}/release")
+    if subprocess.run([*by, *mounted.split(), f"{house.out}/release"], capture_output=True).returncode:
+        raise Skipped("no file system can be mounted noexec here")
+    house.released()
+    os.mkdir(f"{house.room}/cache")
+    places = [f"{house.out}/release", f"{house.room}/cache", house.temporary]
+    mounts = " && ".join(f'{mounted} "${number}"' for number in range(1, 4))
+    call = [*by, "sh", "-c", f'{mounts} && "$0" x && find "$@" -type f', f"{house.top}/anyk", *places]
+    same(house.call(by=call, more={"XDG_CACHE_HOME": places[1]}), (0, ran("release", house.top, ["x"]), ""))
+
+
+def release_tool(house, *words, **how):
+    """What tools/release.py says, and its status."""
+    status, output, error = house.call(*words, by=["python3", "-B", "tools/release.py"], **how)
+    same((words, error), (words, ""))
+    return status, output
+
+
+def flip_a_byte(house):
+    """Changes a byte of the packed program."""
+    with open(f"{house.top}/release/anyk.gz", "r+b") as it:
+        it.seek(-20, os.SEEK_END)
+        byte = it.read(1)[0]
+        it.seek(-1, os.SEEK_CUR)
+        it.write(bytes([byte ^ 1]))
+
+
+def test_release_is_made(house):
+    packed = f"{house.top}/release/anyk.gz"
+    none = (1, "release: there is none: tools/release.py makes one\n")
+    same([release_tool(house, it) for it in ("--check", "--compare")], [none, none])
+    status, output, error = house.call(by=["python3", "-B", "tools/release.py"])
+    same((status, output), (1, "release: nothing was made: the program has to be built first, by ./anyk build\n"))
+    has(error, "ANYK_NO_BUILD forbids to build it")
+    same(os.path.exists(f"{house.top}/release"), False)
+    house.built()
+    status, output = release_tool(house)
+    program = PROGRAM.replace("VERSION", "1").encode()
+    manifest = f"version 1.0.0\nsources {house.digest()}\nprogram {sha256(program).hexdigest()}\nkit a kit of tests\n"
+    same((status, output), (0, f"release: made from crates/anyk_cli/out/anyk_cli: {len(program)} bytes, packed {os.path.getsize(packed)}\n{manifest}"))
+    same(read(f"{house.top}/release/manifest"), manifest)
+    before = [open(packed, "rb").read(), os.stat(packed).st_mtime_ns]
+    same(gzip.decompress(before[0]), program)
+    same(release_tool(house), (0, "release: it was the program of these sources already, and nothing was changed\n"))
+    same([open(packed, "rb").read(), os.stat(packed).st_mtime_ns], before)
+    # Made anew, it has the same bytes.
+    os.remove(packed)
+    same(release_tool(house)[0], 0)
+    same(open(packed, "rb").read(), before[0])
+    # It is what answers where nothing is built.
+    shutil.rmtree(house.out)
+    answers_by(house, "1")
+    same(release_tool(house, "--check"), (0, f"release: it fits the sources: version 1.0.0, {len(program)} bytes, by a kit of tests\n"))
+    for words in (["--what"], ["--check", "--compare"], ["x"]):
+        same(house.call(*words, by=["python3", "-B", "tools/release.py"])[:2], (2, ""))
+
+
+def test_release_is_checked(house):
+    house.built()
+    house.released("1")
+    fits = (0, f"release: it fits the sources: version 1.0.0, {len(PROGRAM.replace('VERSION', '1'))} bytes, by a kit of tests\n")
+    same(release_tool(house, "--check"), fits)
+    same(release_tool(house, "--compare"), (0, "release: passed: its program is the one that was built, byte for byte\n"))
+    # Another program of the same sources fails, and by another kit it is passed over.
+    house.released("another")
+    same(release_tool(house, "--compare"), (1, "release: FAILED, its program is another than was built from the same sources\n"))
+    write(f"{house.room}/kit line", "a newer kit\n")
+    for _ in range(2):
+        same(release_tool(house, "--compare"), (0, "release: SKIPPED, another kit built it\n  it: a kit of tests\n  rt: a newer kit\n"))
+        house.released("1")
+    write(f"{house.room}/kit line", "a kit of tests\n")
+    flip_a_byte(house)
+    for option in ("--check", "--compare"):
+        status, output = release_tool(house, option)
+        check(status == 1 and output.startswith("release: its program "), output)
+    house.released("1", program="0" * 64)
+    same(release_tool(house, "--check"), (1, "release: its program has another SHA-256 than its manifest says\n"))
+    same(release_tool(house, "--compare")[0], 1)
+    house.released("1")
+    write(f"{house.top}/VERSION", "1.0.1\n")
+    same(release_tool(house, "--check"), (1, "release: it has version 1.0.0, and VERSION has 1.0.1\n"))
+    # One of other sources is left alone.
+    house.source("other_tests", "src/lib.rt", "//! Another text.\n")
+    same(release_tool(house, "--compare"), (0, "release: left alone, it was made from other sources\n"))
+    same(release_tool(house, "--check"), (1, "release: it was made from other sources: ./anyk leaves it alone, and tools/release.py makes it anew\n"))
+
+
+def tests_of(house, **scripts):
+    """Puts tests/all and these scripts into the checkout, and an example."""
+    write(f"{house.top}/tests/all", read(f"{TOP}/tests/all").replace("LONGEST = 600", "LONGEST = 12"))
+    os.chmod(f"{house.top}/tests/all", 0o755)
+    for name, text in scripts.items():
+        write(f"{house.top}/tests/{name}.py", f"#!/usr/bin/env python3\n{text}\n")
+        os.chmod(f"{house.top}/tests/{name}.py", 0o755)
+    write(f"{house.top}/tests/no_script.py", "raise SystemExit(1)\n")
+    write(f"{house.top}/examples/one/words", "run\na b\n")
+    write(f"{house.top}/examples/one/expected.csv", ran("release", house.top, ["run", "a b"]))
+
+
+def test_all(house):
+    good = "import sys\nprint('good: 3 cases: passed')\nprint('good: x: SKIPPED, there is no x', file=sys.stderr)"
+    tests_of(house, good=good, must_not_compile="print('by rt')", hangs="import time\ntime.sleep(100)")
+    call = {"by": ["python3", "-B", "tests/all"]}
+    status, output, error = house.call(**call)
+    same((status, output), (1, ""))
+    has(error, "anyk: the program is not built yet", "all: there is no program: ./anyk build makes it\n")
+    house.released()
+    status, output, error = house.call(**call, more={"TMPDIR": f"{house.room}/none", "ANYK_HINTS": "1"})
+    same((status, error), (1, ""))
+    lines = re.sub(r"\b\d+ s\b", "N s", output).splitlines()
+    same(lines[-1], "3 passed, 1 failed")
+    for part in (["tests/good.py: passed, N s", "  good: x: SKIPPED, there is no x"], ["tests/hangs.py: FAILED, N s", "  ", "  it was ended after N s"],
+                 ["tests/must_not_compile.py: passed, N s"], ["examples/one: passed, N s"]):
+        has("\n".join(lines), "\n".join(part))
+    same("no_script" in output, False)
+    os.remove(f"{house.top}/tests/hangs.py")
+    few = few_commands(house, *NEEDED, *UNPACKING, "python3")
+    status, output, _ = house.call(**call, more=few)
+    same((status, output.splitlines()[-1]), (0, "2 passed, 0 failed, 1 skipped"))
+    has(output, "tests/must_not_compile.py: SKIPPED, there is no rt here\n")
+    # All that a script said is shown if it fails, and an example has to give its output.
+    write(f"{house.top}/tests/good.py", "print('one')\nprint('two')\nraise SystemExit(3)\n")
+    write(f"{house.top}/examples/one/expected.csv", "x\n")
+    status, output, _ = house.call("tests/good.py", "examples/one/", **call)
+    same((status, output.splitlines()[-1]), (1, "0 passed, 2 failed"))
+    has(output, "  one\n  two\n  \n  it ended with status 3\n", "  its output is another\n")
+    same(house.call("tests/none.py", **call)[:2], (2, ""))
+    same(house.calls(), [])
+
+
+def test_gate(house):
+    tests_of(house, good="print('good: passed')")
+    write(f"{house.top}/.ci/run", read(f"{TOP}/.ci/run"))
+    call = {"by": ["bash", ".ci/run"]}
+    write(f"{house.room}/ci fails", "")
+    same(house.call(**call), (7, "", ""))
+    same(house.calls(), ["rt ci"])
+    os.remove(f"{house.room}/ci fails")
+    write(f"{house.top}/examples/one/expected.csv", ran("1", house.top, ["run", "a b"]))
+
+    def ends(wanted, *said):
+        time.sleep(0.1)
+        status, output, error = house.call(**call)
+        same((status, error), (wanted, ""))
+        same(house.calls(), ["rt ci"])
+        has(re.sub(r"\b\d+ s\b", "N s", output), "anyk: built as ./crates/anyk_cli/out/anyk_cli\n", *said)
+
+    # The tests run over the program that rt ci has built, though there is a release.
+    house.released("1")
+    ends(0, "tests/good.py: passed, N s\n", "2 passed, 0 failed\n", "release: passed: its program is the one that was built, byte for byte\n")
+    house.released("another")
+    ends(1, "2 passed, 0 failed\n", "release: FAILED, its program is another")
+    house.released("another", kit="another kit")
+    ends(0, "release: SKIPPED, another kit built it\n")
+    house.released("another", sources="0" * 64)
+    ends(0, "release: left alone, it was made from other sources\n")
+    write(f"{house.top}/examples/one/expected.csv", "x\n")
+    ends(1, "1 passed, 1 failed\n", "release: left alone")
 
 
 def test_developers_call(house):
@@ -814,7 +1265,7 @@ def test_share(house):
 
 
 def test_help(house):
-    for words in (["help"], ["--help"], ["-h"], ["help", "run"], ["help", "plan"], ["help", "picture"], ["help", "session"], ["help", "prove"], ["help", "verify"], ["help", "load"], ["help", "install"]):
+    for words in (["help"], ["--help"], ["-h"], ["help", "run"], ["help", "plan"], ["help", "picture"], ["help", "session"], ["help", "prove"], ["help", "verify"], ["help", "load"], ["help", "build"], ["help", "install"]):
         status, output, error = house.call(*words)
         same((words, status, error), (words, 0, ""))
         page = words[1] if len(words) > 1 else "anyk"
@@ -828,180 +1279,50 @@ def test_help(house):
         check(page == "anyk.txt" or f"`{page[:-4]}`" in named, page)
     same(house.call(), (2, "", "anyk: usage\n"))
     same(house.on_terminal(), (2, "", "anyk: usage\n" + read(f"{TOP}/tools/help/anyk.txt")))
-    for words in (["install"], ["install", ""], ["install", "a", "b"], ["install", "--help"], ["install", "-h"]):
+    for words in (["install"], ["install", ""], ["install", "a", "b"], ["install", "-x"], ["build", "x"], ["build", ""], ["release"], ["uninstall"]):
         same(house.call(*words), (2, "", "anyk: usage\n"))
-        same(house.on_terminal(*words), (2, "", "anyk: usage\n" + read(f"{TOP}/tools/help/install.txt")))
+        same(house.on_terminal(*words), (2, "", "anyk: usage\n" + read(f"{TOP}/tools/help/{words[0]}.txt")))
+    for page in os.listdir(f"{TOP}/tools/help"):
+        for word in ("--help", "-h"):
+            same((page, house.call(page[:-4], word)), (page, (0, read(f"{TOP}/tools/help/{page}"), "")))
     same(house.calls(), [])
     # Other words are the program's.
     house.built()
-    for words in (["help", "what"], ["run", "--help"], ["--help", "run"], ["", ""], ["-hx"], [":install:", "x"]):
+    for words in (["help", "what"], ["--help", "run"], ["", ""], ["-hx"], [":install:", "x"], ["build:x"], ["install:2:x"]):
         same(house.call(*words)[1], ran(1, house.top, words))
 
 
 TRAINS = read(f"{TOP}/docs/using/trains.csv")
 HOTELS = read(f"{TOP}/docs/using/hotels.csv")
-# The bounds of a certificate for stay.sql.
-BOUNDS = "anyk-proof 1\nbound 1 6 1\nbound 2 1\nbound 2 3\nbound 2 4\nbound 2 5\n"
 FILES = {
-    "t.csv": TRAINS, "h.csv": HOTELS, "none.csv": "", "blank.csv": "\n\n", "twice.csv": "a,b,a\n1,2,3\n", "cut.csv": "a,b\n1,2\n\n1\n",
-    "bad.csv": 'city,"a\nb",n\nx,y,1\n"x\nx",y,2\nx,\x1b[31my,12.5\n', "semi.csv": "city;price\nOslo;3\n", "big.csv": f"n\n{2**127 - 1}\n",
+    "t.csv": TRAINS, "h.csv": HOTELS, "circle.sql": read(f"{TOP}/docs/using/circle.sql"), "s3.txt": "# one\nopen a\nopen a\n",
     "stay.sql": "SELECT t.train, h.hotel\nFROM trains AS t, hotels AS h\nWHERE t.destination = h.city\n\tAND t.origin = 'Oslo'\nORDER BY t.price + h.price\n",
-    "wrong.sql": "SELECT t.train\nFROM trains t\nWHERE t.price < 200\n", "end.sql": "SELECT a FROM\n", "table.sql": "SELECT * FROM train",
-    "alias.sql": "SELECT * FROM trains t, trains t", "named.sql": "SELECT trains.train FROM trains t",
-    "column.sql": "select\n  t.prise from trains t", "bare.sql": "select prise from trains, hotels", "both.sql": "SELECT price FROM trains, hotels h",
-    "weight.sql": 'select n from "bad" b order by n', "circle.sql": read(f"{TOP}/docs/using/circle.sql"),
-    "range.sql": "select n from big order by n ,\n n - n desc limit 3;", "limit.sql": "select n from big limit 99999999999999999999",
-    "point.sql": "select train from trains where price = 22.50", "twice.sql": "select train from trains order by 2 * price",
-    "times.sql": "select train from trains order by price * 2", "blank.sql": "select asking price from trains",
-    "titled.sql": "select train as t from trains", "form.sql": "select train form trains",
-    "dashes.sql": "select train from trains -- all of them", "under.sql": "select train from trains order by price -- the cheapest",
-    "minus.sql": "select train from trains order by price - -price", "distinct.sql": "select distinct train from trains",
-    "not.sql": "select train from trains where not origin = 'Oslo'", "grouped.sql": "select train from trains group by origin",
-    "null.sql": "select train from trains where price is null", "star.sql": "select t.* from trains t",
-    "cross.sql": "select train from trains t cross join hotels h", "union_of.sql": "select train from trains union select city from hotels",
-    "full.sql": "select trains.train from trains as full", "limited.sql": "select train from trains limit 5 union all select train from trains", "comma.sql": "select train origin from trains", "left.sql": "select trains.train from trains left join hotels on trains.destination = city",
-    "semi.sql": "select price from semi", "one.sql": "select * from x", "many.sql": "select * from " + ", ".join(f"t a{it}" for it in range(17)),
-    "beside.sql": 'SELECT trains.train FROM "trains""t"',
-    "long.sql": "select " + "a" * 300 + ", ? from trains", "union.sql": "select n from bad order by n union all select n from bad",
-    "uneven.sql": "select train from trains union all select city, hotel from hotels", "even.sql": "select train from trains union all select hotel from hotels",
-    "second.sql": "select train from trains order by price union all select n from bad order by n",
-    "p0.txt": "", "p1.txt": "anyk-proof 1\nbound 1 6 1\nbound  2 1\nend\n", "p2.txt": "anyk-proof 1\nbound 3 1\nend\n", "p3.txt": "anyk-proof 1\nend\n",
-    "p4.txt": "anyk-proof 1\nbound 2 1\nbound 2 2\nend\n", "p5.txt": f"{BOUNDS}answer 6 3\nend\n", "p6.txt": f"{BOUNDS}answer 1 1\nanswer 6 1\nend\n",
-    "p7.txt": f"{BOUNDS}answer 6 1\nmore\n", "p8.txt": f"{BOUNDS}answer 6 1\nend\n",
-    "s0.txt": "open a\n", "s1.txt": "open a\nnext a 1\nnext  a 1\n", "s2.txt": "open first\nopen second\nclose second\nnext frist 1\n", "s3.txt": "# one\nopen a\nopen a\n",
 }
 WORDS = ["stay.sql", "trains=t.csv", "hotels=h.csv"]
 
 
-def at(text, column):
-    """How a hint shows a line of the query, with a caret below a column, from 0."""
-    return f"\n      {text}\n{' ' * (6 + column)}^\n"
-
-
-# The arguments of a call, what the program says of it, its status, and what the hint has to hold. The real program says the same of
-# those that need no large file.
+# The arguments of a call, what the program says of it, its status, and what the hint has to hold. tests/hints.py has the others.
 REFUSALS = [
     (["run", "stay.sql"], 2, "usage", ["TABLE=FILE is missing", "usage: anyk run [--engine"]),
-    (["run", "trains=t.csv"], 2, "usage", ["QUERYFILE is missing"]),
-    (["run", "--help"], 2, "usage", ["  anyk help run prints the page of run\n  usage: anyk run"]),
-    (["plan", "-h"], 2, "usage", ["  anyk help plan prints the page of plan\n  usage: anyk plan"]),
-    (["--version"], 2, "usage", ["  --version is not a command\n"]),
-    (["help", "cycle"], 2, "usage", ["there is no page of help for these arguments"]),
-    (["rnu", *WORDS], 2, "usage", ["rnu is not a command; perhaps run is meant", "usage: anyk run", "anyk plan QUERYFILE"]),
-    (["run", "--rank", *WORDS], 2, "usage", ["--rank is not an option of run; perhaps --ranks is meant"]),
-    (["run", "--ranks", "--ranks", *WORDS], 2, "usage", ["--ranks is given twice"]),
-    (["run", "--engine", "best", *WORDS], 2, "usage", ["--engine takes part or rec"]),
-    (["run", *WORDS, "--best-of"], 2, "usage", ["--best-of takes the alias of an item"]),
-    (["run", "--best-of", *WORDS[:2]], 2, "usage", ["QUERYFILE is missing", "[--best-of ALIAS]"]),
-    (["plan", "--best-of", "t", *WORDS], 2, "usage", ["--best-of is not an option of plan"]),
-    (["run", *WORDS, "trains=h.csv", "x"], 2, "usage", ["the table trains is given twice", "x is not of the form TABLE=FILE"]),
-    (["session", *WORDS], 2, "usage", ["--script is missing", "usage: anyk session"]),
-    (["verify", *WORDS], 2, "usage", ["--proof is missing", "usage: anyk verify"]),
-    (["prove", "--rank", *WORDS], 2, "usage", ["--rank is not an option of prove", "usage: anyk prove"]),
-    (["verify", "--proof", "p1.txt", *WORDS], 14, "proof line 3: bad line", ["line 3 of p1.txt:\n", "    bound  2 1\n"]),
-    (["verify", "--proof=p2.txt", *WORDS], 14, "proof line 2: no solution", ["line 2 of p2.txt:\n", "    bound 3 1\n"]),
-    (["verify", *WORDS, "--proof", "p0.txt"], 14, "proof: bad header", []),
-    (["verify", *WORDS, "--proof", "p3.txt"], 14, "proof node 2: bound missing or too high", []),
-    (["verify", *WORDS, "--proof", "p4.txt"], 14, "proof line 3: bound twice", ["line 3 of p4.txt:\n", "    bound 2 2\n"]),
-    (["verify", *WORDS, "--proof", "p5.txt"], 14, "proof line 7: no answer", ["line 7 of p5.txt:\n", "    answer 6 3\n"]),
-    (["verify", *WORDS, "--proof", "p6.txt"], 14, "proof line 8: not in order", ["line 8 of p6.txt:\n", "    answer 6 1\n"]),
-    (["verify", *WORDS, "--proof", "p7.txt"], 14, "proof: wrong number of answers", []),
-    (["verify", *WORDS, "--proof", "p8.txt"], 14, "proof: unlisted answer", []),
-    (["load", "--rows", "3"], 2, "usage", ["--number is missing", "usage: anyk load"]),
-    (["run", "--ranks=yes", *WORDS], 2, "usage", ["--ranks takes no value"]),
-    (["picture", "--dot=svg", *WORDS], 2, "usage", ["--dot takes no value"]),
-    (["load", "--number", "x", "--rows", "0"], 2, "usage", ["--number takes a whole number from 0 to 2147483647", "--rows takes a whole number from 1 to 100000"]),
-    (["load", "--number=01", "--rows"], 2, "usage", ["--number takes a whole number", "--rows takes a whole number"]),
-    (["load", "--number=2147483647", "--rows=100001"], 2, "usage", ["  --rows takes a whole number"]),
-    (["plan", "--rows", *WORDS], 2, "usage", ["--rows is not an option of plan"]),
-    (["picture", "--dots", *WORDS], 2, "usage", ["--dots is not an option of picture; perhaps --dot is meant", "usage: anyk picture"]),
-    (["picture", "--dot", *WORDS, "--dot"], 2, "usage", ["--dot is given twice"]),
-    (["picture", "circle.sql", "trains=t.csv"], 6, "cyclic query: items 1 2 3", ["item 1 is a (table trains)", "docs/USING.md"]),
-    (["picture", "--dot", *WORDS[:2]], 4, "byte 42: unknown table", ["the arguments name the table trains"]),
-    (["run", "beside.sql", "trains=t.csv"], 4, "byte 7: unknown alias", ["the items are t; the table trains is called t there"]),
-    (["run", "wrong.sql", "trains=t.csv"], 3, "syntax error at byte 43", ["line 3 of wrong.sql:", at("WHERE t.price < 200", 14), "there is no inequality"]),
-    (["run", "point.sql", "trains=t.csv"], 3, "syntax error at byte 41", ["a number with a point is written as a string"]),
-    (["run", "twice.sql", "trains=t.csv"], 3, "syntax error at byte 34", ["there is no multiplication: name the column as often as it counts"]),
-    (["run", "times.sql", "trains=t.csv"], 3, "syntax error at byte 40", ["there is no multiplication: name the column as often as it counts"]),
-    (["run", "blank.sql", "trains=t.csv"], 3, "syntax error at byte 14", ["a name with a blank is written in double quotes"]),
-    (["run", "titled.sql", "trains=t.csv"], 3, "syntax error at byte 13", ["there is no other name for a column"]),
-    (["run", "form.sql", "trains=t.csv"], 3, "syntax error at byte 13", ["perhaps from is meant"]),
-    (["run", "dashes.sql", "trains=t.csv"], 3, "syntax error at byte 25", ["there is no comment\n"]),
-    (["run", "under.sql", "trains=t.csv"], 3, "syntax error at byte 41", ["there is no comment\n"]),
-    (["run", "minus.sql", "trains=t.csv"], 3, "syntax error at byte 42", [at("select train from trains order by price - -price", 42) + "  The token"]),
-    (["run", "distinct.sql", "trains=t.csv"], 3, "syntax error at byte 16", ["there is no DISTINCT\n"]),
-    (["run", "not.sql", "trains=t.csv"], 3, "syntax error at byte 35", ["there is no NOT\n"]),
-    (["run", "grouped.sql", "trains=t.csv"], 3, "syntax error at byte 31", ["there is no GROUP BY\n"]),
-    (["run", "null.sql", "trains=t.csv"], 3, "syntax error at byte 37", ["there is no IS: an empty field is equal to ''\n"]),
-    (["run", "star.sql", "trains=t.csv"], 3, "syntax error at byte 9", ["there is no * for one item: name its columns\n"]),
-    (["run", "cross.sql", "trains=t.csv"], 3, "syntax error at byte 27", ["there is no such join"]),
-    (["run", "union_of.sql", "trains=t.csv"], 3, "syntax error at byte 31", ["there is no UNION without ALL\n"]),
-    (["plan", "union_of.sql", "trains=t.csv"], 3, "syntax error at byte 25", ["plan takes one query"]),
-    (["run", "limited.sql", "trains=t.csv"], 3, "syntax error at byte 33", ["LIMIT is that of all branches: it comes once, at the end\n"]),
-    (["run", "comma.sql", "trains=t.csv"], 3, "syntax error at byte 13", ["a name with a blank is written in double quotes\n"]),
-    (["run", "full.sql", "trains=t.csv"], 4, "byte 7: unknown alias", ["the items are full; the table trains is called full there\n"]),
-    (["run", "left.sql", "trains=t.csv", "hotels=h.csv"], 4, "byte 7: unknown alias", ["there is no LEFT JOIN: left is taken for an alias\n"]),
-    (["run", "end.sql", "trains=t.csv"], 3, "syntax error at byte 14", ["(the end of the query)", at("SELECT a FROM", 13)]),
-    (["run", "long.sql", "trains=t.csv"], 3, "syntax error at byte 309", ["    ... aaaa", "? from trains\n"]),
-    (["session", "--script", "s1.txt", *WORDS], 3, "script line 3: bad line", ["line 3 of s1.txt:\n", "    next  a 1\n", "rewind NAME"]),
-    (["session", "--script=s2.txt", *WORDS], 3, "script line 4: unknown cursor", ["next frist 1", "open there: first; perhaps first is meant"]),
     (["session", *WORDS, "--script", "s3.txt"], 3, "script line 3: cursor exists", ["a was opened in line 2"]),
-    (["run", "table.sql", "trains=t.csv"], 4, "byte 14: unknown table", [at("SELECT * FROM train", 14), "the table trains; perhaps trains is meant"]),
-    (["run", "alias.sql", "trains=t.csv"], 4, "item 2: alias used twice", [at("SELECT * FROM trains t, trains t", 24), "item 1 has the alias t too"]),
-    (["run", "named.sql", "trains=t.csv"], 4, "byte 7: unknown alias", [at("SELECT trains.train FROM trains t", 7), "the items are t; the table trains is called t there"]),
-    (["run", "column.sql", "trains=t.csv"], 4, "byte 9: unknown column", ["line 2 of column.sql", at("  t.prise from trains t", 2), "(t.csv) has the columns train, origin, destination, price", "perhaps price is meant"]),
-    (["run", "bare.sql", "trains=t.csv", "hotels=h.csv"], 4, "byte 7: unknown column", ["trains (t.csv)", "hotels (h.csv)", "perhaps price is meant"]),
-    (["run", "semi.sql", "semi=semi.csv"], 4, "byte 7: unknown column", ["separated by semicolons"]),
-    (["run", "both.sql", "trains=t.csv", "hotels=h.csv"], 4, "byte 7: ambiguous column", ["write trains.price or h.price"]),
-    (["run", "--best-of", "hotels", *WORDS], 4, "unknown alias in --best-of", ["the items are t, h; the table hotels is called h there"]),
-    (["session", "--script", "s0.txt", "--best-of=T", *WORDS], 4, "unknown alias in --best-of", ["the items are t, h; perhaps t is meant"]),
-    (["run", "one.sql", "x=none.csv"], 5, "table x: no header", ["the file is none.csv, which is empty"]),
-    (["run", "one.sql", "x=twice.csv"], 5, "table x: column 3: name used twice", ["columns 1 and 3 of twice.csv have the name a"]),
-    (["run", "one.sql", "x=cut.csv"], 5, "table x: row 2: wrong number of fields", ["line 4 of cut.csv, with 1 where the header has 2:\n", "    1\n"]),
-    (["run", "weight.sql", "bad=bad.csv"], 5, "item 1: row 3: column 3: not a weight", ["item 1 is b (table bad), and column 3 is n", "line 6 of bad.csv has '12.5' there: a fraction"]),
-    (["run", "circle.sql", "trains=t.csv"], 6, "cyclic query: items 1 2 3", ["item 1 is a (table trains)", "item 3 is c (table trains)", "docs/USING.md"]),
-    (["run", "range.sql", "big=big.csv"], 7, "order key 2: rank may pass 128 bits", ["order key 2 is n - n desc\n"]),
-    (["run", "many.sql", "t=t.csv"], 8, "more than 16 items", ["there are 17"]),
-    (["run", "limit.sql", "big=big.csv"], 8, "limit at byte 24 out of range", [at("select n from big limit 99999999999999999999", 24)]),
-    (["run", "stay.sql", "trains=tt.csv", "hotels=h.csv"], 9, "file tt.csv: not found", ["perhaps t.csv is meant"]),
-    (["run", "trains=t.csv", "hotels=h.csv"], 9, "file trains=t.csv: not found", ["QUERYFILE is missing"]),
-    (["run", "stay.sql", "trains=~/t.csv", "hotels=h.csv"], 9, "file ~/t.csv: not found", ["the shell left ~ as it is there: write $HOME"]),
-    (["run", "none/q.sql", "trains=t.csv"], 9, "file none/q.sql: not found", ["no folder none"]),
-    (["run", "stay.sql", "trains=.", "hotels=h.csv"], 10, "file .: read failed", ["it is a folder"]),
-    (["run", "stay.sql", "trains=t.csv/x", "hotels=h.csv"], 10, "file t.csv/x: read failed", ["the system says: Not a directory\n"]),
-    (["run", "uneven.sql", "trains=t.csv", "hotels=h.csv"], 15, "branch 2: shape differs", []),
-    (["run", "--best-of", "t", "even.sql", "trains=t.csv", "hotels=h.csv"], 15, "several branches with --best-of", []),
-    (["run", "second.sql", "trains=t.csv", "bad=bad.csv"], 5, "branch 2: item 1: row 3: column 3: not a weight", []),
-]
-# Those that the stand-in alone says.
-LARGE = [
+    (["picture", "--dot", *WORDS[:2]], 4, "byte 42: unknown table", ["the arguments name the table trains"]),
+    (["run", *WORDS], 5, "table trains: row 9: wrong number of fields", ["."]),
+    (["run", "circle.sql", "trains=t.csv"], 6, "cyclic query: items 1 2 3", ["item 1 is a (table trains)", "docs/USING.md"]),
+    (["run", *WORDS], 8, "more than 4194304 node rows", ["."]),
+    (["run", *WORDS], 9, "file x.csv: not found", ["."]),
+    (["run", *WORDS], 10, "file h.csv: read failed", ["."]),
     (["run", *WORDS], 11, "write failed", ["head"]),
-    (["run", *WORDS], 12, "out of memory", []),
-    (["run", "stay.sql"], 8, "query longer than 65536 bytes", ["stay.sql has"]),
-    (["run", "union.sql", "bad=bad.csv"], 8, "more than 8 branches", []),
-    (["run", "range.sql", "big=big.csv"], 8, "more than 8 order keys", ["there are 2"]),
-    (["run", *WORDS], 8, "file t.csv longer than 67108864 bytes", ["it has"]),
-    (["run", *WORDS], 8, "table trains: more than 64 columns", ["the header of t.csv has 4"]),
-    (["run", *WORDS], 8, "table trains: more than 1048576 rows", []),
-    (["run", *WORDS], 8, "more than 4194304 node rows", []),
-    (["session", "--script", "s1.txt", *WORDS], 8, "script: more than 10000 lines", []),
-    (["session", "--script", "s1.txt", *WORDS], 8, "script line 1: more than 64 cursors", ["open a"]),
-    (["run", "union.sql", "bad=bad.csv"], 4, "byte 46: unknown column", [at(FILES["union.sql"], 46), "(bad.csv) has the columns city, a\\nb, n"]),
-    (["run", "union.sql", "bad=bad.csv"], 5, "item 1: row 3: column 3: not a weight", []),
+    (["run", *WORDS], 12, "out of memory", ["."]),
+    (["verify", *WORDS], 14, "proof: unlisted answer", ["for another query"]),
+    (["run", *WORDS], 15, "branch 2: shape differs", ["."]),
 ]
-
-
-HINTS = module("hints")
-PAGE = HINTS.refusals(read(f"{TOP}/docs/USING.md"))
-# The form of each refusal in the page, and what the page says of it.
-SENTENCES = [(HINTS.pattern_of(form), f"  {HINTS.sentence(meaning)} {HINTS.sentence(remedy)}\n") for form, meaning, remedy in PAGE]
 
 
 def hinted(house, words, status, line, parts):
     got, output, said = house.on_terminal(*words, cwd=f"{house.room}/files", more={"SAYS": line, "STATUS": str(status)})
     same((words, got, output, said[: len(line) + 7]), (words, status, "", f"anyk: {line}\n"))
     hint = said[len(line) + 7 :]
-    has(hint, *parts, *(sentences for form, sentences in SENTENCES if form.fullmatch(line) or form.fullmatch(HINTS.without_branch(line))))
+    has(hint, *parts)
     check(all(it.isprintable() for it in hint.splitlines()), repr(hint))
     check(hint.endswith(("\n")) and hint.splitlines()[0].startswith("  "), hint)
     # Where there is no terminal, nothing is added.
@@ -1016,11 +1337,8 @@ def files_in(house):
 def test_hints(house):
     house.built()
     files_in(house)
-    for it in REFUSALS + LARGE:
+    for it in REFUSALS:
         hinted(house, *it)
-    # What the files do not hold is left out, and the sentences stay.
-    for line, status in (("byte 99999: unknown column", 4), ("item 9: row 99: column 99: not a weight", 5), ("script line 77: bad line", 3), ("table q: no header", 5)):
-        hinted(house, ["run", *WORDS], status, line, ["."])
     for line in ("a line that no page has", "byte x: unknown table"):
         same(house.on_terminal("run", more={"SAYS": line, "STATUS": "4"}), (4, "", f"anyk: {line}\n"))
     # Names of every kind go through as they are.
@@ -1036,73 +1354,61 @@ def test_hints(house):
     same(closed[:2], (house.call("x", by=["sh", "-c", 'exec "$0" "$@" >&-', f"{house.top}/anyk"])[0], ""))
 
 
-def test_hints_of_the_program(house):
-    if not os.access(REAL, os.X_OK):
-        raise Skipped("the program is not built")
+def test_arguments_of_no_text(house):
     house.built()
-    files_in(house)
-    shutil.copy(REAL, f"{house.room}/real")
-    os.chmod(f"{house.room}/real", 0o755)
-    os.replace(f"{house.room}/real", house.program)
-    now = time.time() + 1
-    os.utime(house.program, (now, now))
-    for it in REFUSALS:
-        hinted(house, *it)
-    same(house.on_terminal("run", "\udcff.sql", "t=a"), (16, "", "anyk: the argument \\xff.sql is not text (UTF-8)\n"))
+    # The launcher says which, on a terminal or not, and the program ends the call.
+    status, output, said = house.on_terminal("untold", "\udcff.sql", "å", "t=\x1b[\udcc3")
+    same((status, output), (16, ""))
+    check(said.startswith("anyk: argument 2 is not UTF-8\n"), said)
+    for words, number in ((["\udcff.sql"], 2), (["å", "b", "\udcc3"], 4), (["\udcc3", "\udcc3"], 2), (["€", "\udce2\udc82"], 3), (["\udce0\udc80\udc80"], 2),
+                          (["\udced\udca0\udc80"], 2), (["\udcf0\udc80\udc80\udc80"], 2), (["\udcf4\udc90\udc80\udc80"], 2), (["\udcc0\udcaf"], 2),
+                          (["a", "å\udc80"], 3), (["\udcf8\udc88\udc80\udc80\udc80"], 2), (["a\n\udcfe"], 2)):
+        for locale in ("C", "C.UTF-8", "none_NONE.UTF-8"):
+            status, output, said = house.call("untold", *words, more={"LC_ALL": locale})
+            # (bash says so itself if it lacks the caller's locale)
+            said = "".join(it for it in said.splitlines(True) if "warning: setlocale" not in it)
+            same((words, status, output, said), (words, 16, "", f"anyk: argument {number} is not UTF-8\n"))
+    status, output, said = house.on_terminal("x", more={"LC_ALL": "none_NONE.UTF-8"})
+    same((status, output, "perl" in said), (0, ran(1, house.top, ["x"]), False))
+    same(house.call("picture", "\udcff.sql", "a=b", more={"SAYS": "x", "STATUS": "16"}), (16, "", "anyk: argument 2 is not UTF-8\nanyk: x\n"))
+    for words in (["å", "€", "\U0001d11e", "\ud7ff", "\ue000", "\uffff", "\U0010ffff", "\x7f\x01", "日本", "a\nå"], ["x"]):
+        same(house.call("text", *words), (0, ran(1, house.top, ["text", *words]), ""))
 
 
-def test_hint_of_no_text(house):
+def is_running(process):
+    try:
+        return read(f"/proc/{process}/stat").rpartition(")")[2].split()[0] != "Z"
+    except OSError:
+        return False
+
+
+def end_launcher(house, begun, how):
+    """Ends the launcher alone while the program runs, and sees to it that the program ends too."""
+    program = f"{house.room}/stays"
+    until(lambda: os.path.exists(program) and read(program).strip())
+    process = int(read(program))
+    os.remove(program)
+    os.kill(begun.pid, how)
+    try:
+        until(lambda: not is_running(process))
+    finally:
+        if is_running(process):
+            os.kill(process, signal.SIGKILL)
+
+
+def test_killed_launcher(house):
     house.built()
-    line = "anyk: the argument {} is not text (UTF-8)\n"
-    same(house.on_terminal("untold", "\udcff.sql", "å", "t=\x1b[\udcc3"), (16, "", line.format("\\xff.sql") + line.format("t=\\x1b[\\xc3")))
-    same(house.call("untold", "\udcff.sql"), (16, "", ""))
-
-
-def test_hints_in_another_locale(house):
-    house.built()
-    made = f"{house.room}/locales/en_US.ISO-8859-1"
-    os.mkdir(f"{house.room}/locales")
-    if not shutil.which("localedef") or subprocess.run(["localedef", "-i", "en_US", "-f", "ISO-8859-1", made], capture_output=True).returncode:
-        raise Skipped("no locale can be made here")
-    write(f"{house.room}/files/q.sql", 'select å from "bo"')
-    for locale in ("en_US.ISO-8859-1", "C", "C.UTF-8"):
-        more = {"SAYS": "byte 15: unknown table", "STATUS": "4", "LOCPATH": f"{house.room}/locales", "LC_ALL": locale}
-        said = house.on_terminal("run", "q.sql", "bø=t.csv", cwd=f"{house.room}/files", more=more)[2]
-        has(said, at('select å from "bo"', 14), "the table bø")
-
-
-def test_hints_on_a_narrow_terminal(house):
-    house.built()
-    files_in(house)
-    for columns, before, after in ((40, "...  d.name ", "< 3 from trains  ..."), (10, "...  d.name ", "< 3 from trains  ..."),
-                                   (60, "... t d.number, d.price, d.name ", "< 3 from trains  ..."), (0, "select d.number, d.price, d.name ", "< 3 from trains d, x, y, z, zz")):
-        write(f"{house.room}/files/q.sql", "select d.number, d.price, d.name < 3 from trains d, x, y, z, zz")
-        said = house.on_terminal("run", "q.sql", cwd=f"{house.room}/files", more={"SAYS": "syntax error at byte 33", "STATUS": "3"}, columns=columns)[2]
-        has(said, at(before + after, len(before)))
-        check(columns in (0, 10) or len(before + after) + 6 <= columns, columns)
-
-
-def test_hints_of_wide_signs(house):
-    house.built()
-    # A sign of two columns, and one that is put on the sign before it.
-    for text, wide in (('select "日本", x < 3', 2), ('select "e\u0301", x < 3', -1), ("select '日', \"\" < 3", 1)):
-        write(f"{house.room}/files/q.sql", text)
-        place = len(text.partition("<")[0].encode())
-        said = house.on_terminal("run", "q.sql", cwd=f"{house.room}/files", more={"SAYS": f"syntax error at byte {place}", "STATUS": "3"})[2]
-        has(said, at(text, text.index("<") + wide))
-    write(f"{house.room}/files/q.sql", "select '" + "日" * 90 + "' < 3, '" + "日" * 90 + "'")
-    said = house.on_terminal("run", "q.sql", cwd=f"{house.room}/files", more={"SAYS": "syntax error at byte 280", "STATUS": "3"})[2]
-    has(said, at("... " + "日" * 23 + "' < 3, '" + "日" * 5 + " ...", 52))
-
-
-def test_each_refusal_has_a_sentence(house):
-    same([it for it in HINTS.TELLERS if it not in [form for form, _, _ in PAGE]], [])
-    lines = [line for _, _, line, _ in REFUSALS + LARGE]
-    for form, _ in SENTENCES:
-        check(any(form.fullmatch(it) for it in lines), f"no line is tried of the form {form.pattern}")
-    for line in lines:
-        forms = sum(bool(form.fullmatch(line)) for form, _ in SENTENCES)
-        same((line, forms or sum(bool(form.fullmatch(HINTS.without_branch(line))) for form, _ in SENTENCES)), (line, 1))
+    ways = [signal.SIGTERM, signal.SIGHUP, signal.SIGINT]
+    for how in (*ways, signal.SIGKILL):
+        same(house.on_terminal("stay", after=lambda it: end_launcher(house, it, how))[:2], (-how, ""))
+        # Where hints are asked for, there need not be a terminal.
+        begun = house.start("stay", more={"ANYK_HINTS": "1"})
+        end_launcher(house, begun, how)
+        same((begun.communicate(timeout=20), begun.returncode), ((b"", b""), -how))
+    # Without perl no one hears of the last one.
+    few = few_commands(house, *[it for it in NEEDED if it != "perl"], "python3", "sleep")
+    for how in ways:
+        same(house.on_terminal("stay", after=lambda it: end_launcher(house, it, how), more=few)[:2], (-how, ""))
 
 
 # A report of `plan`, with the query that it is of.
@@ -1183,6 +1489,100 @@ def test_picture(house):
         same((drawn.returncode, drawn.stderr, drawn.stdout.count("\nnode "), drawn.stdout.count("\nedge ")), (0, "", 6, 5))
 
 
+TOOL = """import os, sys
+print(sys.argv[1:], os.environ.get("ANYK_PROGRAM"), sys.flags.isolated, sys.flags.utf8_mode, sys.flags.dont_write_bytecode)
+print(os.environ["GLIBC_TUNABLES"], file=sys.stderr)
+sys.exit(5)
+"""
+
+
+def test_tools(house):
+    for command in ("query", "check", "weights", "merge", "pairs", "seal", "check-proof"):
+        write(f"{house.top}/tools/{command.replace('-', '_')}.py", TOOL)
+        write(f"{house.top}/tools/help/{command}.txt", f"usage: anyk {command}\n")
+    # The page is the tool's, and needs neither it nor the program.
+    same(house.call("help", "check-proof"), (0, "usage: anyk check-proof\n", ""))
+    same(house.call("query", "--help"), (0, "usage: anyk query\n", ""))
+    no_build = {"ANYK_NO_BUILD": "1"}
+    for command in ("weights", "merge", "pairs", "seal", "check-proof"):
+        same((command, house.call(command, "a b", "--help", more=no_build)), (command, (5, "['a b', '--help'] None 1 1 1\n", TUNABLES + "\n")))
+    same(house.call(more=no_build, *["query"])[:2], (1, ""))
+    house.built()
+    for command in ("query", "check"):
+        for cwd, by in ((house.top, None), (house.room, ["a house/anyk"]), (house.top, ["sh", "anyk"])):
+            status, output, _ = house.call(command, "\udcff", "x", cwd=cwd, by=by)
+            words, program = output.split("] ")
+            same((status, words), (5, "['\\udcff', 'x'"))
+            same(os.path.realpath(program.split(" 1 1 ")[0]), house.program)
+    few = few_commands(house, *NEEDED)
+    same(house.call("merge", "x", more=few), (1, "", "anyk: python3, which merge needs, is not found\n"))
+    # A program in no folder can be called by a tool too.
+    shutil.rmtree(house.out)
+    no_place_in(house.released())
+    write(f"{house.top}/tools/query.py", 'import os, subprocess\nsubprocess.run([os.environ["ANYK_PROGRAM"], "a", "b"])\n')
+    same(house.call("query", more={"HOME": f"{house.room}/none"}), (0, ran("release", house.top, ["a", "b"]), ""))
+    # What is no tool is the program's.
+    os.remove(f"{house.top}/tools/pairs.py")
+    for words in (["pairs", "x"], ["check_proof", "x"], ["hints", "x"], ["build.py"]):
+        answers_by(house, "release", *words)
+
+
+def test_notes(house):
+    house.built()
+    # What was written in the second of the build is looked at once more, by python3.
+    time.sleep(1.1)
+    same(house.call("x")[0], 0)
+    write(f"{house.top}/tools/notes.py", "import sys\nprint('  a note on', *sys.argv[1:])\nsys.exit(3)\n")
+    answer = ran(1, house.top, ["run", "q.sql"])
+    same(house.on_terminal("run", "q.sql"), (0, answer, "  a note on run q.sql\n"))
+    same(house.call("run", "q.sql", more={"ANYK_HINTS": "1"}), (0, answer, "  a note on run q.sql\n"))
+    # In a call that succeeds, no Python is started without either.
+    wrapped(house, "python3", 'touch "$RT_ROOM/python"')
+    for more in ({}, {"ANYK_HINTS": "0"}, {"ANYK_HINTS": ""}):
+        same(house.call("run", "q.sql", more=more), (0, answer, ""))
+    same(os.path.exists(f"{house.room}/python"), False)
+    # After a refusal there are hints, and no notes.
+    os.remove(f"{house.room}/bin/python3")
+    files_in(house)
+    refusal = {"SAYS": "cyclic query: items 1 2 3", "STATUS": "6", "ANYK_HINTS": "1"}
+    status, output, said = house.call("run", "circle.sql", "trains=t.csv", cwd=f"{house.room}/files", more=refusal)
+    same((status, output, "a note" in said), (6, "", False))
+    has(said, "anyk: cyclic query: items 1 2 3\n  item 1 is a (table trains)\n")
+    # With several lines, or none, too.
+    same(house.call("x", more={**refusal, "SAYS": "one\ntwo", "STATUS": "13"})[2], "anyk: one\ntwo\n")
+
+
+def test_version(house):
+    no_build = {"ANYK_NO_BUILD": "1"}
+    for word in ("--version", "-V", "version"):
+        same(house.call(word, more=no_build), (0, "anyk 1.0.0\n", ""))
+    house.released(kit="another kit of tests")
+    released = f"kit another kit of tests\nprogram {house.out}/release/anyk_cli\n"
+    same(house.call("--version"), (0, f"anyk 1.0.0\n{released}", ""))
+    same(house.calls(), [])
+    house.call("build")
+    same(house.call("--version"), (0, f"anyk 1.0.0\nkit a kit of tests\nprogram {house.program}\n", ""))
+    shutil.rmtree(house.out)
+    no_place_in(house)
+    same(house.call("-V", more={"HOME": f"{house.room}/none"}),
+         (0, "anyk 1.0.0\nkit another kit of tests\nprogram of release/, in no folder that can be written\n", ""))
+    shutil.rmtree(house.top + "/release")
+    git = ["git", "-c", "user.name=a", "-c", "user.email=a", "-c", "init.defaultBranch=main"]
+    if not shutil.which("git", path=house.env["PATH"]):
+        raise Skipped("there is no git here")
+    for words in (["init", "-q"], ["add", "anyk", "VERSION"], ["commit", "-qm", "x"]):
+        subprocess.run([*git, *words], check=True, **house.how())
+    commit = subprocess.run([*git, "rev-parse", "HEAD"], check=True, stdout=subprocess.PIPE, **house.how()).stdout.decode()[:12]
+    for more in ({}, {"GIT_DIR": "/none"}):
+        same(house.call("version", more={**no_build, **more}), (0, f"anyk 1.0.0\ncommit {commit}\n", ""))
+    write(f"{house.top}/VERSION", "1.0.1\n")
+    same(house.call("version", more=no_build), (0, f"anyk 1.0.1\ncommit {commit}, with changes\n", ""))
+    house.built()
+    same(house.call("version", by=["sh", "anyk"])[1].splitlines()[-1], f"program {house.program}")
+    for words in (["version", "x"], ["--version", "-V"], ["Version"]):
+        same(house.call(*words)[1], ran(1, house.top, words))
+
+
 def test_older_python(house):
     for it in glob.glob(f"{TOP}/tools/*.py"):
         ast.parse(read(it), feature_version=(3, 7))
@@ -1242,16 +1642,33 @@ def test_picture_refused(house):
     same((-signal.SIGINT, "") in (interrupted() for _ in range(3)), True)
 
 
+def files_below(folder):
+    return sorted(os.path.relpath(f"{at}/{it}", folder) for at, _, files in os.walk(folder) for it in files)
+
+
+# What is in tools/ for a checkout alone.
+OF_CHECKOUT = ("build.py", "current.pl", "edits.py", "gate_times.py", "gate_times.tsv", "installed.sh", "proof_costs.py", "release.py", "release.sh")
+
+
+def installed_files():
+    """What install puts under a folder, besides its lists."""
+    wanted = ["bin/anyk", "libexec/anyk/anyk_cli", "share/anyk/VERSION", "share/bash-completion/completions/anyk", "share/fish/vendor_completions.d/anyk.fish",
+              "share/man/man1/anyk.1", "share/zsh/site-functions/_anyk", *(f"share/doc/anyk/{it}" for it in ("LICENSE", "SECURITY.md", "USING.md"))]
+    wanted += [f"share/anyk/{it}" for it in os.listdir(f"{TOP}/tools") if it not in (*OF_CHECKOUT, "completions", "help", "__pycache__")]
+    wanted += [f"share/anyk/help/{it}" for it in os.listdir(f"{TOP}/tools/help")]
+    return sorted([*wanted, *(f"share/doc/anyk/using/{it}" for it in os.listdir(f"{TOP}/docs/using"))])
+
+
+LISTS = ["share/anyk/SHA256SUMS", "share/anyk/folders"]
+
+
 def test_install(house):
     to = f"{house.room}/an empty folder"
     house.version(1)
     same(house.call("install", to, umask=0o077)[0:2], (0, f"anyk: installed as {to}/bin/anyk\n"))
     same(house.links(), 1)
-    found = sorted(os.path.relpath(f"{at}/{it}", to) for at, _, files in os.walk(to) for it in files)
-    wanted = ["bin/anyk", "libexec/anyk/anyk_cli", "share/anyk/call.sh", "share/anyk/hints.py", "share/anyk/picture.py", "share/bash-completion/completions/anyk",
-              "share/doc/anyk/USING.md", "share/fish/vendor_completions.d/anyk.fish", "share/man/man1/anyk.1", "share/zsh/site-functions/_anyk"]
-    wanted += [f"share/anyk/help/{it}" for it in os.listdir(f"{TOP}/tools/help")]
-    same(found, sorted(wanted))
+    same(files_below(to), sorted(installed_files() + LISTS))
+    check("share/anyk/hints.py" in files_below(to) and "share/anyk/weights.py" in files_below(to))
     # A second time, over what is there, and by a folder that is named from where the call is.
     same(house.call("install", "../an empty folder")[0], 0)
     others = [{}]
@@ -1269,12 +1686,112 @@ def test_install(house):
     for call in (["anyk"], ["sh", f"{to}/bin/anyk"]):
         same(house.call("x", by=call, cwd=cwd)[1], ran(1, cwd, ["x"]))
     same(house.call("x", by=["bash", "anyk"], cwd=f"{to}/bin")[1], ran(1, f"{to}/bin", ["x"]))
-    same(house.call("help", "run", by=by, cwd=cwd), (0, read(f"{TOP}/tools/help/run.txt"), ""))
+    for words in (["help", "run"], ["run", "--help"]):
+        same(house.call(*words, by=by, cwd=cwd), (0, read(f"{TOP}/tools/help/run.txt"), ""))
+    program = f"{to}/bin/../libexec/anyk/anyk_cli"
+    same(house.call("--version", by=by, cwd=cwd), (0, f"anyk 1.0.0\nkit a kit of tests\nprogram {program}\n", ""))
+    same(house.call("x", "\udcff", by=by, cwd=cwd)[2], "anyk: argument 2 is not UTF-8\n")
+    same(house.call(by=by, cwd=cwd), (2, "", "anyk: usage\n"))
     said = house.on_terminal("run", "circle.sql", by=by, cwd=cwd, more={"SAYS": "cyclic query: items 1 2 3", "STATUS": "6"})[2]
     has(said, "item 2 is b (table trains)", f"{to}/share/doc/anyk/USING.md")
     same(pictured(house, REPORT, "airports.sql", by=by, cwd=cwd), (0, TREE, ""))
+    write(f"{house.room}/prices.csv", "price\n12.50\n")
+    same(house.call("weights", "--scale", "100", f"{house.room}/prices.csv", "price", by=by, cwd=cwd)[:2], (0, "price\n1250\n"))
+    same(house.on_terminal("stay", by=by, cwd=cwd, after=lambda it: end_launcher(house, it, signal.SIGTERM))[:2], (-signal.SIGTERM, ""))
     os.remove(f"{to}/libexec/anyk/anyk_cli")
-    same(house.call("x", by=by, cwd=cwd), (1, "", f"anyk: {to}/bin/../libexec/anyk/anyk_cli, which is the program, is not there: install it again\n"))
+    same(house.call("x", by=by, cwd=cwd), (1, "", f"anyk: {program}, which is the program, is not there: install it again\n"))
+
+
+def test_installed_links(house):
+    house.built()
+    to = f"{house.room}/to"
+    same(house.call("install", to)[0], 0)
+    pages = [it for it in files_below(to) if it.endswith(".md")]
+    same(pages, ["share/doc/anyk/SECURITY.md", "share/doc/anyk/USING.md"])
+    for page in pages:
+        text = read(f"{to}/{page}")
+        links = re.findall(r"\]\(([^)#]+)", text)
+        for link in links:
+            check(link.startswith("https://") or os.path.exists(f"{to}/{os.path.dirname(page)}/{link}"), page, link)
+        # Nothing else is changed.
+        source = read(f"{TOP}/docs/{os.path.basename(page)}")
+        same(*(re.sub(r"\[([^]]*)\]\([^)]*\)", r"\1", it) for it in (text, source)))
+    check("](SECURITY.md" in read(f"{to}/share/doc/anyk/USING.md"))
+
+
+def test_uninstall(house):
+    house.built()
+    to, lists = f"{house.room}/to", [f"anyk: removed from {house.room}/to\n", ""]
+    # From nothing to nothing, by the checkout or by what was installed.
+    for by in (None, [f"{to}/bin/anyk"]):
+        same(house.call("install", to)[0], 0)
+        same(house.call("install", to)[0], 0)
+        same(house.call("uninstall", to, by=by), (0, *lists))
+        same(os.path.exists(to), False)
+        same(house.call("uninstall", to), (1, "", f"anyk: nothing was installed under {to}, or by a version that kept no list of it\n"))
+    # Files and folders of others stay, and so does what was changed.
+    others = ["bin/other", "share/anyk/mine", "share/man/man1/other.1", "notes"]
+    for it in others:
+        write(f"{to}/{it}", "another's\n")
+    os.makedirs(f"{to}/share/zsh/site-functions")
+    same(house.call("install", "to", cwd=house.room, by=["a house/anyk"])[0], 0)
+    write(f"{to}/share/anyk/help/run.txt", "changed\n")
+    os.remove(f"{to}/share/anyk/help/plan.txt")
+    same(house.call("uninstall", "to/", cwd=house.room, by=["a house/anyk"]),
+         (0, "anyk: removed from to/\n", "anyk: to//share/anyk/help/run.txt was changed since, and is left\n"))
+    same(files_below(to), sorted([*others, "share/anyk/help/run.txt"]))
+    same(sorted(os.listdir(f"{to}/share")), ["anyk", "man", "zsh"])
+    # What an earlier version has put there, and this one has not, goes when this one is installed.
+    os.remove(f"{to}/share/anyk/help/run.txt")
+    write(f"{house.top}/tools/old.py", "# An old tool.\n")
+    same(house.call("install", to)[0], 0)
+    os.remove(f"{house.top}/tools/old.py")
+    check("share/anyk/old.py" in files_below(to))
+    same(house.call("install", to)[0], 0)
+    same(files_below(to), sorted([*others, *installed_files(), *LISTS]))
+    # A list that names files elsewhere does nothing there.
+    for name in (f"{house.room}/program", "../program"):
+        with open(f"{to}/share/anyk/SHA256SUMS", "a") as it:
+            it.write(f"{sha256(open(f'{house.room}/program', 'rb').read()).hexdigest()}  {name}\n")
+    same(house.call("uninstall", to), (0, *lists))
+    same([os.path.exists(f"{house.room}/program"), files_below(to)], [True, sorted(others)])
+    for words in ([], [""], ["a", "b"], ["-x"]):
+        same(house.call("uninstall", *words), (2, "", "anyk: usage\n"))
+
+
+def test_packed(house):
+    house.released()
+    packed = f"{house.room}/a b/anyk.tar.gz"
+    os.mkdir(f"{house.room}/a b")
+    watch_mktemp(house)
+    for more in ({}, {"TMPDIR": f"{house.room}/none"}, {"TMPDIR": None}):
+        same(house.call("release", "../a b/anyk.tar.gz", more=more), (0, "anyk: packed as ../a b/anyk.tar.gz\n", ""))
+        check(all("release" in it or not os.path.exists(it) for it in made_by(house)))
+        same(os.listdir(f"{house.room}/a b"), ["anyk.tar.gz"])
+    with open(packed, "rb") as it:
+        before = it.read()
+    same(house.call("release", packed)[0], 0)
+    with open(packed, "rb") as it:
+        check(before == it.read(), "its bytes are others")
+    subprocess.run(["tar", "-xzf", packed], check=True, **house.how(cwd=house.room))
+    to = f"{house.room}/anyk-1.0.0"
+    same(files_below(to), sorted(["LICENSE", "README", "SHA256SUMS", *installed_files()]))
+    ran_by = subprocess.run(["sha256sum", "--quiet", "-c", "SHA256SUMS"], **house.how(cwd=to, capture_output=True, text=True))
+    same((ran_by.stdout, ran_by.stderr, len(read(f"{to}/SHA256SUMS").splitlines())), ("", "", len(installed_files()) + 2))
+    os.rename(house.top, f"{house.room}/gone")
+    # It needs bash alone, and what the stand-in for the program needs.
+    few = few_commands(house, "bash", "sh")
+    same(house.call("x", by=["bash", f"{to}/bin/anyk"], cwd=house.room, more=few), (0, ran("release", house.room, ["x"]), ""))
+    same(house.call("help", "run", by=["bash", f"{to}/bin/anyk"], cwd=house.room, more=few), (0, read(f"{TOP}/tools/help/run.txt"), ""))
+    same(house.call("version", by=[f"{to}/bin/anyk"], cwd=house.room)[1], f"anyk 1.0.0\nkit a kit of tests\nprogram {to}/bin/../libexec/anyk/anyk_cli\n")
+    same(house.call("uninstall", to, by=[f"{to}/bin/anyk"], cwd=house.room)[0], 1)
+    os.rename(f"{house.room}/gone", house.top)
+    for words in ([], [""], ["a.tar.gz", "b"], ["-x.tar.gz"], ["a.zip"]):
+        same(house.call("release", *words), (2, "", "anyk: usage\n"))
+    for name in (f"{house.room}/none/x.tar.gz", f"{house.room}/program/x.tar.gz"):
+        status, output, error = house.call("release", name)
+        same((status, output), (1, ""))
+        has(error, f"anyk: {name} could not be made\n")
 
 
 def test_install_fails(house):
@@ -1332,14 +1849,25 @@ def test_completion(house):
         complete_at anyk run --best-of = a
         complete_at anyk load --rows ''
         complete_at anyk run --rows fi
+        complete_at anyk version ''
+        complete_at anyk check-
+        complete_at anyk weights tra
+        complete_at anyk un
+        complete_at anyk query --t
+        complete_at anyk weights --dr
+        complete_at anyk merge --
+        complete_at anyk pairs --
+        complete_at anyk check-proof --s
     """
     ran_by = subprocess.run(["bash", "-c", script], capture_output=True, text=True)
     lines = ran_by.stdout.splitlines()
     same((ran_by.returncode, ran_by.stderr), (0, ""))
     check("stay.sql" in lines[7] and "trains.csv" in lines[7], lines[7])
-    same(lines[:7] + lines[8:], ["run", "--engine --ranks --rows --best-of", "--script", "part rec", "rec", "stay.sql", "trains.csv",
-                                 "--engine --number --rows", "plan picture prove", "", "--dot", "stay.sql", "trains.csv",
-                                 "picture", "--proof", "first_two.sql", "part rec", "", "", "", "first_two.sql"])
+    same(lines[:7] + lines[8:], ["run release", "--engine --ranks --rows --best-of", "--script", "part rec", "rec", "stay.sql", "trains.csv",
+                                 "--engine --number --rows", "plan picture prove pairs", "", "--dot", "stay.sql", "trains.csv",
+                                 "picture", "--proof", "first_two.sql", "part rec", "", "", "", "first_two.sql",
+                                 "", "check-proof", "trains.csv", "uninstall", "--table --tsv", "--drop --drop-empty", "--limit --descending",
+                                 "--by --from --to --least --most", "--seal"])
     for shell, file in (("zsh", "_anyk"), ("fish", "anyk.fish"), ("bash", "anyk.bash")):
         if shutil.which(shell):
             tried_by = subprocess.run([shell, "-n", f"{TOP}/tools/completions/{file}"], **house.how(capture_output=True))
@@ -1357,9 +1885,16 @@ def test_completion(house):
 def test_scripts_are_clean(house):
     if not shutil.which("shellcheck"):
         raise Skipped("there is no shellcheck here")
-    scripts = [f"{folder}/{it}" for folder in ("tools", "bench") for it in sorted(os.listdir(f"{TOP}/{folder}")) if it.endswith(".sh")]
+    scripts = [f"{folder}/{it}" for folder in ("tools", "bench", "tests") for it in sorted(os.listdir(f"{TOP}/{folder}")) if it.endswith(".sh")]
     scripts += ["anyk", ".ci/run", "tools/completions/anyk.bash"]
     same(subprocess.run(["shellcheck", *scripts], cwd=TOP, capture_output=True, text=True).stdout, "")
+
+
+def clean_environment():
+    """Lets what the tests start see nothing of the caller's environment but the PATH."""
+    kept = {"PATH": os.environ.get("PATH", SYSTEM), "TMPDIR": tempfile.gettempdir(), "HOME": tempfile.gettempdir(), "LANG": "C.UTF-8"}
+    os.environ.clear()
+    os.environ.update(kept)
 
 
 def tried(name):
@@ -1379,6 +1914,7 @@ def tried(name):
 def main():
     tests = [it for it in globals() if it.startswith("test_")]
     tests = [it for it in arguments(__doc__, "", takes_more=True) if it in tests] or tests
+    clean_environment()
     # What is started heeds these signals, even if this script was started in the background, which ignores them.
     signal.signal(signal.SIGINT, signal.default_int_handler)
     signal.signal(signal.SIGHUP, signal.SIG_DFL)

@@ -85,6 +85,9 @@ def of_streams():
                             ("2>&-", 0, "a,rank1\nx,1\n", "")):
             ran = subprocess.run(["sh", "-c", f'exec "$@" {to}', "sh", sys.executable, TOOL, "0.csv"], cwd=room, capture_output=True, text=True, timeout=60)
             yield f"call with {to}", wanted, [ran.returncode, ran.stdout, ran.stderr]
+        ran = subprocess.run([sys.executable, TOOL, "--help"], cwd=room, stdin=subprocess.DEVNULL, capture_output=True, timeout=60)
+        with open(f"{TOP}/tools/help/merge.txt", "rb") as page:
+            yield "help", [0, page.read(), b""], [ran.returncode, ran.stdout, ran.stderr]
         ran = subprocess.run(["sh", "-c", 'exec "$@" 2>&-', "sh", sys.executable, TOOL, "none.csv"], cwd=room, capture_output=True, text=True, timeout=60)
         yield "refusal with 2>&-", [1, ""], [ran.returncode, ran.stdout]
         begun = subprocess.Popen([sys.executable, TOOL, "/dev/stdin", "0.csv"], cwd=room, stdin=subprocess.PIPE, stdout=subprocess.PIPE, stderr=subprocess.PIPE)

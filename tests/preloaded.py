@@ -141,10 +141,12 @@ def real_program(program):
     with open(program, "rb") as file:
         if file.read(4) == b"\x7fELF":
             return program
-    built = f"{os.path.dirname(os.path.realpath(program))}/crates/anyk_cli/out/anyk_cli"
-    if not os.path.exists(built):
-        raise Skipped("the program is not built here")
-    return built
+    how = {"env": {**os.environ, "ANYK_NO_BUILD": "1"}, "stdin": subprocess.DEVNULL, "stdout": subprocess.PIPE}
+    told = subprocess.run([program, "version"], **how).stdout.decode().splitlines()
+    place = next((it[len("program "):] for it in told if it.startswith("program /")), None)
+    if place is None:
+        raise Skipped("there is no program here")
+    return place
 
 
 def in_turn(tries, workers=None):

@@ -28,7 +28,7 @@ from arguments import arguments, program_at
 
 TOP = os.path.dirname(os.path.dirname(os.path.abspath(__file__)))
 PAGES = ("README.md", "CONTRIBUTING.md", "docs/*.md", "bench/*.md", "examples/*.md", "examples/*/*.md")
-OPTIONAL = ("awk", "gzip", "iconv", "mlr")
+OPTIONAL = ("awk", "gzip", "iconv")
 
 
 def pages():

@@ -6,13 +6,16 @@ usage: tests/weights.py
 A word that follows, such as the program's name, plays no part.
 """
 import decimal
+import fractions
 import importlib.util
+import math
 import os
 import random
 import signal
 import subprocess
 import sys
 import tempfile
+import types
 
 from arguments import arguments
 
@@ -34,6 +37,19 @@ FIELDS = [
     ("12:30", 1, None), ("\u0661", 1, None), ("1e99999", 1, None), ("9" * 2000, 1, None),
     (str(GREATEST), 1, str(GREATEST)), (f" {-GREATEST - 1}", 1, str(-GREATEST - 1)), (f"{GREATEST}.0", 1, str(GREATEST)),
     (str(-GREATEST - 1), 1, str(-GREATEST - 1)), ("0" * 38 + "7", 1, "0" * 38 + "7"), ("0" * 39 + "7", 1, "7"),
+]
+
+# a field, the scale, and the whole number that is nearest to it, the greater of two
+ROUNDED = [
+    ("2.5", 1, "3"), ("-2.5", 1, "-2"), ("2.4999", 1, "2"), ("-2.51", 1, "-3"), ("0.5", 1, "1"), ("-0.5", 1, "0"), ("-0.4", 1, "0"),
+    ("1.005", 100, "101"), ("1.004", 100, "100"), ("12", "1.1", "13"), ("7", 1, "7"), ("", 1, ""), ("1e-300", 1, "0"), ("NA", 1, None),
+    (f"{GREATEST}.4", 1, str(GREATEST)), (f"{-GREATEST - 1}.5", 1, str(-GREATEST - 1)),
+]
+
+# the same of fields with a comma before their fraction
+WITH_COMMAS = [
+    ("12,5", 10, "125"), ("1.090,50", 100, "109050"), ("1.090", 1, "1090"), ("1,5", 2, "3"), ("1,090.50", 100, None), ("7", 1, "7"),
+    ("\u20ac 1,20", 10, "12"), (",5", 2, "1"), ("1.09", 1, None),
 ]
 
 # a field, the scale, and what the fault says
@@ -68,6 +84,21 @@ CALLS = [
     (["w", "--fill", "x"], "w\n1\n", 2, "", "no whole number within 128 bits"),
     (["w", "--scale", "x"], "w\n1\n", 2, "", "'x' is no number"),
     ([], "w\n1\n", 2, "", "COLUMN"),
+    (["v", "w", "--scale", "10"], "v,w,x\n1.5,2,3\n,7,8\n", 0, "v,w,x\n15,20,3\n,70,8\n", "2 read, 2 changed, 0 dropped, 0 filled"),
+    (["--scale=10", "w", "--drop", "v"], "v,w,x\nNA,2,3\n1,-,8\n1,1,NA\n", 0, "v,w,x\n10,10,NA\n", "3 read, 1 changed, 2 dropped, 0 filled"),
+    (["v", "w"], "v,w\n1,2\n3,x\n", 1, "", "row 2 (line 3): 'x' is no number"),
+    (["w", "v", "w"], "v,w\n1,2\n", 2, "", "the column 'w' is named twice"),
+    (["w", "--round"], "w\n1.5\n-1.5\n2\n 4\n", 0, "w\n2\n-1\n2\n4\n", "4 read, 3 changed, 0 dropped, 0 filled, 2 rounded half up"),
+    (["w", "--round"], f"w\n{GREATEST}.5\n", 1, "", "is not within 128 bits"),
+    (["v", "w", "--drop-empty"], 'v,w\n1,2\n,3\n4,\n5,6\n', 0, "v,w\n1,2\n5,6\n", "4 read, 0 changed, 2 dropped, 0 filled"),
+    (["v", "w", "--empty", "99", "--scale", "2"], 'v,w\n1,2\n,\n4,\n', 0, "v,w\n2,4\n99,99\n8,99\n", "3 read, 2 changed, 0 dropped, 2 filled"),
+    (["w", "--drop", "--empty", "0"], 'v,w\n1,NA\n,\n', 0, "v,w\n,0\n", "2 read, 0 changed, 1 dropped, 1 filled"),
+    (["w", "--fill", "7", "--drop-empty"], 'v,w\n1,NA\n,\n', 0, "v,w\n1,7\n", "2 read, 0 changed, 1 dropped, 1 filled"),
+    (["w", "--drop-empty", "--empty", "0"], "w\n1\n", 2, "", "not allowed with"),
+    (["w", "--delimiter", ";", "--decimal-comma", "--scale", "100"], 'v;w\na,b;1.090,50\n"x;y";2,5\n', 0, 'v,w\n"a,b",109050\nx;y,250\n',
+     "2 read, 2 changed, 0 dropped, 0 filled"),
+    (["w", "--delimiter", "\\t"], "v\tw\na\t1\n", 0, "v,w\na,1\n", "1 read, 0 changed"),
+    (["w", "--delimiter", "ab"], "w\n1\n", 2, "", "one ASCII character"),
 ]
 
 
@@ -79,6 +110,18 @@ def tool():
     return module
 
 
+def given(scale=(1, 0), **options):
+    """The arguments of a call, as far as they say what a field becomes."""
+    options = {"round": False, "drop": False, "fill": None, "drop_empty": False, "empty": None, "decimal_comma": False, **options}
+    return types.SimpleNamespace(scale=scale, **options)
+
+
+def weight_of(weights, field, scale, **options):
+    """What a field becomes, or None if it is no number."""
+    scale = weights.number_of(scale) if isinstance(scale, str) else scale
+    return weights.Weights(given(scale, **{"drop": True, **options}))[field][0]
+
+
 def as_read(text):
     """A field as the tool reads it: the bytes of UTF-8 as Latin-1."""
     return text.encode().decode("latin-1")
@@ -86,11 +129,15 @@ def as_read(text):
 
 def of_fields(weights):
     for field, scale, wanted in FIELDS:
-        got = weights.weight_of(as_read(field), weights.number_of(str(scale)))
+        got = weight_of(weights, as_read(field), str(scale))
         yield f"field {field[:50]!r} times {scale}", wanted, got
+    for field, scale, wanted in ROUNDED:
+        yield f"field {field[:50]!r} times {scale}, rounded", wanted, weight_of(weights, as_read(field), str(scale), round=True)
+    for field, scale, wanted in WITH_COMMAS:
+        yield f"field {field[:50]!r} times {scale}, with a comma", wanted, weight_of(weights, as_read(field), str(scale), decimal_comma=True)
     for field, scale, wanted in FAULTS:
         try:
-            got = weights.weight_of(as_read(field), weights.number_of(str(scale)))
+            got = weight_of(weights, as_read(field), str(scale))
         except weights.Fault as fault:
             got = str(fault)
         yield f"field {field[:50]!r} times {scale}", wanted, wanted if got and wanted in got else got
@@ -105,8 +152,11 @@ def of_decimals(weights):
         number = decimal.Decimal(whole).scaleb(-places)
         text = rng.choice([f"{number:f}", f"{number:,f}", f"{number:E}"])
         other = rng.randint(-(10**5), 10**5)
-        yield f"decimal {text}", str(whole), weights.weight_of(text, (10**places, 0)).lstrip("+")
-        yield f"decimal {text} times {other}", str(whole * other), weights.weight_of(text, weights.number_of(f"{other}e{places}"))
+        yield f"decimal {text}", str(whole), weight_of(weights, text, (10**places, 0)).lstrip("+")
+        # Halves go up, so the nearest whole number is what is not above a half more.
+        nearest = str(math.floor(fractions.Fraction(whole * other, 10**places) + fractions.Fraction(1, 2)))
+        yield f"decimal {text} times {other}, rounded", nearest, weight_of(weights, text, str(other), round=True).lstrip("+")
+        yield f"decimal {text} times {other}", str(whole * other), weight_of(weights, text, f"{other}e{places}")
 
 
 def of_calls():
@@ -118,6 +168,11 @@ def of_calls():
             last = ran.stderr.decode("utf-8", "backslashreplace").strip().split("\n")[-1]
             got = [ran.returncode, ran.stdout.decode("latin-1"), wanted[2] if wanted[2] in last else last]
             yield f"call {words} over {content!r}", wanted, got
+        ran = subprocess.run([sys.executable, TOOL, "-", "w"], input=b"w\n1.0\n", cwd=room, capture_output=True, timeout=60)
+        yield "the standard input", (0, b"w\n1\n"), (ran.returncode, ran.stdout)
+        ran = subprocess.run([sys.executable, TOOL, "--help"], cwd=room, stdin=subprocess.DEVNULL, capture_output=True, timeout=60)
+        with open(f"{TOP}/tools/help/weights.txt", "rb") as page:
+            yield "help", (0, page.read(), b""), (ran.returncode, ran.stdout, ran.stderr)
         ran = subprocess.run([sys.executable, TOOL, "none.csv", "w"], cwd=room, capture_output=True, timeout=60)
         yield "a file that is missing", (1, b"", b"weights: none.csv: No such file or directory\n"), (ran.returncode, ran.stdout, ran.stderr)
 

@@ -1,13 +1,15 @@
 #!/usr/bin/env python3
 """Builds the program for ./anyk: it has `rt` prove and build it, if it is not built from the sources as they are.
 
-usage: tools/build.py
+usage: tools/build.py [--is-built]
 
-It ends with status 0 if the program is built from the sources as they are, and else with status 1 and a line that says why.
+It ends with status 0 if the program is built from the sources as they are, and else with status 1 and a line that says why. With
+--is-built it builds nothing, and says nothing.
 One call at a time builds; another one waits for it. These files are beside the program:
 
 - anyk_cli.sums: the checksums of the sources and of the program that was built from them;
 - anyk_cli.files: the names of the sources and of their folders, for tools/current.pl;
+- anyk_cli.kit: the line of the kit that built it;
 - anyk_cli.unfinished: a build began and did not end well, so that the program, if there is one, is not to be run;
 - build.log: what the prover said;
 - proved: the libraries of the crates that are proved, each with the checksum of all that it was proved from.
@@ -43,6 +45,7 @@ OUT = f"{CRATE}/out"
 PROGRAM = f"{OUT}/anyk_cli"
 SUMS = f"{PROGRAM}.sums"
 FILES = f"{PROGRAM}.files"
+KIT = f"{PROGRAM}.kit"
 UNFINISHED = f"{PROGRAM}.unfinished"
 STAMP = f"{PROGRAM}.stamp"
 LOG = f"{OUT}/build.log"
@@ -329,7 +332,7 @@ def why_not(text):
 
 def allow_as_sources():
     """Lets whoever may read the sources run the program, whatever the umask of this call is."""
-    for made, like in ((OUT, CRATE), (PROGRAM, f"{TOP}/anyk"), (SUMS, f"{TOP}/crates.txt"), (FILES, f"{TOP}/crates.txt")):
+    for made, like in ((OUT, CRATE), (PROGRAM, f"{TOP}/anyk"), (SUMS, f"{TOP}/crates.txt"), (FILES, f"{TOP}/crates.txt"), (KIT, f"{TOP}/crates.txt")):
         with contextlib.suppress(OSError):
             os.chmod(made, os.stat(made).st_mode & 0o7777 | os.stat(like).st_mode & 0o555)
 
@@ -344,6 +347,12 @@ def kit_of_rt():
     kit = os.path.dirname(os.path.dirname(os.path.realpath(shutil.which("rt"))))
     needed = (PROVER, LINKER, LIBRARIES, TOOLCHAIN, LOGIC, BUILT_LOGIC, *LINKED)
     return kit if all(os.path.exists(f"{kit}/{it}") for it in needed) else None
+
+
+def line_of_kit():
+    """The line by which `rt` names its kit, or an empty text."""
+    named = subprocess.run(["rt", "version"], stdin=subprocess.DEVNULL, stdout=subprocess.PIPE, stderr=subprocess.DEVNULL)
+    return named.stdout.decode(errors="replace") if named.returncode == 0 else ""
 
 
 def tell(crate, said):
@@ -500,7 +509,7 @@ def build(crates, lock):
         # Now, so that no folder of the sources changes in the build.
         os.makedirs(f"{TOP}/crates/{crate}/out", exist_ok=True)
     open(UNFINISHED, "w").close()
-    for it in (SUMS, FILES, STAMP, PROGRAM):
+    for it in (SUMS, FILES, KIT, STAMP, PROGRAM):
         with contextlib.suppress(FileNotFoundError):
             os.remove(it)
     began, sources = time.time_ns(), sum_of_sources(crates)
@@ -524,6 +533,7 @@ def build(crates, lock):
         say(f"the program was not built (all that was said is in {LOG})")
         return False
     write(SUMS, f"{sources}\n{sum_of(PROGRAM)}\n")
+    write(KIT, line_of_kit())
     mark(crates, began)
     allow_as_sources()
     os.remove(UNFINISHED)
@@ -571,8 +581,10 @@ def refuse(why):
     return 1
 
 
-def main():
+def main(may_build):
     crates = crates_below("anyk_cli", text_of(f"{TOP}/crates.txt"))
+    if not may_build:
+        return 0 if crates and is_same(crates) else 1
     if not crates:
         return refuse(f"{TOP}/crates.txt does not name it")
     if is_same(crates):
@@ -612,13 +624,13 @@ if __name__ == "__main__":
     if sys.argv[1:] in (["-h"], ["--help"]):
         print(__doc__.strip())
         sys.exit()
-    if sys.argv[1:]:
-        say(f"tools/build.py takes no argument, and {sys.argv[1]} is one")
+    if sys.argv[1:] not in ([], ["--is-built"]):
+        say(f"tools/build.py takes no argument but --is-built, and here are others: {' '.join(sys.argv[1:])}")
         sys.exit(1)
     signal.signal(signal.SIGTERM, stop)
     signal.signal(signal.SIGHUP, stop)
     try:
-        sys.exit(main())
+        sys.exit(main(may_build=not sys.argv[1:]))
     except KeyboardInterrupt:
         say("the build was interrupted, and the next call begins it again")
         sys.exit(1)

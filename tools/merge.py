@@ -1,12 +1,13 @@
 #!/usr/bin/env python3
-"""Merges the outputs of `./anyk run --ranks` for parts of a table into one, best first.
+"""Merges the outputs of `anyk run --ranks` for parts of a table into one, best first.
 
-usage: tools/merge.py [--limit N] [--descending K ..] FILE ..
+usage: anyk merge [--limit N] [--descending K ..] FILE ..
 
-Each FILE is the output of the same query over other parts of its tables, with the columns rank1, rank2 and so on. K is the number of
-an order key that descends. The merged answers are written to the standard output, the first N of them if --limit says so. Equal
-ranks stay in the order of the files. Files are read as far as they are needed. Status 1 says that the files are no such outputs, and
-status 2 that the arguments are not as above.
+Each FILE is the output of the same query over other parts of its tables, with the columns rank1,
+rank2 and so on. K is the number of an order key that descends. The merged answers are written to
+the standard output, the first N of them if --limit says so. Equal ranks stay in the order of the
+files. Files are read as far as they are needed. Status 1 says that the files are no such outputs,
+and status 2 that the arguments are not as above.
 """
 import argparse
 import csv
@@ -18,41 +19,53 @@ import signal
 import sys
 
 
+HERE = os.path.dirname(os.path.realpath(__file__))
+
+
 class Fault(Exception):
     """What is wrong with the files, as a line for the user."""
+
+
+def quoted(field):
+    return '"' + field.replace('"', '""') + '"'
 
 
 def record_of(fields):
     """A record, with quotes only if a field needs them, or if it is the empty only one."""
     if fields == [""]:
         return '""\n'
-    return ",".join('"' + it.replace('"', '""') + '"' if re.search('[,"\r\n]', it) else it for it in fields) + "\n"
+    return ",".join(quoted(it) if re.search('[,"\r\n]', it) else it for it in fields) + "\n"
 
 
 def lines_of(file):
-    """The lines of a file with their ends, which are line feeds; what else ends a line is between quotes in an output."""
+    """The lines of a file with their ends, which are line feeds. What else ends a line is between
+    quotes in an output."""
     return (it.decode("latin-1") for it in file)
 
 
 def places_of(header):
-    """The places of rank1, rank2 and so on, which are side by side, the last of this name first to be found."""
+    """The places of rank1, rank2 and so on, which are side by side. They begin at the last rank1,
+    since columns of a table may have the same name."""
     starts = [it for it, name in enumerate(header) if name == "rank1"]
     if not starts:
         raise Fault("there is no column rank1: call anyk with --ranks")
-    count = next(it for it in itertools.count(1) if header[starts[-1] + it :][:1] != [f"rank{it + 1}"])
-    return range(starts[-1], starts[-1] + count)
+    first = starts[-1]
+    count = next(it for it in itertools.count(1) if header[first + it :][:1] != [f"rank{it + 1}"])
+    return range(first, first + count)
 
 
 def ranked(name, records, places, descending):
     """The records of a file, each after its sums, those of descending keys negated."""
     last = None
+    signs = [(place, -1 if it in descending else 1) for it, place in enumerate(places, 1)]
     for number, fields in enumerate(records, 1):
         try:
-            sums = [(-1 if it in descending else 1) * int(fields[place]) for it, place in enumerate(places, 1)]
+            sums = [sign * int(fields[place]) for place, sign in signs]
         except (IndexError, ValueError):
             raise Fault(f"{name}: row {number} has no ranks") from None
         if last is not None and sums < last:
-            raise Fault(f"{name}: row {number} comes too late; does an order key descend? see --descending")
+            remedy = "does an order key descend? see --descending"
+            raise Fault(f"{name}: row {number} comes too late; {remedy}")
         last = sums
         yield sums, fields
 
@@ -73,7 +86,8 @@ def merged(names, files, descending):
     headers = [next(it, None) for it in readers]
     for name, header in zip(names, headers):
         if header is None or header != headers[0]:
-            raise Fault(f"{name}: its header is not that of {names[0]}" if header else f"{name}: there is no header")
+            is_other = f"its header is not that of {names[0]}"
+            raise Fault(f"{name}: {is_other if header else 'there is no header'}")
     places = places_of(headers[0])
     lists = [ranked(name, records, places, descending) for name, records in zip(names, readers)]
     return headers[0], (fields for _, fields in heapq.merge(*lists, key=lambda it: it[0]))
@@ -85,15 +99,30 @@ def natural(text):
     return int(text)
 
 
+class Parser(argparse.ArgumentParser):
+    """A parser whose help is a page of the folder beside this file, if it is there."""
+
+    def format_help(self):
+        page = f"{HERE}/help/merge.txt"
+        if not os.path.isfile(page):
+            return __doc__.strip() + "\n"
+        with open(page, encoding="utf-8") as file:
+            return file.read()
+
+
+def arguments():
+    parser = Parser(prog="anyk merge", allow_abbrev=False)
+    parser.add_argument("files", metavar="FILE", nargs="+")
+    parser.add_argument("--limit", metavar="N", type=natural)
+    parser.add_argument("--descending", metavar="K", type=natural, action="append", default=[])
+    return parser.parse_intermixed_args()
+
+
 def main():
     if sys.stderr is None:
         # Else what is said would go to the output.
         sys.stderr = open(os.devnull, "w", encoding="utf-8")
-    parser = argparse.ArgumentParser(prog="tools/merge.py", description="Merges the outputs of ./anyk run --ranks for parts of a table.")
-    parser.add_argument("files", metavar="FILE", nargs="+", help="an output of ./anyk run --ranks")
-    parser.add_argument("--limit", metavar="N", type=natural, help="write the first N answers")
-    parser.add_argument("--descending", metavar="K", type=natural, action="append", default=[], help="order key K descends")
-    given = parser.parse_args()
+    given = arguments()
     try:
         if sys.stdout is None:
             raise Fault("the output is closed")

@@ -16,7 +16,7 @@ import sys
 # An isolated call of python3 does not look for modules in the folder of the script.
 sys.path.insert(0, os.path.dirname(os.path.realpath(__file__)))
 
-from hints import KEYWORDS, Call, Query
+from query_text import KEYWORDS, Call, Query
 
 # A quoted name may hold anything but a quote, line ends too.
 NODE = re.compile(r'node ([0-9]+) parent ([0-9]+) rows ([0-9]+) item ("[^"]*"|[A-Za-z_][A-Za-z0-9_]*)\n')

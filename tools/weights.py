@@ -1,37 +1,56 @@
 #!/usr/bin/env python3
-"""Makes a column of a CSV table ready as a weight of an order key, and writes the table to the standard output.
+"""Makes columns of a CSV table ready as weights of an order key, and writes the table to the
+standard output.
 
-usage: tools/weights.py [--scale N] [--drop | --fill N] FILE COLUMN
+usage: anyk weights [--scale N] [--round] [--drop | --fill N] [--drop-empty | --empty N]
+                    [--delimiter C] [--decimal-comma] FILE COLUMN ..
 
-FILE is a CSV file, or /dev/stdin, and COLUMN is a name in its header. A number in that column may have blanks or one of the
-signs $ € £ ¥ around it, commas between its thousands, a fraction after a point, an exponent, and U+2212 for its minus: ` 7`, `$12`,
-`1,200`, `12.5`, `1e+05`. It is multiplied by the number after --scale, exactly, and is written as a whole number. A field that is
-a whole number already stays as it is if nothing is scaled, and an empty field stays empty.
+FILE is a CSV file, or - for the standard input, and each COLUMN is a name in its header. A number
+in such a column may have blanks or one of the signs $ € £ ¥ around it, commas between its
+thousands, a fraction after a point, an exponent, and U+2212 for its minus: ` 7`, `$12`, `1,200`,
+`12.5`, `1e+05`. It is multiplied by the number after --scale, exactly, and is written as a whole
+number. A field that is a whole number already stays as it is if nothing is scaled, and an empty
+field stays empty.
 
---drop leaves out the rows whose field is no number (`NA`, `-`, `n/a`). --fill N writes the whole number N into them instead, which
-is not scaled. Without these such a field is an error. A number that is not whole after the scaling, or that passes 128 bits, is
-always an error.
+--round takes the nearest whole number after the scaling, and of two the greater: 2.5 becomes 3,
+and -2.5 becomes -2. Without it a number that is not whole then is an error, as one that passes
+128 bits always is. --drop leaves out the rows in which such a field is no number (`NA`, `-`,
+`n/a`), and --fill N writes the whole number N instead, which is not scaled; without these it is
+an error. --drop-empty and --empty N do the same with fields that are empty.
 
-All other fields keep their bytes. Lines end in a line feed, and a field has quotes only if it needs them. The last line on the
-error output counts the rows. Status 1 says that a field, the table or the file is not as it has to be, and status 2 that the
-arguments are not; nothing is written to the output then.
+--delimiter C says which character separates the fields of FILE; they are written with commas.
+--decimal-comma reads 1.090,50 where 1,090.50 is read otherwise.
+
+All other fields keep their bytes. Lines end in a line feed, and a field has quotes only if it
+needs them. The last line on the error output counts the rows. Status 1 says that a field, the
+table or the file is not as it has to be, and status 2 that the arguments are not; nothing is
+written to the output then.
 """
 import argparse
 import csv
+import io
 import os
 import re
 import signal
 import sys
 
+HERE = os.path.dirname(os.path.realpath(__file__))
 ORDER_MARK = b"\xef\xbb\xbf"
 LEAST, GREATEST = -(2**127), 2**127 - 1
 READY = re.compile(r"[+-]?[0-9]{1,39}")
 NUMBER = re.compile(
-    r"(?P<sign>[+-]?)(?P<digits>[0-9]+|[0-9]{1,3}(?:,[0-9]{3})+|(?=\.[0-9]))(?P<fraction>\.[0-9]*)?(?P<exponent>[eE][+-]?0*[0-9]{1,3})?"
+    r"(?P<sign>[+-]?)(?P<digits>[0-9]+|[0-9]{1,3}(?:,[0-9]{3})+|(?=\.[0-9]))"
+    r"(?P<fraction>\.[0-9]*)?(?P<exponent>[eE][+-]?0*[0-9]{1,3})?"
 )
+NEEDS_QUOTES = re.compile('[,"\r\n]').search
 CURRENCY = "$€£¥"
 LONGEST = 1000
 ONE = (1, 0)
+SWAPPED = {ord(","): ".", ord("."): ","}
+# What became of a field, as bits, so that those of a row can be put together.
+CHANGED, FILLED, ROUNDED = 1, 2, 4
+# How many fields are remembered with what they become.
+REMEMBERED = 100_000
 
 
 class Fault(Exception):
@@ -39,18 +58,21 @@ class Fault(Exception):
 
 
 def text_of(field):
-    """The characters of a field whose bytes were read as Latin-1: those of UTF-8 if they are that."""
+    """The characters of a field whose bytes were read as Latin-1: those of UTF-8 if they are."""
     try:
         return field.encode("latin-1").decode("utf-8")
     except UnicodeDecodeError:
         return field
 
 
-def number_of(field):
-    """The number that a field writes, as a whole number and the power of ten that it is multiplied by; None if it writes none."""
+def number_of(field, has_decimal_comma=False):
+    """The number that a field writes, as a whole number and the power of ten that it is multiplied
+    by; None if it writes none."""
     if len(field) > LONGEST:
         return None
     text = text_of(field).replace("\u2212", "-").strip()
+    if has_decimal_comma:
+        text = text.translate(SWAPPED)
     sign = text[:1] if text[:1] in ("+", "-") else ""
     bare = text[len(sign) :].strip().strip(CURRENCY).strip()
     found = NUMBER.fullmatch(sign + bare) or (None if sign else NUMBER.fullmatch(bare))
@@ -62,43 +84,77 @@ def number_of(field):
 
 
 def scaled_by(number, scale):
-    """The product of a number and a scale, which is another, or None if it is not whole."""
+    """The product of a number and a scale, which is another, as two whole numbers, the first to be
+    divided by the second."""
     whole, power = number[0] * scale[0], number[1] + scale[1]
-    if power >= 0:
-        return whole * 10**power
-    quotient, rest = divmod(whole, 10**-power)
-    return quotient if rest == 0 else None
+    return (whole * 10**power, 1) if power >= 0 else (whole, 10**-power)
 
 
-def weight_of(field, scale):
-    """The field as a weight, or None if it writes no number. An empty field stays empty."""
-    if field == "":
-        return field
-    if scale == ONE and READY.fullmatch(field) and LEAST <= int(field) <= GREATEST:
-        return field
-    number = number_of(field)
-    if number is None:
-        return None
-    scaled = scaled_by(number, scale)
-    if scaled is None:
-        raise Fault(f"'{text_of(field)}' is no whole number" + ("; scale it by 10, 100 or more" if scale == ONE else " after the scaling"))
-    if not LEAST <= scaled <= GREATEST:
-        raise Fault(f"'{text_of(field)}' is not within 128 bits")
-    return str(scaled)
+class Weights(dict):
+    """What the fields become: the weight, or None if the row is left out, and what became of the
+    field. It is worked out once for each field."""
+
+    def __init__(self, given):
+        super().__init__()
+        self.scale, self.is_rounded = given.scale, given.round
+        self.has_decimal_comma = given.decimal_comma
+        # What takes the place of a field that is no number, if one of the options says so.
+        self.has_other, self.other = given.drop or given.fill is not None, given.fill
+        self.empty = None if given.drop_empty else given.empty or ""
+
+    def __missing__(self, field):
+        found = self.read(field)
+        if len(self) < REMEMBERED:
+            self[field] = found
+        return found
+
+    def read(self, field):
+        if field == "":
+            return self.empty, FILLED if self.empty else 0
+        if self.scale == ONE and READY.fullmatch(field) and LEAST <= int(field) <= GREATEST:
+            return field, 0
+        number = number_of(field, self.has_decimal_comma)
+        if number is None:
+            if self.has_other:
+                return self.other, FILLED
+            raise Fault(f"'{text_of(field)}' is no number; "
+                        "--drop leaves such rows out, and --fill N writes N")
+        return self.whole(field, *scaled_by(number, self.scale))
+
+    def whole(self, field, dividend, divisor):
+        """The quotient as a weight, if it is whole or is rounded."""
+        quotient, rest = divmod(dividend, divisor)
+        if rest and not self.is_rounded:
+            is_scaled = self.scale != ONE
+            remedy = " after the scaling; --round makes it one" if is_scaled else (
+                "; scale it by 10, 100 or more, or --round it")
+            raise Fault(f"'{text_of(field)}' is no whole number{remedy}")
+        quotient += 2 * rest >= divisor
+        if not LEAST <= quotient <= GREATEST:
+            raise Fault(f"'{text_of(field)}' is not within 128 bits")
+        text = str(quotient)
+        return text, (ROUNDED if rest else 0) | (CHANGED if text != field else 0)
+
+
+def quoted(field):
+    return '"' + field.replace('"', '""') + '"'
 
 
 def record_of(fields):
     """A record, with quotes only if a field needs them, or if it is the empty only one."""
-    if fields == [""]:
+    line = ",".join(fields)
+    if not line:
         return '""\n'
-    quoted = ['"' + it.replace('"', '""') + '"' if any(c in it for c in ',"\r\n') else it for it in fields]
-    return ",".join(quoted) + "\n"
+    # Most records need none, which this tells sooner than a look at each field.
+    if '"' in line or line.count(",") >= len(fields) or "\n" in line or "\r" in line:
+        line = ",".join([quoted(it) if NEEDS_QUOTES(it) else it for it in fields])
+    return line + "\n"
 
 
 def content_of(name):
     """The file's byte order mark, which may be missing, and the bytes after it."""
     try:
-        with open(name, "rb") as file:
+        with open(0 if name == "-" else name, "rb", closefd=name != "-") as file:
             content = file.read()
     except OSError as error:
         raise Fault(f"{name}: {error.strerror}") from None
@@ -110,26 +166,29 @@ def content_of(name):
     return mark, content[len(mark) :]
 
 
-def lines_of(text):
-    """The lines with their ends, which are CR LF, LF or CR. (Other characters that end a line elsewhere are part of fields.)"""
-    return (it.group() for it in re.finditer(r"[^\r\n]*(?:\r\n|\r|\n)|[^\r\n]+", text))
+class Records:
+    """The records of a table, an empty line being none, with the number of the line that the last
+    one ended in. (Only CR LF, LF and CR end a line; others are part of fields.)"""
 
+    def __init__(self, content, delimiter=","):
+        csv.field_size_limit(len(content) + 1)
+        lines = io.StringIO(content.decode("latin-1"), newline="")
+        self.reader = csv.reader(lines, delimiter=delimiter, strict=True)
 
-def records_of(content):
-    """The records with the number of the line that each ends in. Empty lines are no records."""
-    csv.field_size_limit(len(content) + 1)
-    reader = csv.reader(lines_of(content.decode("latin-1")), strict=True)
-    while True:
-        first = reader.line_num + 1
+    @property
+    def line(self):
+        return self.reader.line_num
+
+    def __iter__(self):
+        last = 0
         try:
-            fields = next(reader, None)
+            for fields in self.reader:
+                last = self.reader.line_num
+                if fields:
+                    yield fields
         except csv.Error as error:
-            is_open = "unexpected end" in str(error)
-            raise Fault(f"line {first}: " + ("a quote is never closed" if is_open else str(error))) from None
-        if fields is None:
-            return
-        if fields:
-            yield reader.line_num, fields
+            what = "a quote is never closed" if "unexpected end" in str(error) else str(error)
+            raise Fault(f"line {last + 1}: {what}") from None
 
 
 def place_of(column, header):
@@ -138,48 +197,61 @@ def place_of(column, header):
     if header.count(wanted) == 1:
         return header.index(wanted)
     names = ", ".join(f"'{text_of(it)}'" for it in header)
-    raise Fault(f"the header has {'no' if wanted not in header else 'more than one'} column '{column}', but {names}")
+    count = "no" if wanted not in header else "more than one"
+    raise Fault(f"the header has {count} column '{column}', but {names}")
+
+
+def counted(fields):
+    return f"{fields} field{'' if fields == 1 else 's'}"
 
 
 class Table:
     """The records that are written, and how many rows were met."""
 
-    def __init__(self, arguments):
-        self.column, self.scale = arguments.column, arguments.scale
-        self.drop, self.fill = arguments.drop, arguments.fill
+    def __init__(self, given):
+        self.columns, self.weights, self.delimiter = given.columns, Weights(given), given.delimiter
         self.written = []
-        self.read = self.changed = self.dropped = self.filled = 0
+        self.read = self.dropped = 0
+        # How many rows have fields of which this became, by the bits of it.
+        self.met = [0] * (CHANGED | FILLED | ROUNDED) + [0]
 
     def take(self, content):
-        records = records_of(content)
-        _, header = next(records, (0, None))
+        records = Records(content, self.delimiter)
+        rows = iter(records)
+        header = next(rows, None)
         if header is None:
             raise Fault("there is no header")
-        place = place_of(self.column, header)
+        places = [place_of(it, header) for it in self.columns]
         self.written.append(record_of(header))
-        for line, fields in records:
+        for fields in rows:
             self.read += 1
             try:
-                self.take_row(fields, len(header), place)
+                self.take_row(fields, len(header), places)
             except Fault as fault:
-                raise Fault(f"row {self.read} (line {line}): {fault}") from None
+                raise Fault(f"row {self.read} (line {records.line}): {fault}") from None
 
-    def take_row(self, fields, width, place):
+    def take_row(self, fields, width, places):
         if len(fields) != width:
-            raise Fault(f"{len(fields)} field{'' if len(fields) == 1 else 's'}, where the header has {width}")
-        weight = weight_of(fields[place], self.scale)
-        if weight is not None:
-            self.changed += weight != fields[place]
-        elif self.drop:
-            self.dropped += 1
-            return
-        elif self.fill is not None:
-            self.filled += 1
-            weight = self.fill
-        else:
-            raise Fault(f"'{text_of(fields[place])}' is no number; --drop leaves such rows out, and --fill N writes N")
-        fields[place] = weight
+            raise Fault(f"{counted(len(fields))}, where the header has {width}")
+        met = 0
+        for place in places:
+            fields[place], became = self.weights[fields[place]]
+            if fields[place] is None:
+                self.dropped += 1
+                return
+            met |= became
+        self.met[met] += 1
         self.written.append(record_of(fields))
+
+    def count(self, bit):
+        """How many rows have a field of which this became."""
+        return sum(count for met, count in enumerate(self.met) if met & bit)
+
+    def told(self):
+        text = (f"{self.read} read, {self.count(CHANGED)} changed, {self.dropped} dropped, "
+                f"{self.count(FILLED)} filled")
+        is_rounded = self.weights.is_rounded
+        return text + (f", {self.count(ROUNDED)} rounded half up" if is_rounded else "")
 
 
 def scale_argument(text):
@@ -195,15 +267,63 @@ def fill_argument(text):
     return text
 
 
+def separator(text):
+    text = {"\\t": "\t", "tab": "\t"}.get(text, text)
+    if len(text) != 1 or ord(text) > 127 or text in '"\r\n':
+        raise argparse.ArgumentTypeError("one ASCII character is needed, and no quote or line end")
+    return text
+
+
+class Parser(argparse.ArgumentParser):
+    """A parser whose help is a page of the folder beside this file, if it is there."""
+
+    def __init__(self, name, page):
+        super().__init__(prog=f"anyk {name}", allow_abbrev=False)
+        self.page, self.file = page, f"{HERE}/help/{name}.txt"
+
+    def format_help(self):
+        if not os.path.isfile(self.file):
+            return self.page.strip() + "\n"
+        with open(self.file, encoding="utf-8") as file:
+            return file.read()
+
+
 def arguments():
-    parser = argparse.ArgumentParser(prog="tools/weights.py", description="Makes a column of a CSV table ready as a weight of an order key.")
-    parser.add_argument("file", metavar="FILE", help="a CSV file, or /dev/stdin")
-    parser.add_argument("column", metavar="COLUMN", help="a name in its header")
-    parser.add_argument("--scale", metavar="N", type=scale_argument, default=ONE, help="multiply each number by N")
+    parser = Parser("weights", __doc__)
+    parser.add_argument("file", metavar="FILE")
+    parser.add_argument("columns", metavar="COLUMN", nargs="+")
+    parser.add_argument("--scale", metavar="N", type=scale_argument, default=ONE)
+    parser.add_argument("--round", action="store_true")
     others = parser.add_mutually_exclusive_group()
-    others.add_argument("--drop", action="store_true", help="leave out rows whose field is no number")
-    others.add_argument("--fill", metavar="N", type=fill_argument, help="write N, not scaled, if a field is not a number")
-    return parser.parse_args()
+    others.add_argument("--drop", action="store_true")
+    others.add_argument("--fill", metavar="N", type=fill_argument)
+    empties = parser.add_mutually_exclusive_group()
+    empties.add_argument("--drop-empty", action="store_true")
+    empties.add_argument("--empty", metavar="N", type=fill_argument)
+    parser.add_argument("--delimiter", metavar="C", type=separator, default=",")
+    parser.add_argument("--decimal-comma", action="store_true")
+    given = parser.parse_intermixed_args()
+    twice = next((it for it in given.columns if given.columns.count(it) > 1), None)
+    if twice is not None:
+        parser.error(f"the column '{twice}' is named twice")
+    return given
+
+
+def write_output(name, pieces):
+    """Writes all pieces to the output, and returns the status. The name is that of the tool."""
+    if sys.stdout is None:
+        print(f"{name}: the output is closed", file=sys.stderr)
+        return 1
+    try:
+        for it in pieces:
+            sys.stdout.buffer.write(it)
+        sys.stdout.buffer.flush()
+    except OSError as error:
+        # (what is left in the buffer would be tried again at the end)
+        os.dup2(os.open(os.devnull, os.O_WRONLY), sys.stdout.fileno())
+        print(f"{name}: the output: {error.strerror}", file=sys.stderr)
+        return 1
+    return 0
 
 
 def main():
@@ -218,19 +338,10 @@ def main():
     except Fault as fault:
         print(f"weights: {fault}", file=sys.stderr)
         return 1
-    if sys.stdout is None:
-        print("weights: the output is closed", file=sys.stderr)
-        return 1
-    try:
-        sys.stdout.buffer.write(mark + "".join(table.written).encode("latin-1"))
-        sys.stdout.buffer.flush()
-    except OSError as error:
-        # (what is left in the buffer would be tried again at the end)
-        os.dup2(os.open(os.devnull, os.O_WRONLY), sys.stdout.fileno())
-        print(f"weights: the output: {error.strerror}", file=sys.stderr)
-        return 1
-    print(f"weights: rows: {table.read} read, {table.changed} changed, {table.dropped} dropped, {table.filled} filled", file=sys.stderr)
-    return 0
+    status = write_output("weights", [mark, "".join(table.written).encode("latin-1")])
+    if status == 0:
+        print(f"weights: rows: {table.told()}", file=sys.stderr)
+    return status
 
 
 if __name__ == "__main__":

@@ -1,7 +1,7 @@
-SELECT first.train, second.train, minutes
+SELECT first.train, second.train, wait
 FROM timetable AS first, waits, timetable AS second
-WHERE first.destination = station AND first.arrival = waits.arrival
-    AND second.origin = station AND second.departure = waits.departure
+WHERE first.destination = waits.destination AND first.arrival = waits.arrival
+    AND second.origin = waits.destination AND second.departure = waits.departure
     AND first.origin = 'Oslo' AND second.destination = 'Otta'
-ORDER BY first.price + minutes + second.price
+ORDER BY first.price + wait + second.price
 LIMIT 4
