@@ -357,9 +357,9 @@ def main(words):
     if words[:1] in (["-h"], ["--help"]):
         if os.path.isfile(PAGE):
             with open(PAGE, encoding="utf-8") as page:
-                print(page.read(), end="")
+                print(page.read(), end="", flush=True)
         else:
-            print(__doc__.strip())
+            print(__doc__.strip(), flush=True)
         return 0
     try:
         if not words:

@@ -1,9 +1,8 @@
 #!/usr/bin/env python3
 """Checks a certificate of `anyk prove` by its definition alone, and prints the answers it shows.
 
-usage: check_proof.py [--ranks] [--rows] [--seal FILE] --proof FILE QUERYFILE TABLE=FILE ..
-"""
-import argparse, csv, io, pathlib, re, sys
+usage: check_proof.py [--ranks] [--rows] [--seal FILE] --proof FILE QUERYFILE TABLE=FILE .."""
+import argparse, csv, io, os, pathlib, re, sys
 from hashlib import sha256
 
 TEXT = "utf-8", "surrogateescape"
@@ -23,8 +22,7 @@ QUERY = (rf"\A select\b (\* |{COLUMN}(?:, {COLUMN})*)from\b "
          rf"(?:order\b by\b ({KEY}(?:, {KEY})*))?(?:limit\b ([0-9]+) )?(?:; )?\Z")
 
 def need(fact, line):
-    if not fact:
-        sys.exit(f"check-proof: {line}")
+    return fact or sys.exit(f"check-proof: {line}")
 
 class Files(dict):
     """The bytes of files. Each is read once, so that what is sealed is what is checked."""
@@ -53,8 +51,7 @@ def parts(pattern, text):
 def side_of(text):
     """A column as its alias, or None, and its name; a constant as -1 and its text."""
     if text[0] in "'-0123456789":
-        is_digits = text[0] != "'"
-        return -1, "".join(text.split()) if is_digits else text.rstrip()[1:-1].replace("''", "'")
+        return -1, text.rstrip()[1:-1].replace("''", "'") if text[0] == "'" else "".join(text.split())
     return (None, *(it.strip('"') for it in re.findall(r'"[^"]*"|\w+', text, re.ASCII)))[-2:]
 
 class Query:
@@ -213,7 +210,8 @@ def check_seal(given, names, files):
 def main(words):
     parser = argparse.ArgumentParser(prog="check-proof", allow_abbrev=False)
     page = pathlib.Path(__file__).absolute().with_name("help") / "check-proof.txt"
-    parser.format_help = page.read_text if page.is_file() else parser.format_help
+    text = page.read_text() if page.is_file() else __doc__ + "\n"
+    parser.print_help = lambda: sys.stdout.write(text)
     for it in ("--ranks", "--rows"):
         parser.add_argument(it, action="store_true")
     parser.add_argument("--proof", metavar="FILE", required=True)
@@ -241,10 +239,12 @@ def main(words):
         fields = [query.tables[item][1][rows[item] - 1][place] for item, place in query.list]
         sums = map(sum, zip(*(query.sums(*it) for it in enumerate(rows))))
         records.append(fields + [*map(str, sums)] * given.ranks + [*map(str, rows)] * given.rows)
-    sys.stdout.buffer.write("".join(map(record, records)).encode(*TEXT))
+    sys.stdout.write("".join(map(record, records)))
 
 if __name__ == "__main__":
+    sys.stdout.reconfigure(encoding=TEXT[0], errors=TEXT[1], newline="\n", line_buffering=True)
     try:
         main(sys.argv[1:])
     except (OSError, csv.Error) as error:
+        os.dup2(os.open(os.devnull, os.O_WRONLY), 1)  # (what is left would be tried again)
         need(False, error)

@@ -20,6 +20,7 @@ HERE = os.path.dirname(os.path.realpath(__file__))
 sys.path.insert(0, HERE)
 
 from cyclic_hints import first_pair
+from ending import ended
 from proof_hints import on_bad_proof, on_proof_count, on_proof_line, on_unlisted
 from query_text import Call, Query, selects_of, written
 from screen import folded, listed, shown
@@ -500,8 +501,7 @@ def main(status, line, *words):
 
 if __name__ == "__main__":
     if sys.argv[1:2] in (["-h"], ["--help"]):
-        print(__doc__.strip())
-    elif len(sys.argv) < 3:
+        sys.exit(ended("hints", lambda: print(__doc__.strip())))
+    if len(sys.argv) < 3:
         sys.exit("hints: a status and a line are needed")
-    else:
-        main(*sys.argv[1:])
+    sys.exit(ended("hints", lambda: main(*sys.argv[1:])))

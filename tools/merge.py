@@ -18,8 +18,11 @@ import re
 import signal
 import sys
 
-
+# An isolated call of python3 does not look for modules in the folder of the script.
 HERE = os.path.dirname(os.path.realpath(__file__))
+sys.path.insert(0, HERE)
+
+from ending import ended
 
 
 class Fault(Exception):
@@ -142,4 +145,4 @@ def main():
 
 if __name__ == "__main__":
     signal.signal(signal.SIGINT, signal.SIG_DFL)
-    sys.exit(main())
+    sys.exit(ended("merge", main))

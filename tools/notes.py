@@ -19,6 +19,7 @@ import time
 # An isolated call of python3 does not look for modules in the folder of the script.
 sys.path.insert(0, os.path.dirname(os.path.realpath(__file__)))
 
+from ending import ended
 from query_text import Call, Query, selects_of, written
 from screen import shown
 from syntax_hints import JOINS
@@ -192,6 +193,5 @@ def main(words):
 
 if __name__ == "__main__":
     if sys.argv[1:2] in (["-h"], ["--help"]):
-        print(__doc__.strip())
-    else:
-        main(sys.argv[1:])
+        sys.exit(ended("notes", lambda: print(__doc__.strip())))
+    main(sys.argv[1:])

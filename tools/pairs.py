@@ -35,6 +35,7 @@ import sys
 
 sys.dont_write_bytecode = True
 sys.path.insert(0, os.path.dirname(os.path.realpath(__file__)))
+from ending import ended
 from weights import (Fault, Parser, Records, content_of, counted, place_of, record_of, text_of,
                      write_output)
 
@@ -227,4 +228,4 @@ def main():
 
 if __name__ == "__main__":
     signal.signal(signal.SIGINT, signal.SIG_DFL)
-    sys.exit(main())
+    sys.exit(ended("pairs", main))

@@ -16,6 +16,7 @@ import sys
 # An isolated call of python3 does not look for modules in the folder of the script.
 sys.path.insert(0, os.path.dirname(os.path.realpath(__file__)))
 
+from ending import ended
 from query_text import KEYWORDS, Call, Query
 
 # A quoted name may hold anything but a quote, line ends too.
@@ -123,8 +124,7 @@ def main():
 if __name__ == "__main__":
     signal.signal(signal.SIGINT, signal.SIG_DFL)
     if sys.argv[1:2] in (["-h"], ["--help"]):
-        print(__doc__.strip())
-        sys.exit()
+        sys.exit(ended("picture", lambda: print(__doc__.strip())))
     try:
         main()
     except Fault as fault:

@@ -32,7 +32,12 @@ import threading
 import unicodedata
 import zlib
 
+# An isolated call of python3 does not look for modules in the folder of the script.
 HERE = os.path.dirname(os.path.realpath(__file__))
+sys.path.insert(0, HERE)
+
+from ending import ended
+
 PAGE = f"{HERE}/help/query.txt"
 # Where the program is, in a checkout and where it is installed.
 PROGRAMS = (f"{HERE}/../crates/anyk_cli/out/anyk_cli", f"{HERE}/../../libexec/anyk/anyk_cli")
@@ -734,4 +739,4 @@ def main():
 
 if __name__ == "__main__":
     # At once: a thread may still wait for the standard input.
-    os._exit(main())
+    os._exit(ended("query", main))

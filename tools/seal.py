@@ -14,6 +14,10 @@ import os
 import signal
 import sys
 
+# An isolated call of python3 does not look for modules in the folder of the script.
+sys.path.insert(0, os.path.dirname(os.path.realpath(__file__)))
+
+from ending import ended
 
 class Fault(Exception):
     """What is wrong, as a line for the user."""
@@ -90,4 +94,4 @@ def main():
 
 if __name__ == "__main__":
     signal.signal(signal.SIGINT, signal.SIG_DFL)
-    sys.exit(main())
+    sys.exit(ended("seal", main))

@@ -34,7 +34,12 @@ import re
 import signal
 import sys
 
+# An isolated call of python3 does not look for modules in the folder of the script.
 HERE = os.path.dirname(os.path.realpath(__file__))
+sys.path.insert(0, HERE)
+
+from ending import ended
+
 ORDER_MARK = b"\xef\xbb\xbf"
 LEAST, GREATEST = -(2**127), 2**127 - 1
 READY = re.compile(r"[+-]?[0-9]{1,39}")
@@ -346,4 +351,4 @@ def main():
 
 if __name__ == "__main__":
     signal.signal(signal.SIGINT, signal.SIG_DFL)
-    sys.exit(main())
+    sys.exit(ended("weights", main))
