@@ -2,7 +2,7 @@
 """Checks a certificate of `anyk prove` by its definition alone, and prints the answers it shows.
 
 usage: check_proof.py [--ranks] [--rows] [--seal FILE] --proof FILE QUERYFILE TABLE=FILE .."""
-import argparse, csv, io, os, pathlib, re, sys
+import argparse, csv, io, pathlib, re, sys
 from hashlib import sha256
 
 TEXT = "utf-8", "surrogateescape"
@@ -211,7 +211,7 @@ def main(words):
     parser = argparse.ArgumentParser(prog="check-proof", allow_abbrev=False)
     page = pathlib.Path(__file__).absolute().with_name("help") / "check-proof.txt"
     text = page.read_text() if page.is_file() else __doc__ + "\n"
-    parser.print_help = lambda: sys.stdout.write(text)
+    parser.print_help = lambda: print(text, end="", flush=True)
     for it in ("--ranks", "--rows"):
         parser.add_argument(it, action="store_true")
     parser.add_argument("--proof", metavar="FILE", required=True)
@@ -239,12 +239,12 @@ def main(words):
         fields = [query.tables[item][1][rows[item] - 1][place] for item, place in query.list]
         sums = map(sum, zip(*(query.sums(*it) for it in enumerate(rows))))
         records.append(fields + [*map(str, sums)] * given.ranks + [*map(str, rows)] * given.rows)
-    sys.stdout.write("".join(map(record, records)))
+    sys.stdout.buffer.write("".join(map(record, records)).encode(*TEXT))
+    sys.stdout.flush()
 
 if __name__ == "__main__":
-    sys.stdout.reconfigure(encoding=TEXT[0], errors=TEXT[1], newline="\n", line_buffering=True)
     try:
         main(sys.argv[1:])
     except (OSError, csv.Error) as error:
-        os.dup2(os.open(os.devnull, os.O_WRONLY), 1)  # (what is left would be tried again)
+        sys.stdout = None  # what is left would be tried again at the end
         need(False, error)
