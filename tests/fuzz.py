@@ -9,7 +9,7 @@ own that is printed if a test fails. Half of the time goes to each of two parts.
 Changed bytes: a few bytes of the query, of the tables or of the script are changed, left out, put in or doubled. A third of the inputs are
 unions. Each status is one of the table. Where the status is not 0, there is no output and one line on the error output. Both engines say
 the same. `plan` refuses what `run` refuses, in the same words, except for a union, which is no query to it. The query and the tables are
-also read here, by the grammar and the rules of docs/USING.md: the program accepts what is accepted here and nothing else, and its output
+also read here, by the grammar and the rules of docs/REFERENCE.md: the program accepts what is accepted here and nothing else, and its output
 is that of the plain evaluation.
 
 Large queries: tables of up to 200 rows, with up to 1,000 answers, a third of them unions. The output of both engines is that of sqlite3, to
@@ -42,7 +42,7 @@ class Refused(Exception):
     pass
 
 
-# ---- reading, by the rules of docs/USING.md
+# ---- reading, by the rules of docs/REFERENCE.md
 
 def text_of(data):
     """Bytes as text, from which they can be had again."""

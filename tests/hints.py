@@ -204,7 +204,7 @@ REFUSALS = [
      ["  bad.csv line 6, column n: '12.5' is not a whole number\n"]),
     # Other reasons.
     (["run", "circle.sql", "trains=t.csv"], 6, "cyclic query: items 1 2 3",
-     ["item 1 is a (table trains)", "item 3 is c (table trains)", "docs/USING.md", "a and b may be joined first, into a table a_b"]),
+     ["item 1 is a (table trains)", "item 3 is c (table trains)", "docs/COOKBOOK.md", "a and b may be joined first, into a table a_b"]),
     (["run", "round.sql", "trains=t.csv"], 6, "branch 2: cyclic query: items 1 2 3", ["item 3 is c (table trains)", "a and b may be joined first"]),
     (["run", "range.sql", "big=big.csv"], 7, "order key 2: rank may pass 128 bits", ["order key 2 is n - n desc\n", "Use smaller numbers"]),
     (["run", "many.sql", "t=t.csv"], 8, "more than 16 items", ["there are 17\n", "Join fewer tables"]),
@@ -233,7 +233,7 @@ LARGE = [
     (["picture", "--dot=svg", *WORDS], 2, "usage", ["--dot takes no value"]),
     (["picture", "--dots", *WORDS], 2, "usage", ["--dots is not an option of picture; perhaps --dot is meant", "usage: anyk picture"]),
     (["picture", "--dot", *WORDS, "--dot"], 2, "usage", ["--dot is given twice"]),
-    (["picture", "circle.sql", "trains=t.csv"], 6, "cyclic query: items 1 2 3", ["item 1 is a (table trains)", "docs/USING.md"]),
+    (["picture", "circle.sql", "trains=t.csv"], 6, "cyclic query: items 1 2 3", ["item 1 is a (table trains)", "docs/COOKBOOK.md"]),
     (["picture", "--dot", *WORDS[:2]], 4, "byte 42: unknown table", ["the arguments name the table trains"]),
     (["run", *WORDS], 11, "write failed", ["a reader that stops early, such as head, does no harm"]),
     (["run", *WORDS], 12, "out of memory", ["Set a lower LIMIT"]),
@@ -494,7 +494,7 @@ def module(name):
 HINTS = module("hints")
 NOTES = module("notes")
 HINTS_UNREAD = module("query_text").Unread
-PAGE = HINTS.refusals(read(f"{TOP}/docs/USING.md"))
+PAGE = HINTS.refusals(read(f"{TOP}/docs/MESSAGES.md"))
 
 
 def test_refusals(room):

@@ -32,6 +32,7 @@ from arguments import arguments
 from preloaded import Skipped
 
 TOP = os.path.dirname(os.path.dirname(os.path.abspath(__file__)))
+USER_PAGES = ("TUTORIAL.md", "REFERENCE.md", "COOKBOOK.md", "MESSAGES.md", "SECURITY.md")
 NOBODY = 65534
 SYSTEM = "/usr/bin:/bin"
 # What the launcher and the stand-in for the program call, and what it calls besides for the program of release/.
@@ -190,7 +191,7 @@ class House:
         os.chmod(self.room, 0o755)
         self.top = f"{self.room}/a house"
         os.makedirs(f"{self.top}/docs")
-        for it in ("anyk", "VERSION", "LICENSE", "docs/USING.md", "docs/SECURITY.md"):
+        for it in ("anyk", "VERSION", "LICENSE", *(f"docs/{it}" for it in USER_PAGES)):
             shutil.copy(f"{TOP}/{it}", f"{self.top}/{it}")
         for it in ("tools", "man", "docs/using"):
             shutil.copytree(f"{TOP}/{it}", f"{self.top}/{it}", ignore=shutil.ignore_patterns("__pycache__"))
@@ -1274,7 +1275,7 @@ def test_help(house):
         check(all(len(it) <= 80 for it in output.splitlines() if not re.match("(usage:|      ) anyk ", it)), words)
         same(house.on_terminal(*words), (0, output, ""))
     # The user's page names them all.
-    named = read(f"{TOP}/docs/USING.md").partition("\n**Help.**")[2].partition("\n\n")[0]
+    named = read(f"{TOP}/docs/REFERENCE.md").partition("\n**Help.**")[2].partition("\n\n")[0]
     for page in os.listdir(f"{TOP}/tools/help"):
         check(page == "anyk.txt" or f"`{page[:-4]}`" in named, page)
     same(house.call(), (2, "", "anyk: usage\n"))
@@ -1307,7 +1308,7 @@ REFUSALS = [
     (["session", *WORDS, "--script", "s3.txt"], 3, "script line 3: cursor exists", ["a was opened in line 2"]),
     (["picture", "--dot", *WORDS[:2]], 4, "byte 42: unknown table", ["the arguments name the table trains"]),
     (["run", *WORDS], 5, "table trains: row 9: wrong number of fields", ["."]),
-    (["run", "circle.sql", "trains=t.csv"], 6, "cyclic query: items 1 2 3", ["item 1 is a (table trains)", "docs/USING.md"]),
+    (["run", "circle.sql", "trains=t.csv"], 6, "cyclic query: items 1 2 3", ["item 1 is a (table trains)", "docs/COOKBOOK.md"]),
     (["run", *WORDS], 8, "more than 4194304 node rows", ["."]),
     (["run", *WORDS], 9, "file x.csv: not found", ["."]),
     (["run", *WORDS], 10, "file h.csv: read failed", ["."]),
@@ -1653,7 +1654,7 @@ OF_CHECKOUT = ("build.py", "current.pl", "edits.py", "gate_times.py", "gate_time
 def installed_files():
     """What install puts under a folder, besides its lists."""
     wanted = ["bin/anyk", "libexec/anyk/anyk_cli", "share/anyk/VERSION", "share/bash-completion/completions/anyk", "share/fish/vendor_completions.d/anyk.fish",
-              "share/man/man1/anyk.1", "share/zsh/site-functions/_anyk", *(f"share/doc/anyk/{it}" for it in ("LICENSE", "SECURITY.md", "USING.md"))]
+              "share/man/man1/anyk.1", "share/zsh/site-functions/_anyk", *(f"share/doc/anyk/{it}" for it in ("LICENSE", *USER_PAGES))]
     wanted += [f"share/anyk/{it}" for it in os.listdir(f"{TOP}/tools") if it not in (*OF_CHECKOUT, "completions", "help", "__pycache__")]
     wanted += [f"share/anyk/help/{it}" for it in os.listdir(f"{TOP}/tools/help")]
     return sorted([*wanted, *(f"share/doc/anyk/using/{it}" for it in os.listdir(f"{TOP}/docs/using"))])
@@ -1693,7 +1694,7 @@ def test_install(house):
     same(house.call("x", "\udcff", by=by, cwd=cwd)[2], "anyk: argument 2 is not UTF-8\n")
     same(house.call(by=by, cwd=cwd), (2, "", "anyk: usage\n"))
     said = house.on_terminal("run", "circle.sql", by=by, cwd=cwd, more={"SAYS": "cyclic query: items 1 2 3", "STATUS": "6"})[2]
-    has(said, "item 2 is b (table trains)", f"{to}/share/doc/anyk/USING.md")
+    has(said, "item 2 is b (table trains)", f"{to}/share/doc/anyk/COOKBOOK.md")
     same(pictured(house, REPORT, "airports.sql", by=by, cwd=cwd), (0, TREE, ""))
     write(f"{house.room}/prices.csv", "price\n12.50\n")
     same(house.call("weights", "--scale", "100", f"{house.room}/prices.csv", "price", by=by, cwd=cwd)[:2], (0, "price\n1250\n"))
@@ -1707,7 +1708,7 @@ def test_installed_links(house):
     to = f"{house.room}/to"
     same(house.call("install", to)[0], 0)
     pages = [it for it in files_below(to) if it.endswith(".md")]
-    same(pages, ["share/doc/anyk/SECURITY.md", "share/doc/anyk/USING.md"])
+    same(pages, [f"share/doc/anyk/{it}" for it in sorted(USER_PAGES)])
     for page in pages:
         text = read(f"{to}/{page}")
         links = re.findall(r"\]\(([^)#]+)", text)
@@ -1716,7 +1717,7 @@ def test_installed_links(house):
         # Nothing else is changed.
         source = read(f"{TOP}/docs/{os.path.basename(page)}")
         same(*(re.sub(r"\[([^]]*)\]\([^)]*\)", r"\1", it) for it in (text, source)))
-    check("](SECURITY.md" in read(f"{to}/share/doc/anyk/USING.md"))
+    check("](SECURITY.md" in read(f"{to}/share/doc/anyk/REFERENCE.md"))
 
 
 def test_uninstall(house):
@@ -1876,7 +1877,7 @@ def test_completion(house):
     options = re.findall(r"'--([a-z-]+)(=?)\[", read(f"{TOP}/tools/completions/_anyk"))
     same({it for it, sign in options if sign}, {"engine", "best-of", "script", "proof", "number", "rows"})
     if shutil.which("fish"):
-        for line, wanted in (("anyk load ", ""), ("anyk load --n", "--number"), ("anyk install us", "using/"), ("anyk plan us", "using/ USING.md"), ("anyk run --engine=r", "--engine=rec")):
+        for line, wanted in (("anyk load ", ""), ("anyk load --n", "--number"), ("anyk install us", "using/"), ("anyk plan us", "using/"), ("anyk run --engine=r", "--engine=rec")):
             shown = subprocess.run(["fish", "-c", f"source '{TOP}/tools/completions/anyk.fish'; complete -C '{line}'"],
                                    **house.how(capture_output=True, text=True, cwd=f"{TOP}/docs"))
             same((line, sorted(it.partition("\t")[0] for it in shown.stdout.splitlines())), (line, sorted(wanted.split())))

@@ -4,7 +4,7 @@
 usage: tests/using.py [PROGRAM [PAGE ..]]
 
 PROGRAM is ./anyk if it is not given. It has to be built, and to be a launcher, since it is also called as `picture`. The pages are
-those of PAGES if none is given: the user's page docs/USING.md above all, README.md, and those of the examples. Commands stand in
+those of PAGES if none is given: README.md, those of docs/, of bench/ and of the examples. Commands stand in
 blocks that begin with a line ```console, each after `$ `, with what they print below them. A line that begins with `> ` goes on with
 the command above it. Commands that a page names elsewhere are those of tests/documents.py.
 

@@ -7,7 +7,7 @@ usage: tools/hints.py STATUS LINE ARGUMENT ..
 STATUS and LINE are what the program ended with and wrote, and the rest are the arguments of its
 call. A hint comes after the program's line, and repeats nothing of it. With status 16 the launcher
 writes one, and the hint has each argument that is not text. If nothing particular is found, the
-hint has the sentences of the tables in 'Refusals' of docs/USING.md, which are only there. What
+hint has the sentences of the tables in 'Refusals' of docs/MESSAGES.md, which are only there. What
 cannot be found, for example since a file has changed, is left out.
 """
 import os
@@ -38,7 +38,7 @@ from usage_hints import (
 
 PLACE = "(the section is in "
 # Beside the sources, and where the program is installed.
-PAGES = (f"{HERE}/../docs/USING.md", f"{HERE}/../doc/anyk/USING.md")
+PAGES = (f"{HERE}/../docs/MESSAGES.md", f"{HERE}/../doc/anyk/MESSAGES.md")
 
 
 def perhaps(name, known, least=0.6, form=written):
@@ -462,8 +462,9 @@ def sentence(text):
 def general(meaning, remedy, page):
     """The sentences of the page about a refusal."""
     yield f"{sentence(meaning)} {sentence(remedy)}"
-    if re.search("'[A-Z][^']*'", remedy):
-        yield f"{PLACE}{os.path.normpath(page)})"
+    named = re.search("'[A-Z][^']*' (?:in|of) ([A-Z]+[.]md)", f"{meaning} {remedy}")
+    if named:
+        yield f"{PLACE}{os.path.normpath(f'{os.path.dirname(page)}/{named[1]}')})"
 
 
 def hint_lines(line, words):

@@ -36,14 +36,21 @@ put_all() {
     put_folder "$tools/help" "$to/share/anyk/help" &&
         put 644 <(printf '%s\n' "$4") "$to/share/anyk/VERSION" &&
         put 644 "$top/LICENSE" "$to/share/doc/anyk/LICENSE" &&
-        put 644 <(page_of "$top/docs/USING.md") "$to/share/doc/anyk/USING.md" &&
-        put 644 <(page_of "$top/docs/SECURITY.md") "$to/share/doc/anyk/SECURITY.md" &&
+        put_pages "$top/docs" "$to/share/doc/anyk" &&
         put_folder "$top/docs/using" "$to/share/doc/anyk/using" &&
         put 644 "$top/man/anyk.1" "$to/share/man/man1/anyk.1" &&
         put 644 "$tools/completions/anyk.bash" "$to/share/bash-completion/completions/anyk" &&
         put 644 "$tools/completions/_anyk" "$to/share/zsh/site-functions/_anyk" &&
         put 644 "$tools/completions/anyk.fish" "$to/share/fish/vendor_completions.d/anyk.fish" &&
         put 755 "$tools/installed.sh" "$to/bin/anyk"
+}
+
+# put_pages FOLDER TO: the pages for users.
+put_pages() {
+    local page
+    for page in TUTORIAL REFERENCE COOKBOOK MESSAGES SECURITY; do
+        put 644 <(page_of "$1/$page.md") "$2/$page.md" || return 1
+    done
 }
 
 # put_folder FOLDER TO: each file of a folder.
@@ -56,7 +63,7 @@ put_folder() {
 
 # page_of FILE: prints a page. A link to what is not installed becomes its text.
 page_of() {
-    local kept='USING\.md|SECURITY\.md|LICENSE|using/[^)]*|https?:[^)]*'
+    local kept='(TUTORIAL|REFERENCE|COOKBOOK|MESSAGES|SECURITY)\.md|LICENSE|using/[^)]*|https?:[^)]*'
     sed -E -e "s,\[([^]]*)\]\((($kept)?(#[^)]*)?)\),[\1]\x01(\2),g" \
         -e 's,\[([^]]*)\]\([^)]*\),\1,g' -e 's,\x01,,g' "$1"
 }
@@ -173,7 +180,7 @@ anyk $1: the first answers of a join of CSV tables, best first, by a program tha
 
 It needs Linux on x86-64, bash and glibc 2.34 or later; pictures, hints and tools need python3.
 It runs where it is, also by a link to bin/anyk. To remove it, remove the folder.
-The user's page is share/doc/anyk/USING.md, and the manual page share/man/man1/anyk.1.
+The pages are in share/doc/anyk: begin with TUTORIAL.md. The manual page is share/man/man1/anyk.1.
 bin/anyk --version names the commit and the kit; the repository says how it is proved.
 sha256sum -c SHA256SUMS says whether each file is as it was packed. LICENSE has the terms.
 END
