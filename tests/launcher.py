@@ -1715,7 +1715,7 @@ def test_installed_links(house):
         for link in links:
             check(link.startswith("https://") or os.path.exists(f"{to}/{os.path.dirname(page)}/{link}"), page, link)
         # Nothing else is changed.
-        source = read(f"{TOP}/docs/{os.path.basename(page)}")
+        source = re.sub(r"(?m)^!\[.*\n", "", read(f"{TOP}/docs/{os.path.basename(page)}"))
         same(*(re.sub(r"\[([^]]*)\]\([^)]*\)", r"\1", it) for it in (text, source)))
     check("](SECURITY.md" in read(f"{to}/share/doc/anyk/REFERENCE.md"))
 

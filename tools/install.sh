@@ -61,10 +61,10 @@ put_folder() {
     done
 }
 
-# page_of FILE: prints a page. A link to what is not installed becomes its text.
+# page_of FILE: prints a page. A link to what is not installed becomes its text, and a picture is left out.
 page_of() {
     local kept='(TUTORIAL|REFERENCE|COOKBOOK|MESSAGES|SECURITY)\.md|LICENSE|using/[^)]*|https?:[^)]*'
-    sed -E -e "s,\[([^]]*)\]\((($kept)?(#[^)]*)?)\),[\1]\x01(\2),g" \
+    sed -E -e '/^!\[/d' -e "s,\[([^]]*)\]\((($kept)?(#[^)]*)?)\),[\1]\x01(\2),g" \
         -e 's,\[([^]]*)\]\([^)]*\),\1,g' -e 's,\x01,,g' "$1"
 }
 
