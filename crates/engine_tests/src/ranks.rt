@@ -1,7 +1,7 @@
 //! Ranks with one sum and with eight, and packed ones.
 ghost use Rattle.std.specs.Prelude.{◌≡◌, ◌≤◌, ◌<◌};
 
-use rank_key::{LexRank, PackedRank, Rank, SumRank, bits};
+use rank_key::{LexRank, PackedRank, Rank, SumRank, WidePackedRank, bits};
 use std::marker::Brand;
 use std::process::Abort;
 use std::sync::ledger::{Blank, Ledger};
@@ -100,6 +100,12 @@ fn a_rank_with_eight_sums_adds_and_exchanges(rt: HostRuntime) -> Result<(), Fail
 #[test]
 fn a_packed_rank_adds_and_exchanges(rt: HostRuntime) -> Result<(), Fail> {
     adds_and_exchanges::<PackedRank, Brand>(&rt, Blank::new(1));
+    Ok(())
+}
+
+#[test]
+fn a_wide_packed_rank_adds_and_exchanges(rt: HostRuntime) -> Result<(), Fail> {
+    adds_and_exchanges::<WidePackedRank, Brand>(&rt, Blank::new(1));
     Ok(())
 }
 

@@ -13,7 +13,7 @@ ghost use Rattle.plan_build.specs.RankedPlan.{HasLeastRoom, HasPlaces, HasRoom, 
 use crate::fault::PlanFault;
 use crate::plan::{Plan, prepare, prepare_at};
 use bound_query::Query;
-use rank_key::{LexRank, MiddleSumRank, PackedRank, Rank, SmallLexRank, SumRank};
+use rank_key::{LexRank, MiddleSumRank, PackedRank, Rank, SmallLexRank, SumRank, WidePackedRank};
 use std::alloc::Global;
 use std::sync::ledger::Ledger;
 use step_counter::Steps;
@@ -28,6 +28,8 @@ pub enum RankedPlan {
     /// Ranks of one sum below 2^43, for an order of at most one key, and of at most four items, in
     /// one number.
     Packed(Plan<PackedRank>),
+    /// The same for at most seven items, in two numbers.
+    WidePacked(Plan<WidePackedRank>),
     /// Ranks of one sum, for at most eight items.
     MiddleSum(Plan<MiddleSumRank>),
     /// Ranks of one sum, for up to 16 items.
@@ -59,9 +61,14 @@ pub fn prepare_ranked<L: Ledger>(
     let _keys = query.keys();
     // for the proof: there are at most 16 items
     let _items = query.items();
-    if has_packed_room(query) {
+    if has_packed_room(query, 4) {
         match prepare_of(alloc, query, tables, item, steps) {
             Ok(plan) => Ok(RankedPlan::Packed(plan)),
+            Err(fault) => Err(fault),
+        }
+    } else if has_packed_room(query, 7) {
+        match prepare_of(alloc, query, tables, item, steps) {
+            Ok(plan) => Ok(RankedPlan::WidePacked(plan)),
             Err(fault) => Err(fault),
         }
     } else if has_places(query, 1, 8) {
@@ -87,14 +94,14 @@ pub fn prepare_ranked<L: Ledger>(
     }
 }
 
-/// Whether packed ranks have room for each of the queries.
-pub fn have_packed_room(queries: &[Query]) -> bool
+/// Whether packed ranks of so many slots have room for each of the queries.
+pub fn have_packed_room(queries: &[Query], slots: u32) -> bool
     requires { (tables : List Table) × All (λ q. Fits q tables) queries.now }
     ensures { (tables : List Table) → All (λ q. Fits q tables) queries.now
-        → IsTrue result ↔ All (λ q. HasRoom q tables packed_room) queries.now }
+        → IsTrue result ↔ All (λ q. HasRoom q tables (packed_room slots)) queries.now }
 {
     for query in queries {
-        if !has_packed_room(query) {
+        if !has_packed_room(query, slots) {
             return false;
         }
     }
@@ -113,13 +120,13 @@ pub fn have_places(queries: &[Query], sums: u32, slots: u32) -> bool
     true
 }
 
-/// Whether packed ranks have room for the query.
-fn has_packed_room(query: &Query) -> bool
+/// Whether packed ranks of so many slots have room for the query.
+fn has_packed_room(query: &Query, slots: u32) -> bool
     requires { (tables : List Table) × Fits query.now tables }
     ensures { (tables : List Table) → Fits query.now tables
-        → IsTrue result ↔ HasRoom query.now tables packed_room }
+        → IsTrue result ↔ HasRoom query.now tables (packed_room slots) }
 {
-    has_places(query, 1, 4) && has_small_sums(query)
+    has_places(query, 1, slots) && has_small_sums(query)
 }
 
 /// Whether there are as many sums as order keys, and as many slots as items.

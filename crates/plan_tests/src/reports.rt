@@ -43,6 +43,7 @@ fn is_reported(
 {
     match plan {
         RankedPlan::Packed(plan) => has_report(alloc, plan, query, tables, expected),
+        RankedPlan::WidePacked(plan) => has_report(alloc, plan, query, tables, expected),
         RankedPlan::MiddleSum(plan) => has_report(alloc, plan, query, tables, expected),
         RankedPlan::Sum(plan) => has_report(alloc, plan, query, tables, expected),
         RankedPlan::SmallLex(plan) => has_report(alloc, plan, query, tables, expected),

@@ -8,3 +8,6 @@ pub mod Places
 pub mod RowKeys
 mod Adding
 mod RowNumbers
+mod WideAdding
+mod WideOrder
+mod WideRows

@@ -33,10 +33,10 @@ module _ (n slot row : ℕ) (low : n < 2 ^ 84) (few : slot < 16)
           omega (arith, ints, low, digits_make n low, own, other 0 (omega arith) (λ e. omega arith), other 1 (omega arith) (λ e. omega arith), other 2 (omega arith) (λ e. omega arith), other 3 (omega arith) (λ e. omega arith))
 
 module _ (row : ℕ) (sums : List ℤ) (slot : ℕ) (few : slot < 16) where
-  slot_own : slot_of 1 16 slot (row_key 1 sums slot row) ≡ row
+  pub slot_own : slot_of 1 16 slot (row_key 1 sums slot row) ≡ row
   slot_own = slot_of_lists 1 16 slot sums (set (replicate 16 0) slot row) few ∙ get_or-set_at (replicate 16 0) slot slot row 0 refl (omega arith)
 
-  slot_other : (i : ℕ) → i < 16 → (i ≡ slot → ⊥) → slot_of 1 16 i (row_key 1 sums slot row) ≡ 0
+  pub slot_other : (i : ℕ) → i < 16 → (i ≡ slot → ⊥) → slot_of 1 16 i (row_key 1 sums slot row) ≡ 0
   slot_other i l n =
       slot_of_lists 1 16 i sums (set (replicate 16 0) slot row) l
       ∙ get_or-set_other {A = ℕ} (replicate 16 0) slot i row 0 n ∙ get_or-replicate {A = ℕ} 16 i 0 0 l

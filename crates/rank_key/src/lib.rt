@@ -13,7 +13,8 @@
 //! number of 128 bits. A key's numbers are digits of it, the sum first: joining is one addition,
 //! exchanging a part one subtraction and one addition, and comparing one comparison. That keys of
 //! digits are compared as numbers is the base of radix sorting (Knuth, "The Art of Computer
-//! Programming", volume 3, 5.2.5).
+//! Programming", volume 3, 5.2.5). Those of one sum and seven slots have their last three slots in
+//! a second number.
 #![tactic(auto)]
 
 mod binary_digits;
@@ -21,9 +22,11 @@ mod fixed_rank;
 mod packed;
 mod rank;
 mod sum;
+mod wide_packed;
 
 pub use binary_digits::bits;
 pub use fixed_rank::{FixedRank, LexRank, MiddleSumRank, SmallLexRank, SumRank};
 pub use packed::PackedRank;
 pub use rank::{Rank, SLOTS};
 pub use sum::Sum;
+pub use wide_packed::WidePackedRank;

@@ -1,12 +1,14 @@
 //! The packed rank: a number whose digits are a sum and four row numbers.
 ghost use Rattle.std.specs.Prelude.{◌≡◌, ◌^◌, pos, slice_index_or, FitsSigned};
 ghost use Rattle.std.specs.Int.{w128};
+ghost use Rattle.std.specs.Ordering.{int_cmp};
 ghost use Rattle.std.proofs.Common.{rules};
 ghost use Rattle.rank_key.specs.Packed.{packed_key, number_of, unit_of};
 ghost use Rattle.rank_key.specs.Digits.{number_fits, key_of_number, packed_slot};
 
 use crate::rank::Rank;
 use crate::sum::Sum;
+use std::cmp::Ordering;
 use std::sync::ledger::Ledger;
 use step_counter::Steps;
 
@@ -19,6 +21,15 @@ const SUM_UNIT: i128 = 1 << 84;
 pub struct PackedRank {
     number: Sum,
     ghost fits: { FitsSigned w128 number },
+}
+
+impl PackedRank {
+    /// The order of two ranks: that of their numbers.
+    pub(crate) fn compare(&self, other: &PackedRank) -> Ordering
+        ensures { result ≡ int_cmp self.now.number other.now.number }
+    {
+        self.number.get().cmp(&other.number.get())
+    }
 }
 
 /// The first sum, or 0 if there is none.

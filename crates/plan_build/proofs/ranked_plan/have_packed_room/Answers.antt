@@ -10,8 +10,8 @@ loop-query-preserved c tables fits =
     let here = c.loop-query.query-index in
     let query = c.query-item.result in
     let fit : Fits query tables = subst (λ q. Fits q tables) (sym c.query-item.is) (fits here query c.loop-query-test.true) in
-    AllWithin-more (λ q. HasRoom q tables packed_room) queries 0 here (c.loop-query.invariant tables fits)
-    (at_read queries (λ q. HasRoom q tables packed_room) here query c.loop-query-test.true c.query-item.is
+    AllWithin-more (λ q. HasRoom q tables (packed_room c.args.slots)) queries 0 here (c.loop-query.invariant tables fits)
+    (at_read queries (λ q. HasRoom q tables (packed_room c.args.slots)) here query c.loop-query-test.true c.query-item.is
     ((c.has_packed_room.ensures tables fit).0 c.if-not-has_packed_room.false))
 
 pub returns : goal.returns

@@ -1,5 +1,5 @@
 use Rattle.std.proofs.Common.{subst}
-use Rattle.plan_build.specs.RankedPlan.{IsRankedPlan, fixed_key, key_of_packed}
+use Rattle.plan_build.specs.RankedPlan.{IsRankedPlan, fixed_key, key_of_packed, key_of_wide_packed}
 use Rattle.plan_build.proofs.Rooted.{whole_of}
 use Rattle.plan_tests.proofs.reports.is_reported.Goals as goal
 
@@ -9,6 +9,13 @@ has_report-requires c =
     let tables = c.args.tables.now in
     let item = c.requires.plan.0 in
     record { plan = whole_of 1 key_of_packed query tables item c.in-Packed.plan (subst (IsRankedPlan query tables item) c.in-Packed.is c.requires.plan.1) }
+
+pub has_report-requires-in-WidePacked : goal.has_report-requires-in-WidePacked
+has_report-requires-in-WidePacked c =
+    let query = c.args.query.now in
+    let tables = c.args.tables.now in
+    let item = c.requires.plan.0 in
+    record { plan = whole_of 1 key_of_wide_packed query tables item c.in-WidePacked.plan (subst (IsRankedPlan query tables item) c.in-WidePacked.is c.requires.plan.1) }
 
 pub has_report-requires-in-MiddleSum : goal.has_report-requires-in-MiddleSum
 has_report-requires-in-MiddleSum c =
