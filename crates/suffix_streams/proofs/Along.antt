@@ -1,8 +1,5 @@
 -- Equations with their ends written out. What a call ensures names its ends by long terms, and antt writes these out wherever it has to find them by itself.
-use Rattle.std.proofs.Common.{◌≡◌, sym, ap, ◌∙◌, subst}
-
-pub chain : {A : Type 0} (x y z : A) → x ≡ y → y ≡ z → x ≡ z
-chain x y z e f = e ∙ f
+use Rattle.std.proofs.Common.{◌≡◌, sym, ap, subst}
 
 pub along : {A : Type 0} (P : A → Type 0) (x y : A) → x ≡ y → P x → P y
 along P x y e h = subst P e h

@@ -25,8 +25,9 @@ use Rattle.suffix_streams.proofs.FirstSums.{first_own}
 use Rattle.suffix_streams.proofs.BeginFirsts.{group_head}
 use Rattle.suffix_streams.proofs.Rankings.{kid, named_in, group_is_ranking, row_is_ranking}
 use Rattle.suffix_streams.proofs.BeginQueues.{first_ahead}
-use Rattle.suffix_streams.proofs.BeginOwners.{owned_within, only_one}
+use Rattle.suffix_streams.proofs.BeginOwners.{owned_within}
 use Rattle.suffix_streams.proofs.ViewEntries.{stream_length, stream_at}
+use Rattle.suffix_streams.proofs.ListEnds.{only_one}
 
 module _ {R : Type 0} (d : ℕ) (key : R → KeyOf d 16) (t : List (NodeView R)) (es : List (Linked (Found R))) (nodes : List (NodeStreamsView R)) (b : IsBegun d key t es nodes) where
   nodes_groups : length (node_list es) ≡ length (group_list_of es)

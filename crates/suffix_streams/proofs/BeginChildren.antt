@@ -5,6 +5,7 @@ use Rattle.std.proofs.lemmas.Bool.Decides.{nat_tests}
 use Rattle.tdp_core.specs.TreeView.{NodeView, parent, kids_below}
 use Rattle.tdp_core.proofs.Children.{kids_below_first, kids_below_child, kids_below_other}
 use Rattle.suffix_streams.specs.Rankings.{child_among}
+use Rattle.suffix_streams.proofs.ListEnds.{at_more, get_behind, length_behind}
 
 kids_past : (parent : ℕ → ℕ) (v n : ℕ) → parent n ≢ v → kids_below parent v (suc n) ≡ kids_below parent v n
 kids_past parent v n e = let next : suc n ≡ n + 1 = omega arith in ap (kids_below parent v) next ∙ kids_below_other parent v n e
@@ -44,29 +45,14 @@ module _ {R : Type 0} (t : List (NodeView R)) where
       → (length (children ++ (n ∷ [])) ≡ kids_below (parent t) v (n + 1)) × ((c : ℕ) → c < kids_below (parent t) v (n + 1) → get_or (children ++ (n ∷ [])) c 0 ≡ child_among (parent t) v c (n + 1))
   each_more v n children count some e each =
       let next : n + 1 ≡ suc n = omega arith in (
-        length_more children n ∙ ap (λ z. z + 1) count ∙ sym (kids_below_child (parent t) v n some e),
+        length_behind children n ∙ ap (λ z. z + 1) count ∙ sym (kids_below_child (parent t) v n some e),
         (λ c l. elim (cases_lt c (kids_below (parent t) v n)) [
-          | inl before ↦ front children n c (omega (arith, count, before)) ∙ each c before ∙ sym (ap (child_among (parent t) v c) next ∙ among_before (parent t) v c n before)
+          | inl before ↦ at_more children n 0 c (omega (arith, count, before)) ∙ each c before ∙ sym (ap (child_among (parent t) v c) next ∙ among_before (parent t) v c n before)
           | inr g ↦
               let here : kids_below (parent t) v n ≡ c = omega (arith, g, l, kids_below_child (parent t) v n some e) in
-              end children n c (sym (count ∙ here)) ∙ sym (ap (child_among (parent t) v c) next ∙ among_here (parent t) v c n some e here)
+              get_behind children n c 0 (sym (count ∙ here)) ∙ sym (ap (child_among (parent t) v c) next ∙ among_here (parent t) v c n some e here)
         ]),
       )
-    where
-      length_more : (xs : List ℕ) (x : ℕ) → length (xs ++ (x ∷ [])) ≡ length xs + 1
-      length_more [] x = refl
-      length_more (y ∷ xs) x = omega (arith, length_more xs x)
-
-      front : (xs : List ℕ) (x i : ℕ) → i < length xs → get_or (xs ++ (x ∷ [])) i 0 ≡ get_or xs i 0
-      front [] x i l = absurd (omega arith)
-      front (y ∷ xs) x zero l = refl
-      front (y ∷ xs) x (suc i) l = front xs x i (omega arith)
-
-      end : (xs : List ℕ) (x i : ℕ) → i ≡ length xs → get_or (xs ++ (x ∷ [])) i 0 ≡ x
-      end [] x zero e = refl
-      end [] x (suc i) e = absurd (omega arith)
-      end (y ∷ xs) x zero e = absurd (omega arith)
-      end (y ∷ xs) x (suc i) e = end xs x i (omega arith)
 
   pub each_other : (v n : ℕ) (children : List ℕ) → length children ≡ kids_below (parent t) v n → parent t n ≢ v
       → ((c : ℕ) → c < kids_below (parent t) v n → get_or children c 0 ≡ child_among (parent t) v c n)

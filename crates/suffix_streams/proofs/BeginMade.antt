@@ -2,7 +2,7 @@
 use Rattle.std.proofs.Common.{◌≡◌, ◌≢◌, ℕ, ◌+◌, ◌<◌, ◌≤◌, None, cond, nat_lt, List, [], ◌∷◌, ◌++◌, length, get_or, refl, sym, ap, ◌∙◌, subst, inl, inr, arith}
 use Rattle.std.proofs.lemmas.Bool.{cases_lt, cases_eq}
 use Rattle.std.proofs.lemmas.Bool.Decides.{nat_tests}
-use Rattle.std.proofs.lemmas.List.{length-map}
+use Rattle.std.proofs.lemmas.List.{get_or_past, length-map}
 use Rattle.stream_store.specs.declared.linked.Linked.{Linked}
 use Rattle.tdp_model.specs.KeyTuple.{KeyOf, key_none}
 use Rattle.tdp_core.specs.TreeView.{NodeView, group_count}
@@ -17,8 +17,9 @@ use Rattle.suffix_streams.specs.Rankings.{group_list}
 use Rattle.suffix_streams.specs.declared.source.Source.{Source}
 use Rattle.take2_heap.specs.declared.entry.Entry.{Entry}
 use Rattle.suffix_streams.specs.TreeStreams.{node_list, group_list_of, next_list, node_of, group_of, place_of, next_of, lists_of, stream_of}
-use Rattle.suffix_streams.proofs.BeginOwners.{owned_by, owned_else, map_behind, get_before, get_behind, length_behind, get_past}
+use Rattle.suffix_streams.proofs.BeginOwners.{owned_by, owned_else}
 use Rattle.suffix_streams.specs.Beginnings.{HasFirst, AreChildren, IsEmptyNode, IsBegunAt, IsBegun}
+use Rattle.suffix_streams.proofs.ListEnds.{at_more, get_behind, length_behind, map_more}
 
 -- the lists of a node, with one more stream
 abbrev pub with_stream : {R : Type 0} → NodeStreamsView R → StreamView R → NodeStreamsView R
@@ -47,7 +48,7 @@ module _ {R : Type 0} (d : ℕ) (key : R → KeyOf d 16) (t : List (NodeView R))
       anywhere : (P : NodeStreamsView R → Type 0) → ((v : ℕ) → v < length t → P (lists_of nodes v)) → P (record { children = []; streams = []; products = [] }) → (v : ℕ) → P (lists_of nodes v)
       anywhere P f e v = elim (cases_lt v (length t)) [
         | inl l ↦ f v l
-        | inr g ↦ subst P (sym (get_past nodes v (record { children = []; streams = []; products = [] }) (omega (arith, g, n)))) e
+        | inr g ↦ subst P (sym (get_or_past nodes v (record { children = []; streams = []; products = [] }) (omega (arith, g, n)))) e
       ]
 
       none : (v : ℕ) → length (lists_of nodes v).streams ≡ 0
@@ -75,20 +76,20 @@ module _ {R : Type 0} (d : ℕ) (key : R → KeyOf d 16) (t : List (NodeView R))
 
   stream_kept : (q h : ℕ) → h < length (lists_of nodes q).streams → stream_of nodes' q h ≡ stream_of nodes q h
   stream_kept q h l = at_node (λ q n. h < length (lists_of nodes q).streams → get_or n.streams h (record { head = 0; queue = []; room = 0 }) ≡ stream_of nodes q h)
-      (λ q n l. refl) (λ l. get_before (lists_of nodes v).streams s h (record { head = 0; queue = []; room = 0 }) l) q l
+      (λ q n l. refl) (λ l. at_more (lists_of nodes v).streams s (record { head = 0; queue = []; room = 0 }) h l) q l
 
   lists_behind : length (node_list es) ≡ length (group_list_of es)
   lists_behind = length-map es (λ e. e.value.node) ∙ sym (length-map es (λ e. e.value.group))
 
   node_before : (i : ℕ) → i < length es → node_of (es ++ (e ∷ [])) i ≡ node_of es i
-  node_before i l = ap (λ z. get_or z i 0) (map_behind (λ e. e.value.node) es e) ∙ get_before (node_list es) e.value.node i 0 (omega (arith, l, length-map es (λ e. e.value.node)))
+  node_before i l = ap (λ z. get_or z i 0) (map_more (λ e. e.value.node) es e) ∙ at_more (node_list es) e.value.node 0 i (omega (arith, l, length-map es (λ e. e.value.node)))
 
   group_before : (i : ℕ) → i < length es → group_of (es ++ (e ∷ [])) i ≡ group_of es i
-  group_before i l = ap (λ z. get_or z i 0) (map_behind (λ e. e.value.group) es e) ∙ get_before (group_list_of es) e.value.group i 0 (omega (arith, l, length-map es (λ e. e.value.group)))
+  group_before i l = ap (λ z. get_or z i 0) (map_more (λ e. e.value.group) es e) ∙ at_more (group_list_of es) e.value.group 0 i (omega (arith, l, length-map es (λ e. e.value.group)))
 
   place_before : (i : ℕ) → i < length es → place_of (es ++ (e ∷ [])) i ≡ place_of es i
   place_before i l =
-      ap (λ z. place_in z (group_list_of (es ++ (e ∷ []))) i) (map_behind (λ e. e.value.node) es e) ∙ ap (λ z. place_in (node_list es ++ (e.value.node ∷ [])) z i) (map_behind (λ e. e.value.group) es e)
+      ap (λ z. place_in z (group_list_of (es ++ (e ∷ []))) i) (map_more (λ e. e.value.node) es e) ∙ ap (λ z. place_in (node_list es ++ (e.value.node ∷ [])) z i) (map_more (λ e. e.value.group) es e)
       ∙ place_kept (node_list es) (group_list_of es) lists_behind e.value.node e.value.group i (omega (arith, l, length-map es (λ e. e.value.node)))
 
   -- a first solution keeps its parts
@@ -105,20 +106,20 @@ module _ {R : Type 0} (d : ℕ) (key : R → KeyOf d 16) (t : List (NodeView R))
       }
 
   first_before : (q g i : ℕ) → i < length es → HasFirst d key t es q g i → HasFirst d key t (es ++ (e ∷ [])) q g i
-  first_before q g i l x y = subst (λ (z : Linked (Found R)). IsFirstOf d key t (es ++ (e ∷ [])) q g 0 z.value.solution) (sym (get_before es e i y l)) (first_still q g (get_or es i y).value.solution (x y))
+  first_before q g i l x y = subst (λ (z : Linked (Found R)). IsFirstOf d key t (es ++ (e ∷ [])) q g 0 z.value.solution) (sym (at_more es e y i l)) (first_still q g (get_or es i y).value.solution (x y))
 
   node_behind : (i : ℕ) → i ≡ length es → node_of (es ++ (e ∷ [])) i ≡ e.value.node
-  node_behind i l = ap (λ z. get_or z i 0) (map_behind (λ e. e.value.node) es e) ∙ get_behind (node_list es) e.value.node i 0 (omega (arith, l, length-map es (λ e. e.value.node)))
+  node_behind i l = ap (λ z. get_or z i 0) (map_more (λ e. e.value.node) es e) ∙ get_behind (node_list es) e.value.node i 0 (omega (arith, l, length-map es (λ e. e.value.node)))
 
   group_behind : (i : ℕ) → i ≡ length es → group_of (es ++ (e ∷ [])) i ≡ e.value.group
-  group_behind i l = ap (λ z. get_or z i 0) (map_behind (λ e. e.value.group) es e) ∙ get_behind (group_list_of es) e.value.group i 0 (omega (arith, l, length-map es (λ e. e.value.group)))
+  group_behind i l = ap (λ z. get_or z i 0) (map_more (λ e. e.value.group) es e) ∙ get_behind (group_list_of es) e.value.group i 0 (omega (arith, l, length-map es (λ e. e.value.group)))
 
   next_behind : e.next ≡ None → ((i : ℕ) → next_of es i ≡ None) → (i : ℕ) → next_of (es ++ (e ∷ [])) i ≡ None
-  next_behind none all i = ap (λ z. get_or z i None) (map_behind (λ e. e.next) es e) ∙ elim (cases_lt i (length es)) [
-    | inl l ↦ get_before (next_list es) e.next i None (omega (arith, l, length-map es (λ e. e.next))) ∙ all i
+  next_behind none all i = ap (λ z. get_or z i None) (map_more (λ e. e.next) es e) ∙ elim (cases_lt i (length es)) [
+    | inl l ↦ at_more (next_list es) e.next None i (omega (arith, l, length-map es (λ e. e.next))) ∙ all i
     | inr g ↦ elim (cases_eq i (length es)) [
       | inl at ↦ get_behind (next_list es) e.next i None (omega (arith, at, length-map es (λ e. e.next))) ∙ none
-      | inr n ↦ get_past (next_list es ++ (e.next ∷ [])) i None (omega (arith, n, length_behind (next_list es) e.next, length-map es (λ e. e.next)))
+      | inr n ↦ get_or_past (next_list es ++ (e.next ∷ [])) i None (omega (arith, n, length_behind (next_list es) e.next, length-map es (λ e. e.next)))
     ]
   ]
 
@@ -163,7 +164,7 @@ module _ {R : Type 0} (d : ℕ) (key : R → KeyOf d 16) (t : List (NodeView R))
       ]
 
       counts : (q h : ℕ) → owned (node_list (es ++ (e ∷ []))) (group_list_of (es ++ (e ∷ []))) q h ≡ owned (node_list es ++ (e.value.node ∷ [])) (group_list_of es ++ (e.value.group ∷ [])) q h
-      counts q h = ap (λ z. owned z (group_list_of (es ++ (e ∷ []))) q h) (map_behind (λ e. e.value.node) es e) ∙ ap (λ z. owned (node_list es ++ (e.value.node ∷ [])) z q h) (map_behind (λ e. e.value.group) es e)
+      counts q h = ap (λ z. owned z (group_list_of (es ++ (e ∷ []))) q h) (map_more (λ e. e.value.node) es e) ∙ ap (λ z. owned (node_list es ++ (e.value.node ∷ [])) z q h) (map_more (λ e. e.value.group) es e)
 
       made_not : (x y : ℕ) → y ≤ x → cond {A = ℕ} (nat_lt x y) 1 0 ≡ 0
       made_not x y l = grind (arith, nat_tests)
@@ -205,7 +206,7 @@ module _ {R : Type 0} (d : ℕ) (key : R → KeyOf d 16) (t : List (NodeView R))
             head_in = omega (arith, x.head_in, length_behind es e, ap (λ z. z.head) k);
             node = ap (λ z. node_of (es ++ (e ∷ [])) z.head) k ∙ node_before (stream_of nodes q h).head x.head_in ∙ x.node;
             group = ap (λ z. group_of (es ++ (e ∷ [])) z.head) k ∙ group_before (stream_of nodes q h).head x.head_in ∙ x.group;
-            first = λ y. subst (λ z. key z.value.solution.rank ≡ get_or (group_list d key t q h) 0 (key_none d 16)) (sym (ap (λ z. get_or (es ++ (e ∷ [])) z.head y) k ∙ get_before es e (stream_of nodes q h).head y x.head_in)) (x.first y);
+            first = λ y. subst (λ z. key z.value.solution.rank ≡ get_or (group_list d key t q h) 0 (key_none d 16)) (sym (ap (λ z. get_or (es ++ (e ∷ [])) z.head y) k ∙ at_more es e y (stream_of nodes q h).head x.head_in)) (x.first y);
             only = subst (λ z. HasFirst d key t (es ++ (e ∷ [])) q h z.head) (sym k) (first_before q h (stream_of nodes q h).head x.head_in x.only);
             empty = ap (λ z. z.queue) k ∙ x.empty;
           }

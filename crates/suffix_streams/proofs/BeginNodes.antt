@@ -1,5 +1,5 @@
 -- The streams of a tree are made node by node, the last one first.
-use Rattle.std.proofs.Common.{◌≡◌, ◌≢◌, ℕ, suc, ◌+◌, ◌-◌, ◌<◌, None, List, [], ◌∷◌, ◌++◌, length, get_or, slice_set, refl, sym, ap, ◌∙◌, subst, inl, inr, arith, length-set, get_or-set_same, get_or-set_other}
+use Rattle.std.proofs.Common.{◌≡◌, ◌≢◌, ℕ, suc, ◌+◌, ◌-◌, ◌<◌, None, List, [], ◌∷◌, ◌++◌, length, get_or, slice_set, sym, ap, ◌∙◌, subst, inl, inr, arith, length-set, get_or-set_same, get_or-set_other}
 use Rattle.std.proofs.lemmas.Bool.{cases_lt, cases_eq}
 use Rattle.stream_store.specs.declared.linked.Linked.{Linked}
 use Rattle.tdp_model.specs.KeyTuple.{KeyOf, key_none}
@@ -16,8 +16,8 @@ use Rattle.suffix_streams.specs.Firsts.{IsFirstOf}
 use Rattle.suffix_streams.specs.Beginnings.{IsEmptyNode, IsBegunFrom, IsBegunIn}
 use Rattle.suffix_streams.proofs.BeginFirsts.{group_head, row_head}
 use Rattle.suffix_streams.proofs.Rankings.{group_is_ranking, row_is_ranking}
-use Rattle.suffix_streams.proofs.BeginOwners.{get_before, get_behind, get_default}
 use Rattle.suffix_streams.proofs.BeginMade.{with_stream, begun_none, begun_more}
+use Rattle.suffix_streams.proofs.ListEnds.{any_default, at_more, get_behind, length_behind}
 
 module _ {R : Type 0} (d : ℕ) (key : R → KeyOf d 16) (t : List (NodeView R)) (formed : IsFormed d key t) where
   -- a group's ranking begins with the first solution of its first member
@@ -63,13 +63,9 @@ module _ {R : Type 0} (d : ℕ) (key : R → KeyOf d 16) (t : List (NodeView R))
   in_more es nodes nodes' v g w e s same other own l lg more en eg el at_head first empty only b = record {
     streams = begun_more d key t es nodes nodes' v e s same other own g l (sym b.own) lg en eg el at_head first empty only b.streams;
     behind = λ q a lq. ap (λ z. length z.streams) (other q (λ e. omega arith)) ∙ b.behind q a lq;
-    own = ap (λ z. length z.streams) own ∙ length_more (lists_of nodes v).streams s ∙ ap (λ z. z + 1) b.own ∙ sym more;
+    own = ap (λ z. length z.streams) own ∙ length_behind (lists_of nodes v).streams s ∙ ap (λ z. z + 1) b.own ∙ sym more;
     before = λ q lq. ap (λ z. z.streams) (other q (λ e. omega arith)) ∙ b.before q lq;
   }
-    where
-      length_more : (xs : List (StreamView R)) (x : StreamView R) → length (xs ++ (x ∷ [])) ≡ length xs + 1
-      length_more [] x = refl
-      length_more (y ∷ xs) x = omega (arith, length_more xs x)
 
   -- # Steps
 
@@ -90,14 +86,14 @@ module _ {R : Type 0} (d : ℕ) (key : R → KeyOf d 16) (t : List (NodeView R))
   nodes_set nodes v n n' s l e e' = (
     length-set nodes v n',
     (λ q other. get_or-set_other nodes v q n' (record { children = []; streams = []; products = [] }) other),
-    get_or-set_same nodes v n' (record { children = []; streams = []; products = [] }) l ∙ e' ∙ ap (λ z. with_stream z s) (e ∙ get_default nodes v n (record { children = []; streams = []; products = [] }) l),
+    get_or-set_same nodes v n' (record { children = []; streams = []; products = [] }) l ∙ e' ∙ ap (λ z. with_stream z s) (e ∙ any_default nodes v n (record { children = []; streams = []; products = [] }) l),
   )
 
   -- one more node without streams
   pub empties_more : (nodes : List (NodeStreamsView R)) (n : NodeStreamsView R) (k : ℕ) → length nodes ≡ k → ((v : ℕ) → v < k → IsEmptyNode t v (lists_of nodes v)) → IsEmptyNode t k n
       → (v : ℕ) → v < k + 1 → IsEmptyNode t v (lists_of (nodes ++ (n ∷ [])) v)
   empties_more nodes n k e h x v l = elim (cases_lt v k) [
-    | inl before ↦ subst (IsEmptyNode t v) (sym (get_before nodes n v (record { children = []; streams = []; products = [] }) (omega (arith, before, e)))) (h v before)
+    | inl before ↦ subst (IsEmptyNode t v) (sym (at_more nodes n (record { children = []; streams = []; products = [] }) v (omega (arith, before, e)))) (h v before)
     | inr g ↦
         let here : v ≡ k = omega arith in
         subst (λ z. IsEmptyNode t z (lists_of (nodes ++ (n ∷ [])) z)) (sym here)

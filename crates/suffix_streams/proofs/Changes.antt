@@ -1,5 +1,5 @@
 -- One product of one row changes, and all else stays.
-use Rattle.std.proofs.Common.{◌≡◌, ◌≢◌, ℕ, zero, suc, ◌<◌, ◌≤◌, ◌⊎◌, List, [], length, get_or, slice_set, refl, sym, ap, ◌∙◌, subst, inl, inr, arith}
+use Rattle.std.proofs.Common.{◌≡◌, ◌≢◌, ℕ, zero, suc, ◌+◌, ◌<◌, ◌≤◌, ◌⊎◌, max, List, [], length, get_or, slice_set, refl, sym, ap, ◌∙◌, subst, inl, inr, arith}
 use Rattle.std.proofs.lemmas.Bool.{cases_eq}
 use Rattle.std.proofs.lemmas.List.{get_or-set_same, get_or-set_other}
 use Rattle.stream_store.specs.declared.linked.Linked.{Linked}
@@ -9,8 +9,9 @@ use Rattle.suffix_streams.specs.declared.stream.Found.{Found}
 use Rattle.suffix_streams.specs.ProductView.{ProductView}
 use Rattle.suffix_streams.specs.NodeStreamsView.{NodeStreamsView, product_at, stream_at, known_of, with_product}
 use Rattle.suffix_streams.specs.TreeStreams.{lists_of, products_of, product_of, stream_of, part_known, row_known, IsProductOf, IsStreams}
-use Rattle.suffix_streams.proofs.Stores.{set_length, row_inside}
+use Rattle.suffix_streams.specs.Growing.{AreQueuesGrown}
 use Rattle.suffix_streams.proofs.Kept.{held_itself, stream_stays, part_stays, product_stays}
+use Rattle.suffix_streams.proofs.ListEnds.{row_inside, set_length}
 
 module _ {R : Type 0} where
   pub lists_same : (nodes : List (NodeStreamsView R)) (v : ℕ) (n : NodeStreamsView R) → v < length nodes → lists_of (slice_set nodes v n) v ≡ n
@@ -59,6 +60,56 @@ module _ {R : Type 0} where
       known_kept s zero = omega arith
       known_kept s (suc k) = found_kept s k
 
+-- # One product is replaced
+
+module _ {R : Type 0} (nodes : List (NodeStreamsView R)) (v r c : ℕ) (p : ProductView R) (in_nodes : v < length nodes) (in_rows : r < length (lists_of nodes v).products) (in_row : c < length (products_of nodes v r)) where
+  abbrev pub replaced : List (NodeStreamsView R)
+  replaced = slice_set nodes v (with_product (lists_of nodes v) r c p)
+
+  pub replaced_at : lists_of replaced v ≡ with_product (lists_of nodes v) r c p
+  replaced_at = lists_same nodes v (with_product (lists_of nodes v) r c p) in_nodes
+
+  pub replaced_other : (w : ℕ) → w ≢ v → lists_of replaced w ≡ lists_of nodes w
+  replaced_other w n = lists_other nodes v w (with_product (lists_of nodes v) r c p) n
+
+  pub replaced_product : product_of replaced v r c ≡ p
+  replaced_product = ap (λ n. product_at n r c) replaced_at ∙ product_new (lists_of nodes v) r c p in_rows in_row
+
+  pub replaced_others : (w s k : ℕ) → ((w ≢ v) ⊎ (s ≢ r) ⊎ (k ≢ c)) → product_of replaced w s k ≡ product_of nodes w s k
+  replaced_others w s k (inl n) = ap (λ z. product_at z s k) (replaced_other w n)
+  replaced_others w s k (inr n) = elim (cases_eq w v) [
+    | inr m ↦ ap (λ z. product_at z s k) (replaced_other w m)
+    | inl e ↦ subst (λ z. product_of replaced z s k ≡ product_of nodes z s k) (sym e) (ap (λ z. product_at z s k) replaced_at ∙ at n)
+  ]
+    where
+      at : ((s ≢ r) ⊎ (k ≢ c)) → product_at (with_product (lists_of nodes v) r c p) s k ≡ product_of nodes v s k
+      at (inl n) = product_elsewhere (lists_of nodes v) r c p in_rows in_row s k n
+      at (inr n) = elim (cases_eq s r) [
+        | inl e ↦ subst (λ z. product_at (with_product (lists_of nodes v) r c p) z k ≡ product_of nodes v z k) (sym e) (product_row (lists_of nodes v) r c p in_rows in_row k n)
+        | inr m ↦ product_elsewhere (lists_of nodes v) r c p in_rows in_row s k m
+      ]
+
+  pub replaced_queues : (more : ℕ → ℕ) (old : List (NodeStreamsView R)) → AreQueuesGrown more old nodes → length p.frontier ≤ max 1 (length (product_of old v r c).frontier) + more v → AreQueuesGrown more old replaced
+  replaced_queues more old q own w s k = elim (cases_eq w v) [
+    | inr n ↦ other w s k (inl n)
+    | inl e ↦ elim (cases_eq s r) [
+      | inr n ↦ other w s k (inr (inl n))
+      | inl f ↦ elim (cases_eq k c) [
+        | inr n ↦ other w s k (inr (inr n))
+        | inl i ↦
+            subst (λ z. length (product_of replaced z s k).frontier ≤ max 1 (length (product_of old z s k).frontier) + more z) (sym e)
+            (subst (λ z. length (product_of replaced v z k).frontier ≤ max 1 (length (product_of old v z k).frontier) + more v) (sym f)
+            (subst (λ z. length (product_of replaced v r z).frontier ≤ max 1 (length (product_of old v r z).frontier) + more v) (sym i)
+            (omega (arith, own, ap (λ (z : ProductView R). length z.frontier) replaced_product))))
+      ]
+    ]
+  ]
+    where
+      other : (w s k : ℕ) → ((w ≢ v) ⊎ (s ≢ r) ⊎ (k ≢ c)) → length (product_of replaced w s k).frontier ≤ max 1 (length (product_of old w s k).frontier) + more w
+      other w s k n = omega (arith, q w s k, ap (λ (z : ProductView R). length z.frontier) (replaced_others w s k n))
+
+-- # The invariants then
+
 module _ {R : Type 0} (d : ℕ) (key : R → KeyOf d 16) (t : List (NodeView R)) (es : List (Linked (Found R))) (nodes : List (NodeStreamsView R)) (h : IsStreams d key t es nodes) (v r c : ℕ) (p : ProductView R)
     (l : v < length t) (row : r < rows t v) (in_row : c < length (products_of nodes v r)) (rises : length (product_of nodes v r c).found ≤ length p.found) where
   abbrev changed : List (NodeStreamsView R)
@@ -70,16 +121,16 @@ module _ {R : Type 0} (d : ℕ) (key : R → KeyOf d 16) (t : List (NodeView R))
   in_rows : r < length (lists_of nodes v).products
   in_rows = row_inside (lists_of nodes v).products r c in_row
 
-  pub changed_at : lists_of changed v ≡ with_product (lists_of nodes v) r c p
-  changed_at = lists_same nodes v (with_product (lists_of nodes v) r c p) in_nodes
+  changed_at : lists_of changed v ≡ with_product (lists_of nodes v) r c p
+  changed_at = replaced_at nodes v r c p in_nodes in_rows in_row
 
-  pub changed_other : (w : ℕ) → w ≢ v → lists_of changed w ≡ lists_of nodes w
-  changed_other w n = lists_other nodes v w (with_product (lists_of nodes v) r c p) n
+  changed_other : (w : ℕ) → w ≢ v → lists_of changed w ≡ lists_of nodes w
+  changed_other w n = replaced_other nodes v r c p in_nodes in_rows in_row w n
 
   pub changed_product : product_of changed v r c ≡ p
-  changed_product = ap (λ n. product_at n r c) changed_at ∙ product_new (lists_of nodes v) r c p in_rows in_row
+  changed_product = replaced_product nodes v r c p in_nodes in_rows in_row
 
-  pub changed_count : (w s : ℕ) → length (products_of changed w s) ≡ length (products_of nodes w s)
+  changed_count : (w s : ℕ) → length (products_of changed w s) ≡ length (products_of nodes w s)
   changed_count w s = elim (cases_eq w v) [
     | inl e ↦ subst (λ z. length (products_of changed z s) ≡ length (products_of nodes z s)) (sym e) (ap (λ n. length (get_or n.products s [])) changed_at ∙ counts_kept (lists_of nodes v) r c p in_rows in_row s)
     | inr n ↦ ap (λ z. length (get_or z.products s [])) (changed_other w n)
@@ -91,24 +142,13 @@ module _ {R : Type 0} (d : ℕ) (key : R → KeyOf d 16) (t : List (NodeView R))
     | inr n ↦ subst (λ z. part_known nodes w s k ≤ known_of z s k) (sym (changed_other w n)) (omega arith)
   ]
 
-  pub changed_row_known : (w s : ℕ) → row_known nodes w s ≤ row_known changed w s
+  changed_row_known : (w s : ℕ) → row_known nodes w s ≤ row_known changed w s
   changed_row_known w s = omega (arith, changed_known w s (length (products_of nodes w s)), ap (λ z. part_known changed w s z) (changed_count w s))
 
-  pub others : (w s k : ℕ) → ((w ≢ v) ⊎ (s ≢ r) ⊎ (k ≢ c)) → product_of changed w s k ≡ product_of nodes w s k
-  others w s k (inl n) = ap (λ z. product_at z s k) (changed_other w n)
-  others w s k (inr n) = elim (cases_eq w v) [
-    | inr m ↦ ap (λ z. product_at z s k) (changed_other w m)
-    | inl e ↦ subst (λ z. product_of changed z s k ≡ product_of nodes z s k) (sym e) (ap (λ z. product_at z s k) changed_at ∙ at n)
-  ]
-    where
-      at : ((s ≢ r) ⊎ (k ≢ c)) → product_at (with_product (lists_of nodes v) r c p) s k ≡ product_of nodes v s k
-      at (inl n) = product_elsewhere (lists_of nodes v) r c p in_rows in_row s k n
-      at (inr n) = elim (cases_eq s r) [
-        | inl e ↦ subst (λ z. product_at (with_product (lists_of nodes v) r c p) z k ≡ product_of nodes v z k) (sym e) (product_row (lists_of nodes v) r c p in_rows in_row k n)
-        | inr m ↦ product_elsewhere (lists_of nodes v) r c p in_rows in_row s k m
-      ]
+  others : (w s k : ℕ) → ((w ≢ v) ⊎ (s ≢ r) ⊎ (k ≢ c)) → product_of changed w s k ≡ product_of nodes w s k
+  others w s k n = replaced_others nodes v r c p in_nodes in_rows in_row w s k n
 
-  pub streams_changed : (w g : ℕ) → stream_of changed w g ≡ stream_of nodes w g
+  streams_changed : (w g : ℕ) → stream_of changed w g ≡ stream_of nodes w g
   streams_changed w g = elim (cases_eq w v) [
     | inl e ↦ subst (λ z. stream_of changed z g ≡ stream_of nodes z g) (sym e) (ap (λ n. stream_at n g) changed_at)
     | inr n ↦ ap (λ z. stream_at z g) (changed_other w n)

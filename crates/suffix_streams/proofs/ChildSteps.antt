@@ -14,7 +14,7 @@ use Rattle.suffix_streams.specs.declared.stream.Found.{Found}
 use Rattle.suffix_streams.specs.NodeStreamsView.{NodeStreamsView}
 use Rattle.suffix_streams.specs.Rankings.{child, part_list, group_list}
 use Rattle.suffix_streams.specs.TreeStreams.{HasKey, IsKnownPart, IsSumOf, node_list, group_list_of, node_of, group_of, place_of, lists_of, products_of, IsStreams}
-use Rattle.suffix_streams.specs.Growing.{IsGrown, IsExtended, IsAnswered, AreQueuesGrown, IsWithinSteps, below_kids, kids_size}
+use Rattle.suffix_streams.specs.Growing.{IsGrown, IsExtended, IsAnswered, IsWithinSteps, below_kids, kids_size}
 use Rattle.suffix_streams.specs.Exchanges.{CanExchange, IsChildOffer}
 use Rattle.suffix_streams.specs.LastEntries.{IsRowTop, IsRowNext}
 use Rattle.suffix_streams.proofs.Rankings.{kid, kid_below, own_some, own_first, part_fits, sum_fits}
@@ -22,7 +22,7 @@ use Rattle.suffix_streams.proofs.OneChild.{one_child_length, one_child_at}
 use Rattle.suffix_streams.proofs.Stores.{node_length}
 use Rattle.suffix_streams.proofs.Entries.{entry_key}
 use Rattle.suffix_streams.proofs.Exchanges.{key_once}
-use Rattle.suffix_streams.proofs.Searching.{extended_child, queues_child}
+use Rattle.suffix_streams.proofs.Searching.{extended_child}
 use Rattle.suffix_streams.proofs.SearchCosts.{some_bits, child_within}
 
 -- # Before the child is asked
@@ -181,9 +181,6 @@ module _ {R : Type 0} {d : ℕ} {key : R → KeyOf d 16} {t : List (NodeView R)}
 
   pub child_extended : IsExtended t v row (child_count t v) es n b m
   child_extended = subst (λ c. IsExtended t v row c es n b m) (sym only.one) (extended_child d key t h.tree v row 0 is.node only.kid es b n m by_child)
-
-  pub child_queues : AreQueuesGrown (is_below (parent t) (node_of es at)) n m → AreQueuesGrown (λ w. below_kids t v (child_count t v) w + cond (nat_eq w v) 1 0) n m
-  child_queues q = subst (λ c. AreQueuesGrown (λ w. below_kids t v c w + cond (nat_eq w v) 1 0) n m) (sym only.one) (queues_child d key t h.tree v row 0 is.node only.kid n m (subst (λ z. AreQueuesGrown (is_below (parent t) z) n m) only.sum.node q))
 
   -- s2 are the steps at the end
   pub child_steps : (s0 s1 s2 : ℕ) → IsWithinSteps t n (is_below (parent t) (node_of es at)) (λ k. 14 + 4 * k + 20 * kids_size t (node_of es at) (child_count t (node_of es at)) * (1 + k)) s0 s1 → s2 ≤ s1 + 3

@@ -1,5 +1,5 @@
 -- What is asked of a result.
-use Rattle.std.proofs.Common.{◌≡◌, Option, None, IfSome, Result, Ok, Err, sym, subst, IfOk, OnOk, OnErr, IsErr}
+use Rattle.std.proofs.Common.{Result, Ok, Err, IfOk, OnOk, OnErr, IsErr}
 use Rattle.std.proofs.lemmas.Bool.{false≢true}
 
 pub none_given : {A E : Type 0} (P : A → Type 0) (r : Result A E) → IsErr r → IfOk r P
@@ -17,6 +17,3 @@ ok_then (Err e) f p = tt
 pub err_then : {A E P Q : Type 0} (r : Result A E) → (P → Q) → OnErr r P → OnErr r Q
 err_then (Ok x) f p = tt
 err_then (Err e) f p = f p
-
-pub none_there : {A : Type 0} (P : A → Type 0) (o : Option A) → o ≡ None → IfSome o P
-none_there {A} P o e = subst (λ (z : Option A). IfSome z P) (sym e) tt

@@ -15,7 +15,7 @@ use Rattle.suffix_streams.specs.Frontiers.{AreFirst, AreFirstBy, IsFrontier}
 use Rattle.suffix_streams.specs.TreeStreams.{place_of, product_of, part_known, AreLefts, HasParts, IsCell}
 use Rattle.suffix_streams.proofs.Rankings.{kid, named_in, own_some, own_first, group_some, part_ascends, group_ascends, sums_begin, sum_fits}
 use Rattle.suffix_streams.proofs.Growth.{frontier_begins}
-use Rattle.suffix_streams.proofs.Stores.{map_at}
+use Rattle.suffix_streams.proofs.ListEnds.{map_at}
 
 taken_at : {K : Type 0} (ks : List K) (n i : ℕ) (d : K) → i < n → get_or (take n ks) i d ≡ get_or ks i d
 taken_at [] zero i d l = refl

@@ -14,7 +14,7 @@ use Rattle.suffix_streams.specs.NodeStreamsView.{NodeStreamsView, stream_at}
 use Rattle.suffix_streams.specs.Rankings.{child, part_list}
 use Rattle.suffix_streams.specs.TreeStreams.{lists_of, stream_of, IsHeaded, HasKey, IsFreshAt, AreFreshTo}
 use Rattle.suffix_streams.proofs.Rankings.{kid}
-use Rattle.suffix_streams.proofs.Stores.{any_default, at_more, at_end}
+use Rattle.suffix_streams.proofs.ListEnds.{any_default, at_end, at_more}
 
 pub lists_at : {R : Type 0} (nodes : List (NodeStreamsView R)) (v : ℕ) (n : NodeStreamsView R) → n ≡ get_or nodes v n → v < length nodes → lists_of nodes v ≡ n
 lists_at nodes v n e l = any_default nodes v (record { children = []; streams = []; products = [] }) n l ∙ sym e

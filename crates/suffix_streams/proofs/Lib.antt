@@ -11,7 +11,6 @@ pub mod Begins
 pub mod Changes
 pub mod ChildSteps
 pub mod Children
-pub mod Chunks
 pub mod Costs
 pub mod Entries
 pub mod Errors
@@ -26,10 +25,11 @@ pub mod Kept
 pub mod Lasts
 pub mod Linked
 pub mod Linking
+pub mod ListEnds
 pub mod Merging
-pub mod Moves
 pub mod NextCall
 pub mod NodeFacts
+pub mod Numbers
 pub mod OneChild
 pub mod OpenedRows
 pub mod Opening

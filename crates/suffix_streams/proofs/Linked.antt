@@ -7,8 +7,9 @@ use Rattle.tdp_core.specs.TreeView.{NodeView, group_count}
 use Rattle.suffix_streams.specs.declared.stream.Found.{Found}
 use Rattle.suffix_streams.specs.TreeStreams.{node_of, group_of, next_of}
 use Rattle.suffix_streams.specs.Growing.{IsStoreGrown}
-use Rattle.suffix_streams.proofs.Stores.{at_more, with_entry, entry_length, old_node, old_group, new_node, new_group}
+use Rattle.suffix_streams.proofs.Stores.{with_entry, entry_length, old_node, old_group, new_node, new_group}
 use Rattle.suffix_streams.proofs.Kept.{AreHeld}
+use Rattle.suffix_streams.proofs.ListEnds.{at_more}
 
 pub flipped : (a b : ℕ) → cond {A = ℕ} (nat_eq a b) 1 0 ≡ cond {A = ℕ} (nat_eq b a) 1 0
 flipped a b = grind (arith, nat_tests)

@@ -20,7 +20,7 @@ use Rattle.suffix_streams.specs.Offers.{offers}
 use Rattle.suffix_streams.specs.QueueEntries.{IsHeld, InRuns}
 use Rattle.suffix_streams.specs.Links.{IsLinked}
 use Rattle.suffix_streams.specs.Reaches.{AreHeapOrdered}
-use Rattle.suffix_streams.proofs.Held.{MaybeHolds, all_offers, held_moved}
+use Rattle.suffix_streams.proofs.Held.{MaybeHolds, all_offers}
 use Rattle.suffix_streams.proofs.Steps.{IsNext, IsBelow}
 use Rattle.suffix_streams.specs.declared.source.Source.{Source}
 use Rattle.suffix_streams.specs.declared.stream.Found.{Found}
@@ -36,12 +36,12 @@ use Rattle.suffix_streams.proofs.Lasts.{last_first}
 use Rattle.suffix_streams.proofs.Takes.{least_itself, offered_past}
 use Rattle.suffix_streams.proofs.BeginFirsts.{row_head}
 use Rattle.suffix_streams.proofs.Rankings.{part_ascends, row_is_ranking}
-use Rattle.suffix_streams.proofs.Stores.{set_length}
 use Rattle.suffix_streams.proofs.Growth.{merge_grows, merge_ends, merge_few}
 use Rattle.suffix_streams.proofs.FirstSums.{first_known, first_own}
 use Rattle.suffix_streams.proofs.Entries.{some_known}
 use Rattle.suffix_streams.proofs.Kept.{AreHeld, part_stays, parts_stay, stream_stays, product_stays}
 use Rattle.suffix_streams.proofs.Changes.{lists_same, lists_other}
+use Rattle.suffix_streams.proofs.ListEnds.{set_length}
 
 module _ {R : Type 0} (d : ℕ) (key : R → KeyOf d 16) (t : List (NodeView R)) (es es' : List (Linked (Found R))) (nodes : List (NodeStreamsView R)) (h : IsStreams d key t es nodes) (held : AreHeld es es') (q g : ℕ)
     (l : q < length t) (in_group : g < group_count t q) (new : List (Entry R Source)) (room : ℕ) where
@@ -293,9 +293,6 @@ module _ {R : Type 0} (d : ℕ) (key : R → KeyOf d 16) (t : List (NodeView R))
       (all_offers Parts offer None (offers right None (offers left None waiting)) all_facts.3 tt
       (all_offers Parts right None (offers left None waiting) (below_parts apart (2 * top.tag.member + 2) right on_right) tt
       (all_offers Parts left None waiting (below_parts apart (2 * top.tag.member + 1) left on_left) tt own.parts)))
-
-  pub queue_held : All Held new
-  queue_held = held_moved d key (run_key (key_none d 16) lists) (InRuns d n lists) run_of offer left right top queue new moved all_facts.0 left_facts.0 right_facts.0 merged.held
 
   pub queue_few : length new ≤ n
   queue_few =

@@ -7,7 +7,7 @@ use Rattle.suffix_streams.specs.ProductView.{ProductView}
 use Rattle.suffix_streams.specs.StreamView.{StreamView, headed}
 use Rattle.suffix_streams.specs.NodeStreamsView.{NodeStreamsView, HasHead, product_at, stream_at, with_product, with_queue}
 use Rattle.suffix_streams.proofs.HeadedStreams.{stream_at_head, headed_length, headed_at, headed_set}
-use Rattle.suffix_streams.proofs.Stores.{row_inside}
+use Rattle.suffix_streams.proofs.ListEnds.{row_inside}
 
 module _ {R : Type 0} (children : List ℕ) (first : ℕ) (queues : List (Heap R Source)) (products : List (List (ProductView R))) (n : NodeStreamsView R)
     (is : record { children = children; streams = headed first queues; products = products } ≡ n) (g : ℕ) (l : g < length n.streams) where

@@ -13,7 +13,7 @@ use Rattle.tdp_core.specs.TreeView.{NodeView, parent, group, group_named, child_
 use Rattle.tdp_core.specs.WellFormed.{IsFormed}
 use Rattle.suffix_streams.specs.Rankings.{child, part_list, group_list}
 use Rattle.suffix_streams.proofs.Rankings.{kid, kid_below, left_ranking, right_ranking, sum_ranking, none_is_own, own_some, own_first}
-use Rattle.suffix_streams.proofs.Stores.{map_at}
+use Rattle.suffix_streams.proofs.ListEnds.{map_at}
 
 -- a list of keys, to each of which the same key is added
 module _ {K : Type 0} (Below : K → K → Type 0) (add : K → K → K) (none : K) (keys : IsKeys K Below add none) (a : K) where

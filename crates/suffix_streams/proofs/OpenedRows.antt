@@ -1,14 +1,11 @@
 -- The lists of opened rows.
-use Rattle.std.proofs.Common.{◌≡◌, ◌≢◌, ℕ, zero, suc, ◌+◌, ◌-◌, ◌*◌, ◌/◌, ◌%◌, ◌^◌, ◌<◌, ◌≤◌, List, [], ◌∷◌, ◌++◌, map, length, get_or, slice_set, refl, sym, ap, ◌∙◌, subst, inl, inr, arith}
+use Rattle.std.proofs.Common.{◌≡◌, ◌≢◌, ℕ, zero, suc, ◌+◌, ◌-◌, ◌<◌, ◌≤◌, List, [], ◌∷◌, ◌++◌, map, length, get_or, slice_set, refl, sym, ap, ◌∙◌, subst, inl, inr, arith}
 use Rattle.std.proofs.lemmas.Bool.{cases_lt, cases_eq}
 use Rattle.std.proofs.lemmas.List.{get_or-set_same, get_or-set_other, get_or_past, length-set, same_lists}
 use Rattle.std.specs.declared.vec.Vec.{Vec}
 use Rattle.std.specs.Vec.{with_item}
-use Rattle.suffix_streams.specs.ProductView.{ProductView}
-use Rattle.suffix_streams.specs.RowsView.{RowsView}
-use Rattle.suffix_streams.specs.OpenedRows.{list_numbered, AreChunked, HaveOwnLists}
-use Rattle.suffix_streams.proofs.Chunks.{row_fits, IsPlaced, placed, numbered_at, numbered_length, written_here, written_other, written_chunked, appended_here, appended_before, appended_chunked, longer_chunked, longer_numbered}
-use Rattle.suffix_streams.proofs.Stores.{map_length, map_at, map_set, set_map, any_default, row_inside}
+use Rattle.suffix_streams.specs.OpenedRows.{list_numbered, HaveOwnLists}
+use Rattle.suffix_streams.proofs.ListEnds.{any_default, at_end, at_more, map_at, map_length, map_more, row_inside, set_length, set_map}
 
 -- the list of each row, if `f` is the list of each number
 module _ {A : Type 0} (f : ℕ → List A) (none : f 0 ≡ []) where
@@ -104,22 +101,22 @@ module _ {A : Type 0} (f f' : ℕ → List A) (none : f 0 ≡ []) (none' : f' 0 
         each : (s : ℕ) (d : List A) → s < length (map f' numbers) → get_or (map f' numbers) s d ≡ get_or (slice_set (map f opened) r x) s d
         each s d l = any_default (map f' numbers) s d [] l ∙ at s ∙ any_default (slice_set (map f opened) r x) s [] d (omega (arith, l, lengths))
 
--- the lists in the chunks
+-- the elements of lists
 abbrev pub items_of : {P Z : Type 0} → List (Vec P Z) → List (List P)
 items_of vs = map (λ v. v.items) vs
 
 -- the list of each row, by its number
-abbrev pub rows_of : {P Z : Type 0} → ℕ → List (Vec P Z) → List ℕ → List (List P)
-rows_of w vs opened = map (list_numbered w (items_of vs)) opened
+abbrev pub rows_of : {P Z : Type 0} → List (Vec P Z) → List ℕ → List (List P)
+rows_of vs opened = map (list_numbered (items_of vs)) opened
 
--- a product of a row
-module _ {P Z : Type 0} (w count : ℕ) (vs : List (Vec P Z)) (opened : List ℕ) (own : HaveOwnLists opened count) (full : AreChunked w count (items_of vs)) (rows : List (List P)) (seen : rows_of w vs opened ≡ rows) where
+module _ {P Z : Type 0} (vs : List (Vec P Z)) (opened : List ℕ) (own : HaveOwnLists opened (length vs)) (rows : List (List P)) (seen : rows_of vs opened ≡ rows) where
   abbrev lists : List (List P)
   lists = items_of vs
 
+  -- an element of the list of a row of number n
   module _ (r c n : ℕ) (e : n ≡ get_or opened r n) (some : c < length (get_or rows r [])) where
     found : (r < length opened) × (0 < get_or opened r 0)
-    found = row_opened (list_numbered w lists) refl opened r c (subst (λ z. c < length (get_or z r [])) (sym seen) some)
+    found = row_opened (list_numbered lists) refl opened r c (subst (λ z. c < length (get_or z r [])) (sym seen) some)
 
     number_is : n ≡ get_or opened r 0
     number_is = e ∙ any_default opened r n 0 found.0
@@ -133,123 +130,68 @@ module _ {P Z : Type 0} (w count : ℕ) (vs : List (Vec P Z)) (opened : List ℕ
     next : suc k ≡ get_or opened r 0
     next = omega (arith, number_is, number_some)
 
-    listed : k < count
-    listed = omega (arith, next, own.within r)
+    pub list_in : k < length vs
+    list_in = omega (arith, next, own.within r)
 
-    place : IsPlaced w lists k
-    place = placed w count lists full k listed
+    row_here : list_numbered lists (suc k) ≡ get_or rows r []
+    row_here = ap (λ m. list_numbered lists m) next ∙ sym (row_is (list_numbered lists) refl opened r) ∙ ap (λ z. get_or z r []) seen
 
-    row_here : list_numbered w lists (suc k) ≡ get_or rows r []
-    row_here = ap (λ m. list_numbered w lists m) next ∙ sym (row_is (list_numbered w lists) refl opened r) ∙ ap (λ z. get_or z r []) seen
+    list_is : (v : Vec P Z) → v ≡ get_or vs k v → v.items ≡ get_or rows r []
+    list_is v at = ap (λ v. v.items) at ∙ sym (map_at (λ v. v.items) vs k v [] list_in) ∙ row_here
 
-    in_list : c < w
-    in_list = omega (arith, some, ap length row_here, numbered_length w lists k place)
+    pub place_in : (v : Vec P Z) → v ≡ get_or vs k v → c < length v.items
+    place_in v at = omega (arith, some, ap length (list_is v at))
 
-    pub chunk_in : k / 32 < length vs
-    chunk_in = omega (arith, place.chunk, map_length (λ v. v.items) vs)
+    pub product_read : (v : Vec P Z) → v ≡ get_or vs k v → (d : P) → get_or v.items c d ≡ get_or (get_or rows r []) c d
+    product_read v at d = ap (λ z. get_or z c d) (list_is v at)
 
-    chunk_is : (v : Vec P Z) → v ≡ get_or vs (k / 32) v → v.items ≡ get_or lists (k / 32) []
-    chunk_is v at = ap (λ v. v.items) at ∙ sym (map_at (λ v. v.items) vs (k / 32) v [] chunk_in)
-
-    -- the product has its place in the chunk
-    pub place_in : (v : Vec P Z) → v ≡ get_or vs (k / 32) v → k % 32 * w + c < length v.items
-    place_in v at = omega (arith, place.place, in_list, ap length (chunk_is v at))
-
-    -- and the place is a number of 64 bits
-    pub place_fits : (0 < count → 32 * w < 2 ^ 64) → k % 32 * w + c < 2 ^ 64
-    place_fits few =
-        let short : 32 * w < 2 ^ 64 = few (omega (arith, listed)) in
-        let before : k % 32 * w + w ≤ 32 * w = row_fits w (k % 32) 32 (omega arith) in
-        omega (arith, in_list, before, short)
-
-    pub product_read : (v : Vec P Z) → v ≡ get_or vs (k / 32) v → (d : P) → get_or v.items (k % 32 * w + c) d ≡ get_or (get_or rows r []) c d
-    product_read v at d = ap (λ z. get_or z (k % 32 * w + c) d) (chunk_is v at) ∙ sym (numbered_at w lists k c d in_list) ∙ ap (λ z. get_or z c d) row_here
-
-    -- another product in its place
-    module _ (v : Vec P Z) (at : v ≡ get_or vs (k / 32) v) (p : P) where
+    -- another element in its place
+    module _ (v : Vec P Z) (at : v ≡ get_or vs k v) (p : P) where
       abbrev changed : List (Vec P Z)
-      changed = slice_set vs (k / 32) (with_item v (k % 32 * w + c) p)
+      changed = slice_set vs k (with_item v c p)
 
-      lists_changed : items_of changed ≡ slice_set lists (k / 32) (slice_set (get_or lists (k / 32) []) (k % 32 * w + c) p)
-      lists_changed = set_map (λ v. v.items) vs (k / 32) (with_item v (k % 32 * w + c) p) ∙ ap (λ z. slice_set lists (k / 32) (slice_set z (k % 32 * w + c) p)) (chunk_is v at)
+      abbrev other_row : List P
+      other_row = slice_set (get_or rows r []) c p
 
-      pub changed_chunked : AreChunked w count (items_of changed)
-      changed_chunked = subst (λ z. AreChunked w count z) (sym lists_changed) (written_chunked w count lists full k listed c in_list p)
+      lists_changed : items_of changed ≡ slice_set lists k other_row
+      lists_changed = set_map (λ v. v.items) vs k (with_item v c p) ∙ ap (λ z. slice_set lists k (slice_set z c p)) (list_is v at)
 
-      pub changed_rows : rows_of w changed opened ≡ slice_set rows r (slice_set (get_or rows r []) c p)
+      pub changed_own : HaveOwnLists opened (length changed)
+      changed_own = subst (HaveOwnLists opened) (sym (set_length vs k (with_item v c p))) own
+
+      pub changed_rows : rows_of changed opened ≡ slice_set rows r other_row
       changed_rows =
-          ap (λ z. map (list_numbered w z) opened) lists_changed
-          ∙ row_set (list_numbered w lists) (list_numbered w (slice_set lists (k / 32) (slice_set (get_or lists (k / 32) []) (k % 32 * w + c) p))) refl refl opened count own r (slice_set (get_or rows r []) c p) found.1 here other
-          ∙ ap (λ z. slice_set z r (slice_set (get_or rows r []) c p)) seen
+          ap (λ z. map (list_numbered z) opened) lists_changed
+          ∙ row_set (list_numbered lists) (list_numbered (slice_set lists k other_row)) refl refl opened (length vs) own r other_row found.1 here other
+          ∙ ap (λ z. slice_set z r other_row) seen
         where
-          here : list_numbered w (slice_set lists (k / 32) (slice_set (get_or lists (k / 32) []) (k % 32 * w + c) p)) (get_or opened r 0) ≡ slice_set (get_or rows r []) c p
-          here = subst (λ m. list_numbered w (slice_set lists (k / 32) (slice_set (get_or lists (k / 32) []) (k % 32 * w + c) p)) m ≡ slice_set (get_or rows r []) c p) next
-              (written_here w count lists full k listed c in_list p ∙ ap (λ z. slice_set z c p) row_here)
+          here : list_numbered (slice_set lists k other_row) (get_or opened r 0) ≡ other_row
+          here = subst (λ m. list_numbered (slice_set lists k other_row) m ≡ other_row) next (get_or-set_same lists k other_row [] (omega (arith, list_in, map_length (λ (v : Vec P Z). v.items) vs)))
 
-          other : (m : ℕ) → m ≤ count → m ≢ get_or opened r 0 → list_numbered w (slice_set lists (k / 32) (slice_set (get_or lists (k / 32) []) (k % 32 * w + c) p)) m ≡ list_numbered w lists m
-          other m l n = written_other w count lists full k listed c in_list p m l (λ e. n (omega (arith, e, next)))
+          other : (m : ℕ) → m ≤ length vs → m ≢ get_or opened r 0 → list_numbered (slice_set lists k other_row) m ≡ list_numbered lists m
+          other zero l n = refl
+          other (suc j) l n = get_or-set_other lists k j other_row [] (λ e. n (ap suc e ∙ next))
 
   -- one more list, for row r
-  module _ (r : ℕ) (inside : r < length rows) (v v' : Vec P Z) (there : count / 32 < length vs) (at : v ≡ get_or vs (count / 32) v) (ps : List P) (long : length ps ≡ w) (e : v'.items ≡ v.items ++ ps) where
-    abbrev longer : List (Vec P Z)
-    longer = slice_set vs (count / 32) v'
+  module _ (r : ℕ) (inside : r < length rows) (v : Vec P Z) where
+    pub in_opened : r < length opened
+    in_opened = omega (arith, inside, ap length seen, map_length (list_numbered lists) opened)
 
-    in_opened : r < length opened
-    in_opened = omega (arith, inside, ap length seen, map_length (list_numbered w lists) opened)
+    pub opened_own : HaveOwnLists (slice_set opened r (length vs + 1)) (length vs + 1)
+    opened_own = own_added (list_numbered lists) (list_numbered lists) refl refl opened (length vs) own r v.items in_opened
 
-    in_lists : count / 32 < length lists
-    in_lists = omega (arith, there, map_length (λ v. v.items) vs)
-
-    lists_longer : items_of longer ≡ slice_set lists (count / 32) (get_or lists (count / 32) [] ++ ps)
-    lists_longer =
-        set_map (λ v. v.items) vs (count / 32) v' ∙ ap (λ z. slice_set lists (count / 32) z) e
-        ∙ ap (λ z. slice_set lists (count / 32) (z ++ ps)) (ap (λ v. v.items) at ∙ sym (map_at (λ v. v.items) vs (count / 32) v [] there))
-
-    pub opened_own : HaveOwnLists (slice_set opened r (count + 1)) (count + 1)
-    opened_own = own_added (list_numbered w lists) (list_numbered w lists) refl refl opened count own r ps in_opened
-
-    pub opened_chunked : AreChunked w (count + 1) (items_of longer)
-    opened_chunked = subst (λ z. AreChunked w (count + 1) z) (sym lists_longer) (appended_chunked w count lists full in_lists ps long)
-
-    pub opened_rows : rows_of w longer (slice_set opened r (count + 1)) ≡ slice_set rows r ps
+    pub opened_rows : rows_of (vs ++ (v ∷ [])) (slice_set opened r (length vs + 1)) ≡ slice_set rows r v.items
     opened_rows =
-        ap (λ z. map (list_numbered w z) (slice_set opened r (count + 1))) lists_longer
-        ∙ row_added (list_numbered w lists) (list_numbered w (slice_set lists (count / 32) (get_or lists (count / 32) [] ++ ps))) refl refl opened count own r ps in_opened
-        (appended_here w count lists full in_lists ps long) (appended_before w count lists full in_lists ps long)
-        ∙ ap (λ z. slice_set z r ps) seen
-
--- a view with other rows
-pub view_changed : {R : Type 0} (n : RowsView R) (w : ℕ) (rows rows' x : List (List (ProductView R))) → record { width = w; rows = rows } ≡ n → rows' ≡ x → record { width = w; rows = rows' } ≡ record n { rows = x }
-view_changed {R} n w rows rows' x is e =
-    ap (λ (z : List (List (ProductView R))). (let m : RowsView R = record { width = w; rows = z } in m)) e ∙ ap (λ (z : RowsView R). (let m : RowsView R = record { width = z.width; rows = x } in m)) is
-
-pub view_kept : {R : Type 0} (n : RowsView R) (w : ℕ) (rows rows' : List (List (ProductView R))) → record { width = w; rows = rows } ≡ n → rows' ≡ n.rows → record { width = w; rows = rows' } ≡ n
-view_kept {R} n w rows rows' is e = ap (λ (z : List (List (ProductView R))). (let m : RowsView R = record { width = w; rows = z } in m)) (e ∙ sym (ap (λ z. z.rows) is)) ∙ is
-
--- no list
-pub none_chunked : {A : Type 0} (w : ℕ) (cs : List (List A)) → cs ≡ [] → AreChunked w 0 cs
-none_chunked {A} w cs e = subst (λ (z : List (List A)). AreChunked w 0 z) (sym e) (record { each = λ j l. absurd (omega arith); enough = omega arith })
-
-module _ {P Z : Type 0} where
-  -- a chunk without a list at the end
-  pub empty_behind : (vs : List (Vec P Z)) (v : Vec P Z) → v.items ≡ [] → (j : ℕ) → get_or (items_of (vs ++ v ∷ [])) j [] ≡ get_or (items_of vs) j []
-  empty_behind [] v e zero = e
-  empty_behind [] v e (suc j) = refl
-  empty_behind (u ∷ vs) v e zero = refl
-  empty_behind (u ∷ vs) v e (suc j) = empty_behind vs v e j
-
-  -- other chunks with the same lists
-  module _ (w count : ℕ) (vs vs' : List (Vec P Z)) (opened : List ℕ) (same : (j : ℕ) → get_or (items_of vs') j [] ≡ get_or (items_of vs) j []) where
-    pub same_chunked : length vs ≤ length vs' → AreChunked w count (items_of vs) → AreChunked w count (items_of vs')
-    same_chunked longer full = longer_chunked w count (items_of vs) (items_of vs') full same (omega (arith, longer, map_length (λ (v : Vec P Z). v.items) vs, map_length (λ (v : Vec P Z). v.items) vs'))
-
-    pub same_rows : rows_of w vs' opened ≡ rows_of w vs opened
-    same_rows = each opened
+        ap (λ z. map (list_numbered z) (slice_set opened r (length vs + 1))) (map_more (λ v. v.items) vs v)
+        ∙ row_added (list_numbered lists) (list_numbered (lists ++ (v.items ∷ []))) refl refl opened (length vs) own r v.items in_opened here before
+        ∙ ap (λ z. slice_set z r v.items) seen
       where
-        each : (ns : List ℕ) → map (list_numbered w (items_of vs')) ns ≡ map (list_numbered w (items_of vs)) ns
-        each [] = refl
-        each (n ∷ ns) = ap (λ z. z ∷ map (list_numbered w (items_of vs')) ns) (longer_numbered w (items_of vs) (items_of vs') same n) ∙ ap (λ z. list_numbered w (items_of vs) n ∷ z) (each ns)
+        number : length vs + 1 ≡ suc (length lists)
+        number = omega (arith, map_length (λ (v : Vec P Z). v.items) vs)
 
-  -- a chunk in whose place there is one with the same lists
-  pub chunk_kept : (vs : List (Vec P Z)) (j : ℕ) (v v' : Vec P Z) → j < length vs → v ≡ get_or vs j v → v'.items ≡ v.items → items_of (slice_set vs j v') ≡ items_of vs
-  chunk_kept vs j v v' l at e = map_set (λ (v : Vec P Z). v.items) vs j v' v (e ∙ ap (λ (v : Vec P Z). v.items) at)
+        here : list_numbered (lists ++ (v.items ∷ [])) (length vs + 1) ≡ v.items
+        here = ap (λ n. list_numbered (lists ++ (v.items ∷ [])) n) number ∙ at_end lists v.items []
+
+        before : (m : ℕ) → m ≤ length vs → list_numbered (lists ++ (v.items ∷ [])) m ≡ list_numbered lists m
+        before zero l = refl
+        before (suc j) l = at_more lists v.items [] j (omega (arith, l, map_length (λ (v : Vec P Z). v.items) vs))

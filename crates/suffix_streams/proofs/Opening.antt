@@ -18,7 +18,7 @@ use Rattle.suffix_streams.specs.Rankings.{child, part_list, group_list}
 use Rattle.suffix_streams.specs.Frontiers.{IsFrontier}
 use Rattle.suffix_streams.specs.TreeStreams.{IsKnownPart, node_of, group_of, place_of, lists_of, products_of, product_of, part_known, row_known, pair_of, IsStreamOf, IsProductOf, IsStreams, IsFreshAt, AreFreshTo}
 use Rattle.suffix_streams.proofs.Rankings.{kid, part_ascends, group_ascends, group_some, sums_begin}
-use Rattle.suffix_streams.proofs.Stores.{set_length, open_all}
+use Rattle.suffix_streams.proofs.Stores.{open_all}
 use Rattle.suffix_streams.proofs.Growth.{frontier_begins}
 use Rattle.suffix_streams.proofs.Ranks.{first_ranked}
 use Rattle.suffix_streams.proofs.Firsts.{part_some, first_sum}
@@ -26,6 +26,7 @@ use Rattle.suffix_streams.proofs.Entries.{named_stream}
 use Rattle.suffix_streams.proofs.Heads.{lists_at}
 use Rattle.suffix_streams.proofs.Kept.{held_itself, stream_stays, part_stays, product_stays}
 use Rattle.suffix_streams.proofs.Changes.{lists_same, lists_other}
+use Rattle.suffix_streams.proofs.ListEnds.{set_length}
 
 module _ {R : Type 0} (d : ℕ) (key : R → KeyOf d 16) (t : List (NodeView R)) (es : List (Linked (Found R))) (nodes : List (NodeStreamsView R)) (h : IsStreams d key t es nodes) (v r : ℕ) (l : v < length t) (row : r < rows t v)
     (n : NodeStreamsView R) (at : n ≡ get_or nodes v n) where

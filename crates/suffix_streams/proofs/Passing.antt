@@ -18,7 +18,7 @@ drop_head (x ∷ xs) zero k ks d e = (omega arith, ap (λ z. get_or z 0 d) e, ap
 drop_head (x ∷ xs) (suc n) k ks d e =
     let r : (n < length xs) × (get_or xs n d ≡ k) × (drop (suc n) xs ≡ ks) = drop_head xs n k ks d e in (omega (arith, r.0), r.1, r.2)
 
-drop_none : {K : Type 0} (xs : List K) (n : ℕ) → drop n xs ≡ [] → length xs ≤ n
+pub drop_none : {K : Type 0} (xs : List K) (n : ℕ) → drop n xs ≡ [] → length xs ≤ n
 drop_none [] n e = omega arith
 drop_none (x ∷ xs) zero e = absurd (nil_cons x xs (sym e))
 drop_none (x ∷ xs) (suc n) e = omega (arith, drop_none xs n e)

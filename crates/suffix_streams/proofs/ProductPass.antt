@@ -20,10 +20,10 @@ use Rattle.suffix_streams.specs.TreeStreams.{KeepsRanks, node_of, group_of, list
 use Rattle.suffix_streams.specs.Growing.{IsAnswered, IsReached}
 use Rattle.suffix_streams.proofs.Heads.{lists_at}
 use Rattle.suffix_streams.proofs.State.{count_more}
-use Rattle.suffix_streams.proofs.Stores.{row_inside}
 use Rattle.suffix_streams.proofs.Kept.{ranks_stay}
 use Rattle.suffix_streams.proofs.StepCells.{first_of, queue_longer}
 use Rattle.suffix_streams.proofs.Stepping.{step_holds, sums_end, sums_grow, ranks_grow, ranks_kept, kept_known, next_known}
+use Rattle.suffix_streams.proofs.ListEnds.{row_inside}
 
 -- p is the product after that
 pub record IsProductPassed {R : Type 0} (d : ℕ) (key : R → KeyOf d 16) (t : List (NodeView R)) (es : List (Linked (Found R))) (n : List (NodeStreamsView R)) (v r c : ℕ) (p : ProductView R) : Type 0 where

@@ -26,9 +26,10 @@ use Rattle.suffix_streams.proofs.Lasts.{last_more, last_more_at}
 use Rattle.suffix_streams.proofs.Takes.{least_itself}
 use Rattle.suffix_streams.proofs.Entries.{stream_owned}
 use Rattle.suffix_streams.proofs.ViewEntries.{entry_at}
-use Rattle.suffix_streams.proofs.Stores.{node_length, any_default, with_entry, entry_added, size_longer, last_next, all_linked, stream_same, stream_longer}
+use Rattle.suffix_streams.proofs.Stores.{node_length, with_entry, entry_added, size_longer, last_next, all_linked, stream_same, stream_longer}
 use Rattle.suffix_streams.proofs.Linked.{entries_are, all_owned, flipped}
 use Rattle.suffix_streams.proofs.Merging.{next_offer, queued_at, queued_other, queued_products, queued_stream, queue_set, queue_known, queue_parts, queue_few, group_ends, group_grows}
+use Rattle.suffix_streams.proofs.ListEnds.{any_default}
 
 -- the list of a member's solutions
 abbrev pub lists_of_member : {R : Type 0} (d : ℕ) (key : R → KeyOf d 16) → List (NodeView R) → ℕ → ℕ → ℕ → List (KeyOf d 16)

@@ -17,11 +17,11 @@ use Rattle.suffix_streams.specs.Growing.{IsGrown, IsExtended, AreQueuesGrown, Ha
 use Rattle.suffix_streams.proofs.Rankings.{kid, kid_below}
 use Rattle.suffix_streams.proofs.Heads.{lists_at}
 use Rattle.suffix_streams.proofs.Entries.{child_in}
-use Rattle.suffix_streams.proofs.Stores.{any_default}
 use Rattle.suffix_streams.proofs.StepCells.{cell_known, named_head, head_of_named}
 use Rattle.suffix_streams.proofs.Searching.{extended_none, extended_child, queues_child}
 use Rattle.suffix_streams.proofs.SearchRoom.{room_formed, room_count, room_extended, room_queues, room_within, room_unstepped, unstepped_on, unstepped_own}
 use Rattle.suffix_streams.proofs.SearchSteps.{product_kept, row_kept, search_extended, search_queues, search_within, no_search, search_head, stepped_extended, stepped_queues, IsSearched}
+use Rattle.suffix_streams.proofs.ListEnds.{any_default}
 
 -- # Room was made in the product of the last of the children
 

@@ -10,11 +10,11 @@ use Rattle.suffix_streams.specs.NodeStreamsView.{NodeStreamsView, product_at, wi
 use Rattle.suffix_streams.specs.TreeStreams.{lists_of, products_of, product_of, IsStreams}
 use Rattle.suffix_streams.specs.Refusals.{AreUnstepped}
 use Rattle.suffix_streams.specs.Growing.{IsExtended, AreQueuesGrown, HasOtherProduct, IsWithinSteps}
-use Rattle.suffix_streams.proofs.Searching.{replaced_at, replaced_other, replaced_others, reserved_holds}
-use Rattle.suffix_streams.proofs.Changes.{counts_kept, lists_same}
+use Rattle.suffix_streams.proofs.Searching.{reserved_holds}
+use Rattle.suffix_streams.proofs.Changes.{counts_kept, lists_same, replaced_at, replaced_other, replaced_others}
 use Rattle.suffix_streams.proofs.Heads.{lists_at}
-use Rattle.suffix_streams.proofs.Stores.{row_inside}
 use Rattle.suffix_streams.proofs.StepCells.{one_change}
+use Rattle.suffix_streams.proofs.ListEnds.{row_inside}
 
 -- one product was changed in the node's own lists
 module _ {R : Type 0} (nodes : List (NodeStreamsView R)) (v r c : ℕ) (m n : NodeStreamsView R) (in_nodes : v < length nodes) (at : m ≡ get_or nodes v m) (changed : n ≡ with_product m r c (product_at n r c)) where

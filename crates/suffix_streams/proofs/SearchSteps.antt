@@ -15,10 +15,11 @@ use Rattle.suffix_streams.specs.TreeStreams.{lists_of, products_of, product_of, 
 use Rattle.suffix_streams.specs.Growing.{IsGrown, IsExtended, IsReached, AreQueuesGrown, HasOtherProduct, IsWithinSteps, below_kids, kids_size}
 use Rattle.suffix_streams.proofs.Rankings.{kid, kid_below}
 use Rattle.suffix_streams.proofs.Costs.{kids_size_none}
-use Rattle.suffix_streams.proofs.Stores.{row_inside}
 use Rattle.suffix_streams.proofs.Entries.{child_in, named_stream}
-use Rattle.suffix_streams.proofs.Searching.{same_is, replaced_queues, extended_replaced, extended_on, head_stays}
+use Rattle.suffix_streams.proofs.Changes.{replaced_queues}
+use Rattle.suffix_streams.proofs.Searching.{same_is, extended_replaced, extended_on, head_stays}
 use Rattle.suffix_streams.proofs.SearchCosts.{child_within, none_within, some_bits, queues_apart}
+use Rattle.suffix_streams.proofs.ListEnds.{row_inside}
 
 module _ {R : Type 0} (d : ℕ) (key : R → KeyOf d 16) (t : List (NodeView R)) (v r c : ℕ) (in_tree : v < length t) (row : r < rows t v) (a b e : List (Linked (Found R))) (n m o : List (NodeStreamsView R))
     (h : IsStreams d key t a n) (h1 : IsStreams d key t b m) (h2 : IsStreams d key t e o) (in_row : c < length (products_of n v r)) (g : IsGrown (parent t) (child t v c) a n b m) (x : IsExtended t v r c b m e o) where

@@ -1,5 +1,6 @@
 -- The effect of a search for one more solution, composed over its calls.
-use Rattle.std.proofs.Common.{◌≡◌, ◌≢◌, ℕ, zero, suc, ◌+◌, ◌<◌, ◌≤◌, ◌⊎◌, max, Option, Some, None, cond, nat_eq, List, [], ◌∷◌, length, drop, get_or, slice_set, refl, sym, ap, ◌∙◌, subst, inl, inr, arith}
+use Rattle.std.proofs.lemmas.List.{get_or_past}
+use Rattle.std.proofs.Common.{◌≡◌, ◌≢◌, ℕ, suc, ◌+◌, ◌<◌, ◌≤◌, Option, Some, None, cond, nat_eq, List, [], ◌∷◌, length, drop, get_or, slice_set, refl, sym, ap, ◌∙◌, subst, inl, inr, arith}
 use Rattle.std.proofs.lemmas.Bool.{cases_lt, cases_eq}
 use Rattle.std.proofs.lemmas.Bool.Decides.{nat_tests}
 use Rattle.stream_store.specs.declared.linked.Linked.{Linked}
@@ -23,15 +24,10 @@ use Rattle.suffix_streams.specs.TreeStreams.{node_list, group_list_of, node_of, 
 use Rattle.suffix_streams.specs.Growing.{IsStoreGrown, IsGrown, IsExtended, IsReached, IsAnswered, AreQueuesGrown, below_kids}
 use Rattle.suffix_streams.proofs.Rankings.{kid_below, own_only}
 use Rattle.suffix_streams.proofs.Stores.{node_length, group_length, store_stays, store_goes_on, store_from_above}
-use Rattle.suffix_streams.proofs.BeginOwners.{get_past}
 use Rattle.suffix_streams.proofs.Costs.{kids_below_node}
 use Rattle.suffix_streams.proofs.Kept.{held_itself, product_stays}
-use Rattle.suffix_streams.proofs.Changes.{lists_same, lists_other, product_new, product_row, product_elsewhere, counts_kept, changed_known, changed_product, product_set}
-
-drop_none : {K : Type 0} (xs : List K) (n : ℕ) → drop n xs ≡ [] → length xs ≤ n
-drop_none [] n e = omega arith
-drop_none (x ∷ xs) zero e = absurd (omega (arith, ap length e))
-drop_none (x ∷ xs) (suc n) e = omega (arith, drop_none xs n e)
+use Rattle.suffix_streams.proofs.Passing.{drop_none}
+use Rattle.suffix_streams.proofs.Changes.{counts_kept, replaced_at, replaced_other, replaced_others, changed_known, changed_product, product_set}
 
 -- if a queue is empty, all is known
 all_known : {X : Type 0} (d : ℕ) (key_at : X → KeyOf d 16) (count : X → X → ℕ) (InRange : X → Type 0) (whole : List (KeyOf d 16)) (found : ℕ) → IsAhead X (KeyOf d 16) (key_below d 16) key_at count InRange whole found [] → found ≡ length whole
@@ -40,54 +36,6 @@ all_known d key_at count InRange whole found a = omega (arith, a.within, drop_no
 
 pub same_is : (w v : ℕ) → w ≡ v → cond {A = ℕ} (nat_eq w v) 1 0 ≡ 1
 same_is w v e = grind (arith, nat_tests)
-
--- # One product is replaced
-
-module _ {R : Type 0} (nodes : List (NodeStreamsView R)) (v r c : ℕ) (p : ProductView R) (in_nodes : v < length nodes) (in_rows : r < length (lists_of nodes v).products) (in_row : c < length (products_of nodes v r)) where
-  abbrev pub replaced : List (NodeStreamsView R)
-  replaced = slice_set nodes v (with_product (lists_of nodes v) r c p)
-
-  pub replaced_at : lists_of replaced v ≡ with_product (lists_of nodes v) r c p
-  replaced_at = lists_same nodes v (with_product (lists_of nodes v) r c p) in_nodes
-
-  pub replaced_other : (w : ℕ) → w ≢ v → lists_of replaced w ≡ lists_of nodes w
-  replaced_other w n = lists_other nodes v w (with_product (lists_of nodes v) r c p) n
-
-  pub replaced_product : product_of replaced v r c ≡ p
-  replaced_product = ap (λ n. product_at n r c) replaced_at ∙ product_new (lists_of nodes v) r c p in_rows in_row
-
-  pub replaced_others : (w s k : ℕ) → ((w ≢ v) ⊎ (s ≢ r) ⊎ (k ≢ c)) → product_of replaced w s k ≡ product_of nodes w s k
-  replaced_others w s k (inl n) = ap (λ z. product_at z s k) (replaced_other w n)
-  replaced_others w s k (inr n) = elim (cases_eq w v) [
-    | inr m ↦ ap (λ z. product_at z s k) (replaced_other w m)
-    | inl e ↦ subst (λ z. product_of replaced z s k ≡ product_of nodes z s k) (sym e) (ap (λ z. product_at z s k) replaced_at ∙ at n)
-  ]
-    where
-      at : ((s ≢ r) ⊎ (k ≢ c)) → product_at (with_product (lists_of nodes v) r c p) s k ≡ product_of nodes v s k
-      at (inl n) = product_elsewhere (lists_of nodes v) r c p in_rows in_row s k n
-      at (inr n) = elim (cases_eq s r) [
-        | inl e ↦ subst (λ z. product_at (with_product (lists_of nodes v) r c p) z k ≡ product_of nodes v z k) (sym e) (product_row (lists_of nodes v) r c p in_rows in_row k n)
-        | inr m ↦ product_elsewhere (lists_of nodes v) r c p in_rows in_row s k m
-      ]
-
-  pub replaced_queues : (more : ℕ → ℕ) (old : List (NodeStreamsView R)) → AreQueuesGrown more old nodes → length p.frontier ≤ max 1 (length (product_of old v r c).frontier) + more v → AreQueuesGrown more old replaced
-  replaced_queues more old q own w s k = elim (cases_eq w v) [
-    | inr n ↦ other w s k (inl n)
-    | inl e ↦ elim (cases_eq s r) [
-      | inr n ↦ other w s k (inr (inl n))
-      | inl f ↦ elim (cases_eq k c) [
-        | inr n ↦ other w s k (inr (inr n))
-        | inl i ↦
-            subst (λ z. length (product_of replaced z s k).frontier ≤ max 1 (length (product_of old z s k).frontier) + more z) (sym e)
-            (subst (λ z. length (product_of replaced v z k).frontier ≤ max 1 (length (product_of old v z k).frontier) + more v) (sym f)
-            (subst (λ z. length (product_of replaced v r z).frontier ≤ max 1 (length (product_of old v r z).frontier) + more v) (sym i)
-            (omega (arith, own, ap (λ (z : ProductView R). length z.frontier) replaced_product))))
-      ]
-    ]
-  ]
-    where
-      other : (w s k : ℕ) → ((w ≢ v) ⊎ (s ≢ r) ⊎ (k ≢ c)) → length (product_of replaced w s k).frontier ≤ max 1 (length (product_of old w s k).frontier) + more w
-      other w s k n = omega (arith, q w s k, ap (λ (z : ProductView R). length z.frontier) (replaced_others w s k n))
 
 module _ {R : Type 0} (d : ℕ) (key : R → KeyOf d 16) (t : List (NodeView R)) where
   -- what follows an entry stays known
@@ -194,7 +142,7 @@ no_size (e ∷ es) w n h l = omega (arith, no_size es w n (λ i a. h (suc i) (om
 
 pub no_queue : {R : Type 0} (nodes : List (NodeStreamsView R)) (w s k : ℕ) → length nodes ≤ w → length (product_of nodes w s k).frontier ≡ 0
 no_queue {R} nodes w s k l =
-    let none : lists_of nodes w ≡ record { children = []; streams = []; products = [] } = get_past nodes w (record { children = []; streams = []; products = [] }) l in
+    let none : lists_of nodes w ≡ record { children = []; streams = []; products = [] } = get_or_past nodes w (record { children = []; streams = []; products = [] }) l in
     ap (λ (n : NodeStreamsView R). length (product_at n s k).frontier) none
 
 module _ {R : Type 0} (d : ℕ) (key : R → KeyOf d 16) (t : List (NodeView R)) (v r c : ℕ) (in_tree : v < length t) (few : c ≤ child_count t v) (a b : List (Linked (Found R))) (n m o : List (NodeStreamsView R)) (h : IsStreams d key t b o)

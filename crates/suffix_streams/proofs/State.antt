@@ -1,5 +1,5 @@
 -- A stream that becomes longer by one entry.
-use Rattle.std.proofs.Common.{◌≡◌, ℕ, zero, suc, ◌+◌, ◌<◌, Bool, true, false, cond, nat_eq, List, [], ◌∷◌, ◌++◌, map, length, take, get_or, slice_set, refl, sym, ap, ◌∙◌, arith}
+use Rattle.std.proofs.Common.{◌≡◌, ℕ, zero, suc, ◌+◌, ◌<◌, Bool, true, false, cond, nat_eq, List, [], ◌∷◌, ◌++◌, length, take, get_or, slice_set, refl, sym, ap, ◌∙◌, arith}
 use Rattle.std.specs.List.{All}
 use Rattle.std.proofs.lemmas.List.Elements.{All-nil, All-cons, All-head, All-tail}
 use Rattle.stream_store.specs.declared.linked.Linked.{Linked}
@@ -9,6 +9,7 @@ use Rattle.suffix_streams.specs.declared.stream.Found.{Found}
 use Rattle.suffix_streams.specs.declared.source.Source.{Source}
 use Rattle.suffix_streams.specs.Frontiers.{AreFirst, AreFirstBy}
 use Rattle.suffix_streams.specs.TreeStreams.{stream, node_size}
+use Rattle.suffix_streams.proofs.ListEnds.{map_more}
 
 later : {A : Type 0} (b c : Bool) (x a : A) (xs : List A) →
     cond b (cond c (x ∷ (xs ++ (a ∷ []))) (xs ++ (a ∷ []))) (xs ++ (a ∷ [])) ≡ cond b (cond c (x ∷ xs) xs) xs ++ (a ∷ [])
@@ -57,10 +58,6 @@ take_one_more : {K : Type 0} (ks : List K) (n : ℕ) (d : K) → n < length ks �
 take_one_more [] n d l = absurd (omega arith)
 take_one_more (k ∷ ks) zero d l = refl
 take_one_more (k ∷ ks) (suc n) d l = ap (λ z. k ∷ z) (take_one_more ks n d (omega arith))
-
-map_more : {A B : Type 0} (f : A → B) (xs : List A) (x : A) → map f (xs ++ (x ∷ [])) ≡ map f xs ++ (f x ∷ [])
-map_more f [] x = refl
-map_more f (y ∷ xs) x = ap (λ z. f y ∷ z) (map_more f xs x)
 
 pub count_more : {A : Type 0} (xs : List A) (x : A) → length (xs ++ (x ∷ [])) ≡ suc (length xs)
 count_more [] x = refl

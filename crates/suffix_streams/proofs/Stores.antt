@@ -8,25 +8,7 @@ use Rattle.suffix_streams.specs.declared.stream.Found.{Found}
 use Rattle.suffix_streams.specs.TreeStreams.{open_rows, node_list, group_list_of, next_list, node_of, group_of, place_of, next_of, stream, node_size}
 use Rattle.suffix_streams.specs.Growing.{IsStoreGrown}
 use Rattle.suffix_streams.proofs.State.{stream_own, stream_other, node_size_more, stream_linked, count_more}
-
-pub map_length : {A B : Type 0} (f : A → B) (xs : List A) → length (map f xs) ≡ length xs
-map_length f [] = refl
-map_length f (x ∷ xs) = ap suc (map_length f xs)
-
-pub map_more : {A B : Type 0} (f : A → B) (xs : List A) (x : A) → map f (xs ++ (x ∷ [])) ≡ map f xs ++ (f x ∷ [])
-map_more f [] x = refl
-map_more f (y ∷ xs) x = ap (λ z. f y ∷ z) (map_more f xs x)
-
-pub map_at : {A B : Type 0} (f : A → B) (xs : List A) (i : ℕ) (a : A) (b : B) → i < length xs → get_or (map f xs) i b ≡ f (get_or xs i a)
-map_at f [] i a b l = absurd (omega arith)
-map_at f (x ∷ xs) zero a b l = refl
-map_at f (x ∷ xs) (suc i) a b l = map_at f xs i a b (omega arith)
-
--- a list of lists is long enough for each list in it that has elements
-pub row_inside : {A : Type 0} (xs : List (List A)) (r c : ℕ) → c < length (get_or xs r []) → r < length xs
-row_inside [] r c l = absurd (omega arith)
-row_inside (x ∷ xs) zero c l = omega arith
-row_inside (x ∷ xs) (suc r) c l = let rest : r < length xs = row_inside xs r c l in omega (arith, rest)
+use Rattle.suffix_streams.proofs.ListEnds.{any_default, at_end, at_more, map_at, map_length, map_more, map_set, set_length, set_map, set_more}
 
 -- the number of rows whose products can be kept: at most all, and all if they have several children
 pub open_few : (k n : ℕ) → open_rows k n ≤ n
@@ -34,48 +16,10 @@ open_few zero n = omega arith
 open_few (suc zero) n = omega arith
 open_few (suc (suc k)) n = omega arith
 
-pub open_none : (n : ℕ) → open_rows 1 n ≡ 0
-open_none n = refl
-
 pub open_all : (k n : ℕ) → 1 < k → open_rows k n ≡ n
 open_all zero n l = absurd (omega arith)
 open_all (suc zero) n l = absurd (omega arith)
 open_all (suc (suc k)) n l = refl
-
-pub at_more : {A : Type 0} (xs : List A) (x d : A) (i : ℕ) → i < length xs → get_or (xs ++ (x ∷ [])) i d ≡ get_or xs i d
-at_more [] x d i l = absurd (omega arith)
-at_more (y ∷ xs) x d zero l = refl
-at_more (y ∷ xs) x d (suc i) l = at_more xs x d i (omega arith)
-
-pub at_end : {A : Type 0} (xs : List A) (x d : A) → get_or (xs ++ (x ∷ [])) (length xs) d ≡ x
-at_end [] x d = refl
-at_end (y ∷ xs) x d = at_end xs x d
-
-pub any_default : {A : Type 0} (xs : List A) (i : ℕ) (a b : A) → i < length xs → get_or xs i a ≡ get_or xs i b
-any_default [] i a b l = absurd (omega arith)
-any_default (x ∷ xs) zero a b l = refl
-any_default (x ∷ xs) (suc i) a b l = any_default xs i a b (omega arith)
-
--- a field of each element, if one element is replaced by one with the same field
-pub map_set : {A B : Type 0} (f : A → B) (xs : List A) (i : ℕ) (x d : A) → f x ≡ f (get_or xs i d) → map f (slice_set xs i x) ≡ map f xs
-map_set f [] i x d e = refl
-map_set f (y ∷ xs) zero x d e = ap (λ z. z ∷ map f xs) e
-map_set f (y ∷ xs) (suc i) x d e = ap (λ z. f y ∷ z) (map_set f xs i x d e)
-
-pub set_length : {A : Type 0} (xs : List A) (i : ℕ) (x : A) → length (slice_set xs i x) ≡ length xs
-set_length [] i x = refl
-set_length (y ∷ xs) zero x = refl
-set_length (y ∷ xs) (suc i) x = ap suc (set_length xs i x)
-
-pub set_map : {A B : Type 0} (f : A → B) (xs : List A) (i : ℕ) (x : A) → map f (slice_set xs i x) ≡ slice_set (map f xs) i (f x)
-set_map f [] i x = refl
-set_map f (y ∷ xs) zero x = refl
-set_map f (y ∷ xs) (suc i) x = ap (λ z. f y ∷ z) (set_map f xs i x)
-
-pub set_more : {A : Type 0} (xs : List A) (i : ℕ) (x y : A) → i < length xs → slice_set (xs ++ (y ∷ [])) i x ≡ slice_set xs i x ++ (y ∷ [])
-set_more [] i x y l = absurd (omega arith)
-set_more (z ∷ xs) zero x y l = refl
-set_more (z ∷ xs) (suc i) x y l = ap (λ w. z ∷ w) (set_more xs i x y (omega arith))
 
 value_set : {A B : Type 0} (f : A → B) (xs : List A) (i j : ℕ) (x d : A) → f x ≡ f (get_or xs i d) → j < length xs → f (get_or (slice_set xs i x) j d) ≡ f (get_or xs j d)
 value_set f [] i j x d e l = absurd (omega arith)

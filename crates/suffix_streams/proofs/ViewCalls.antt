@@ -1,4 +1,5 @@
 -- The effect of a call on the streams, as callers see it.
+use Rattle.std.proofs.lemmas.List.{get_or_past}
 use Rattle.std.proofs.Common.{◌≡◌, ℕ, zero, suc, ◌+◌, ◌-◌, ◌*◌, ◌^◌, ◌<◌, ◌≤◌, max, Option, Some, None, Bool, true, false, cond, nat_eq, List, [], length, get_or, sym, ap, subst, inl, inr, arith}
 use Rattle.std.proofs.lemmas.Bool.{cases_lt}
 use Rattle.stream_store.specs.declared.linked.Linked.{Linked}
@@ -17,7 +18,6 @@ use Rattle.suffix_streams.specs.NodeStreamsView.{NodeStreamsView, stream_at}
 use Rattle.suffix_streams.specs.TreeStreams.{node_of, lists_of, products_of, product_of, IsStreams}
 use Rattle.suffix_streams.specs.Growing.{IsStoreGrown, AreQueuesGrown, IsAnswered, IsWithinSteps, subtree_size}
 use Rattle.suffix_streams.specs.StreamsView.{StreamsView, entry_node, entry_group, entry_place, IsEntry, AreKept, Follows}
-use Rattle.suffix_streams.proofs.BeginOwners.{get_past}
 use Rattle.suffix_streams.proofs.Stores.{open_few}
 use Rattle.suffix_streams.proofs.ViewPrefixes.{entry_inside, next_linked, head_at}
 
@@ -65,7 +65,7 @@ module _ {R : Type 0} (d : ℕ) (key : R → KeyOf d 16) (t : List (NodeView R))
     | inl l ↦ omega (arith, group_rows_within d key t formed v g l, term_within (rows t) (length t) 0 v (omega arith) (omega arith))
     | inr past ↦
         let none : node_at t v ≡ record { shape = record { parent = 0; item = 0; caps = [] }; rows = []; to_child = []; groups = []; best = [] } =
-        get_past t v (record { shape = record { parent = 0; item = 0; caps = [] }; rows = []; to_child = []; groups = []; best = [] }) past in
+        get_or_past t v (record { shape = record { parent = 0; item = 0; caps = [] }; rows = []; to_child = []; groups = []; best = [] }) past in
         let empty : length (members t v g) ≡ 0 = ap (λ n. length (get_or n.groups g [])) none in
         omega (arith, empty)
   ]
@@ -104,19 +104,19 @@ module _ {R : Type 0} (d : ℕ) (key : R → KeyOf d 16) (t : List (NodeView R))
     ]
       where
         no_product : (xs : List (List (ProductView R))) → length xs ≤ r → length (get_or (get_or xs r []) c (record { found = []; ranks = []; frontier = []; room = 0; frontier_room = 0 })).frontier ≡ 0
-        no_product xs l = ap (λ (ps : List (ProductView R)). length (get_or ps c (record { found = []; ranks = []; frontier = []; room = 0; frontier_room = 0 })).frontier) (get_past xs r [] l)
+        no_product xs l = ap (λ (ps : List (ProductView R)). length (get_or ps c (record { found = []; ranks = []; frontier = []; room = 0; frontier_room = 0 })).frontier) (get_or_past xs r [] l)
 
         limit : length (product_of nodes' v r c).frontier ≤ 2 ^ 64
         limit = elim (cases_lt v (length t)) [
           | inl lv ↦ elim (cases_lt r (rows t v)) [
             | inl lr ↦ elim (cases_lt c (length (products_of nodes' v r))) [
               | inl lc ↦ let f = (s.products v r c lv lr lc).few in omega arith
-              | inr past ↦ omega (arith, ap (λ (p : ProductView R). length p.frontier) (get_past (products_of nodes' v r) c (record { found = []; ranks = []; frontier = []; room = 0; frontier_room = 0 }) past))
+              | inr past ↦ omega (arith, ap (λ (p : ProductView R). length p.frontier) (get_or_past (products_of nodes' v r) c (record { found = []; ranks = []; frontier = []; room = 0; frontier_room = 0 }) past))
             ]
             | inr past ↦ omega (arith, no_product (lists_of nodes' v).products (omega (arith, past, s.all_rows v lv, open_few (child_count t v) (rows t v))))
           ]
           | inr past ↦
-              let none : lists_of nodes' v ≡ record { children = []; streams = []; products = [] } = get_past nodes' v (record { children = []; streams = []; products = [] }) (omega (arith, past, s.all_nodes)) in
+              let none : lists_of nodes' v ≡ record { children = []; streams = []; products = [] } = get_or_past nodes' v (record { children = []; streams = []; products = [] }) (omega (arith, past, s.all_nodes)) in
               omega (arith, ap (λ (n : NodeStreamsView R). length (get_or (get_or n.products r []) c (record { found = []; ranks = []; frontier = []; room = 0; frontier_room = 0 })).frontier) none)
         ]
 

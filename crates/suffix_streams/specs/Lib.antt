@@ -17,7 +17,6 @@ pub mod Rankings
 pub mod Reaches
 pub mod Refusals
 pub mod RowNumbers
-pub mod RowsView
 pub mod StreamView
 pub mod StreamsView
 pub mod Sums

@@ -56,7 +56,7 @@ fn empty_node<R: Rank, A: Allocator + Clone>(
 {
     let children = children_of(alloc, tree, node)?;
     let rows = rows_to_open(children.len(), tree.len(node));
-    let products = RowProducts::with_rows(alloc, rows, children.len())?;
+    let products = RowProducts::with_rows(alloc, rows)?;
     let streams = list_with_room(alloc, tree.groups(node) as usize)?;
     Ok(NodeStreams {
         children,

@@ -1,4 +1,4 @@
-//! Lists that get their room when they are made.
+//! Lists as they are made.
 ghost use Rattle.std.specs.Prelude.{◌≡◌, ◌≤◌, ◌<◌, [], ◌∷◌, IfOk};
 ghost use Rattle.std.specs.Vec.{vec_capacity, vec_len};
 
@@ -19,16 +19,14 @@ pub(crate) fn list_with_room<T: Drop, A: Allocator + Clone>(
     Ok(list)
 }
 
-/// A list of this item alone, with room for so many. `NoMemory` if memory is refused.
+/// A list of this item alone. `NoMemory` if memory is refused.
 pub(crate) fn list_of<T: Copy, A: Allocator + Clone>(
     alloc: &A,
     item: T,
-    room: usize,
 ) -> Result<Vec<T, A>, NoMemory>
-    requires { 0 < room }
     ensures { IfOk result (λ list. list.items ≡ item ∷ []) }
 {
-    let mut list = list_with_room(alloc, room)?;
-    list.push_reserved(item);
+    let mut list = Vec::new(alloc.clone()?);
+    list.push(item)?;
     Ok(list)
 }

@@ -51,11 +51,10 @@ impl<R: Rank, A: Allocator> Model for NodeStreams<R, A> {
     ghost view = { λ n. record {
       children = n.children.items;
       streams = headed n.heads.first n.streams.items;
-      products = n.products.rows;
+      products = n.products;
     } };
 
-    ghost invariant = { λ n. (n.products.width ≡ length n.children.items)
-        × (n.heads.count ≡ length n.streams.items) };
+    ghost invariant = { λ n. n.heads.count ≡ length n.streams.items };
 }
 
 impl<R: Rank, A: Allocator> NodeStreams<R, A> {
@@ -231,17 +230,15 @@ impl<R: Rank, A: Allocator> NodeStreams<R, A> {
 }
 
 impl<R: Rank, A: Allocator + Clone> NodeStreams<R, A> {
-    /// Sets the products of a row, one for each child, which are moved out of `products`.
-    /// `NoMemory` if memory is refused, and the node stays as it is then.
+    /// Sets the products of a row. `NoMemory` if memory is refused, and the node stays as it is then.
     pub(crate) fn set_products(
         &mut self,
         row: u32,
-        products: &mut Vec<Product<R, A>, A>,
+        products: Vec<Product<R, A>, A>,
     ) -> Result<(), NoMemory>
         requires row { row < length self.old.products }
-        requires count { length products.old.items ≡ length self.old.children }
         ensures set { OnOk result (self.new ≡ record self.old
-            { products = slice_set self.old.products row products.old.items }) }
+            { products = slice_set self.old.products row products.items }) }
         ensures refused { OnErr result (self.new ≡ self.old) }
     {
         self.products.open(row, products)

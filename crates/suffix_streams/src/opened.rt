@@ -1,97 +1,65 @@
-//! The products of a node's rows, with room for the lists of opened rows only.
-ghost use Rattle.std.specs.Prelude.{◌≡◌, ℕ, ◌<◌, ◌≤◌, [], map, length, slice_set, slice_index_or, IfOk, OnOk, OnErr};
+//! The products of a node's rows, with lists for opened rows only.
+ghost use Rattle.std.specs.Prelude.{◌≡◌, ℕ, ◌<◌, [], length, slice_set, slice_index_or, IfOk, OnOk, OnErr};
 ghost use Rattle.std.specs.Borrow.{Lends, sem};
 ghost use Rattle.suffix_streams.specs.ProductView.{ProductView};
 
-use crate::lists::list_with_room;
 use crate::product::Product;
 use rank_key::Rank;
 use std::alloc::Allocator;
 use std::marker::Model;
 use step_counter::NoMemory;
 
-/// The number of lists of products in a chunk.
-const CHUNK_LISTS: usize = 32;
-
 /// The list of products of each row of a node. A row has none until it is opened, and takes 4 bytes
-/// until then. Each opened row has as many products.
+/// until then.
 #[derive(Drop)]
 pub(crate) struct RowProducts<R: Rank, A: Allocator> {
     /// The number of each row's list, from 1, or 0 if the row was not opened.
     opened: Vec<u32, A>,
-    /// The lists, in the order in which their rows were opened, as many to a chunk as it has room
-    /// for. A chunk gets all its memory at once, so that no product is ever moved.
-    chunks: Vec<Vec<Product<R, A>, A>, A>,
-    /// The number of lists.
-    count: usize,
-    /// The number of products of a list.
-    width: usize,
+    /// The lists, in the order in which their rows were opened.
+    lists: Vec<Vec<Product<R, A>, A>, A>,
 }
 
 impl<R: Rank, A: Allocator> Model for RowProducts<R, A> {
-    ghost use Rattle.std.specs.Prelude.{◌*◌, ◌^◌, ◌<◌, map};
-    ghost use Rattle.suffix_streams.specs.RowsView.{RowsView};
-    ghost use Rattle.suffix_streams.specs.OpenedRows.{list_numbered, AreChunked, HaveOwnLists};
+    ghost use Rattle.std.specs.Prelude.{List, length, map};
+    ghost use Rattle.suffix_streams.specs.OpenedRows.{list_numbered, HaveOwnLists};
+    ghost use Rattle.suffix_streams.specs.ProductView.{ProductView};
 
-    ghost Value = { RowsView R };
+    ghost Value = { List (List (ProductView R)) };
 
-    ghost view = { λ p. record {
-      width = p.width;
-      rows = map (list_numbered p.width (map (λ l. l.items) p.chunks.items)) p.opened.items;
-    } };
+    ghost view = { λ p. map (list_numbered (map (λ l. l.items) p.lists.items)) p.opened.items };
 
-    ghost invariant = { λ p. HaveOwnLists p.opened.items p.count
-        × AreChunked p.width p.count (map (λ l. l.items) p.chunks.items)
-        × (p.count < 2 ^ 32) × (0 < p.count → 32 * p.width < 2 ^ 64) };
+    ghost invariant = { λ p. HaveOwnLists p.opened.items (length p.lists.items) };
 }
 
 impl<R: Rank, A: Allocator + Clone> RowProducts<R, A> {
-    /// A number of rows, none of which is opened. An opened row will have `width` products.
-    /// `NoMemory` if memory is refused.
-    pub(crate) fn with_rows(
-        alloc: &A,
-        rows: u32,
-        width: usize,
-    ) -> Result<RowProducts<R, A>, NoMemory>
-        ensures width { IfOk result (λ p. p.width ≡ width) }
-        ensures count { IfOk result (λ p. length p.rows ≡ rows) }
-        ensures none { IfOk result (λ p. (r : ℕ) → slice_index_or p.rows r [] ≡ []) }
+    /// A number of rows, none of which is opened. `NoMemory` if memory is refused.
+    pub(crate) fn with_rows(alloc: &A, rows: u32) -> Result<RowProducts<R, A>, NoMemory>
+        ensures count { IfOk result (λ p. length p ≡ rows) }
+        ensures none { IfOk result (λ p. (r : ℕ) → slice_index_or p r [] ≡ []) }
     {
         let of_rows = alloc.clone()?;
-        let of_chunks = alloc.clone()?;
+        let of_lists = alloc.clone()?;
         let opened = vec![in of_rows; 0; rows as usize]?;
         Ok(RowProducts {
             opened,
-            chunks: Vec::new(of_chunks),
-            count: 0,
-            width,
+            lists: Vec::new(of_lists),
         })
     }
 
-    /// Opens a row: from now on it has these products, which are moved out of `products`.
-    /// `NoMemory` if memory is refused, and no row changes then.
-    pub(crate) fn open(
-        &mut self,
-        row: u32,
-        products: &mut Vec<Product<R, A>, A>,
-    ) -> Result<(), NoMemory>
-        requires row { row < length self.old.rows }
-        requires width { length products.old.items ≡ self.old.width }
-        ensures opened { OnOk result (self.new
-            ≡ record self.old { rows = slice_set self.old.rows row products.old.items }) }
+    /// Opens a row: from now on it has these products. `NoMemory` if memory is refused, and no row
+    /// changes then.
+    pub(crate) fn open(&mut self, row: u32, products: Vec<Product<R, A>, A>) -> Result<(), NoMemory>
+        requires row { row < length self.old }
+        ensures opened { OnOk result (self.new ≡ slice_set self.old row products.items) }
         ensures refused { OnErr result (self.new ≡ self.old) }
     {
-        if self.count >= u32::MAX as usize {
+        let count = self.lists.len();
+        if count >= u32::MAX as usize {
             return Err(NoMemory);
         }
-        let Some(room) = CHUNK_LISTS.checked_mul(self.width) else {
-            return Err(NoMemory);
-        };
-        let chunk = self.count / CHUNK_LISTS;
-        make_chunk(&mut self.chunks, chunk, room)?;
-        self.chunks[chunk].append(products)?;
-        self.count += 1;
-        self.opened[row as usize] = self.count as u32;
+        self.lists.reserve(1)?;
+        self.lists.push_reserved(products);
+        self.opened[row as usize] = count as u32 + 1;
         Ok(())
     }
 }
@@ -102,63 +70,34 @@ impl<R: Rank, A: Allocator> RowProducts<R, A> {
 
     /// The number of products of a row.
     pub(crate) fn count_of(&self, row: u32) -> usize
-        ensures { result ≡ length (slice_index_or self.now.rows row []) }
+        ensures { result ≡ length (slice_index_or self.now row []) }
     {
         match self.opened.get(row as usize) {
-            Some(&number) if number > 0 => self.width,
+            Some(&number) if number > 0 => self.lists[number as usize - 1].len(),
             _ => 0,
         }
     }
 
     /// A product of a row. Products count from 0.
     pub(crate) fn product(&self, row: u32, child: usize) -> &Product<R, A>
-        requires { child < length (slice_index_or self.now.rows row []) }
+        requires { child < length (slice_index_or self.now row []) }
         ensures { (d : ProductView R)
-            → result.now ≡ slice_index_or (slice_index_or self.now.rows row []) child d }
+            → result.now ≡ slice_index_or (slice_index_or self.now row []) child d }
     {
         let list = self.opened[row as usize] as usize - 1;
-        let chunk = list / CHUNK_LISTS;
-        let place = list % CHUNK_LISTS * self.width + child;
-        &self.chunks[chunk][place]
+        &self.lists[list][child]
     }
 
     /// A product of a row, to change. Products count from 0.
     pub(crate) fn product_mut(&mut self, row: u32, child: usize) -> &mut Product<R, A>
-        requires { child < length (slice_index_or self.old.rows row []) }
+        requires { child < length (slice_index_or self.old row []) }
         ensures* writes_back { sem 𝓛 (Lends (the_row R.row A.row R.Rank A.Allocator)
             (product_row R.row A.row R.Rank A.Allocator) self.entry result
-            (λ w. record self.old {
-              rows = slice_set self.old.rows row
-                  (slice_set (slice_index_or self.old.rows row []) child w);
-            })) }
+            (λ w. slice_set self.old row (slice_set (slice_index_or self.old row []) child w))) }
         ensures value { (d : ProductView R)
-            → result.now ≡ slice_index_or (slice_index_or self.old.rows row []) child d }
+            → result.now ≡ slice_index_or (slice_index_or self.old row []) child d }
     {
         let list = self.opened[row as usize] as usize - 1;
-        let chunk = list / CHUNK_LISTS;
-        let place = list % CHUNK_LISTS * self.width + child;
-        &mut self.chunks[chunk][place]
+        &mut self.lists[list][child]
     }
-}
-
-/// Makes a chunk with this room at the end, unless there is one of this number, from 0. `NoMemory`
-/// if memory is refused.
-fn make_chunk<T: Drop, A: Allocator + Clone>(
-    chunks: &mut Vec<Vec<T, A>, A>,
-    number: usize,
-    room: usize,
-) -> Result<(), NoMemory>
-    requires number { number ≤ length chunks.old.items }
-    ensures there { OnOk result (number < length chunks.new.items) }
-    ensures longer { length chunks.old.items ≤ length chunks.new.items }
-    ensures same { (j : ℕ) → slice_index_or (map (λ c. c.items) chunks.new.items) j []
-        ≡ slice_index_or (map (λ c. c.items) chunks.old.items) j [] }
-{
-    if number < chunks.len() {
-        return Ok(());
-    }
-    chunks.reserve(1)?;
-    let chunk = list_with_room(chunks.allocator(), room)?;
-    chunks.push_reserved(chunk);
-    Ok(())
 }

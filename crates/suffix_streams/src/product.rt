@@ -19,13 +19,6 @@ use step_counter::{NoMemory, Steps};
 use stream_store::EntryId;
 use take2_heap::{Entry, HeapOf};
 
-/// The number of solutions that a new product has room for. It is made when a second one is asked
-/// for, and a list that grows in steps leaves its earlier places unused in an arena.
-const FIRST_SUMS: usize = 8;
-
-/// The same for a row's last product, which keeps no ranks: it finds more, and each takes less room.
-const FIRST_CELLS: usize = 16;
-
 /// The solutions that a product found, in their order.
 #[derive(Drop)]
 enum Sums<R: Rank, A: Allocator> {
@@ -201,10 +194,10 @@ impl<R: Rank, A: Allocator + Clone> Sums<R, A> {
         ensures ranks { IfOk result (λ s. ranks_of s ≡ cond keeps_ranks (sum.rank ∷ []) []) }
     {
         if keeps_ranks {
-            let sums = list_of(alloc, sum, FIRST_SUMS)?;
+            let sums = list_of(alloc, sum)?;
             Ok(Sums::Ranked(sums))
         } else {
-            let cells = list_of(alloc, sum.tag, FIRST_CELLS)?;
+            let cells = list_of(alloc, sum.tag)?;
             Ok(Sums::Cells(cells))
         }
     }

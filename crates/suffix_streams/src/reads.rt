@@ -11,6 +11,7 @@ ghost use Rattle.suffix_streams.specs.Firsts.{HasFirstParts};
 ghost use Rattle.suffix_streams.specs.TreeStreams.{lists_of, products_of, stream_of, part_known, row_known, pair_of, IsSumOf, IsStreams, IsHeaded, HasParts, IsCell, IsOffer, AreFreshTo, AreLefts};
 
 use crate::cell::{Cell, RowPart, down_cell};
+use crate::lists::list_with_room;
 use crate::node::NodeStreams;
 use crate::product::Product;
 use crate::source::Source;
@@ -78,37 +79,35 @@ pub(crate) fn first_cell<R: Rank, A: Allocator + Clone, L: Ledger>(
     Cell { left: 0, right }
 }
 
-/// Makes the products of a row, each with its first solution, in place of those in `products`.
-/// `NoMemory` if memory is refused.
+/// The products of a row, each with its first solution. `NoMemory` if memory is refused.
 pub(crate) fn make_products<R: Rank, A: Allocator + Clone, L: Ledger>(
+    alloc: &A,
     tree: &Tree<R>,
     nodes: &[NodeStreams<R, A>],
     entries: &Store<Found<R>, A>,
     node: u32,
     row: u32,
-    products: &mut Vec<Product<R, A>, A>,
     steps: &mut Steps<L>,
-) -> Result<(), NoMemory>
+) -> Result<Vec<Product<R, A>, A>, NoMemory>
     requires formed { IsFormed R.KEYS R.key tree.now }
     requires tie_free { IsTieFreeTree tree.now }
     requires node { node < length tree.now }
     requires row { row < rows tree.now node }
     requires headed { IsHeaded R.KEYS R.key tree.now entries.now.entries nodes.now node row }
-    ensures fresh { OnOk result
-        (AreFreshTo R.KEYS R.key tree.now nodes.now node row
-        (child_count tree.now node) products.new.items) }
+    ensures fresh { IfOk result (λ products. AreFreshTo R.KEYS R.key tree.now nodes.now node row
+        (child_count tree.now node) products.items) }
     ensures cost { steps.new ≤ steps.old + 1 + 3 * child_count tree.now node }
 {
-    products.clear();
     let children = nodes[node as usize].child_count();
+    let mut products = list_with_room(alloc, children)?;
     let mut rank = tree.row_at(node, row, steps).rank;
     for child in 0..children {
         let head = child_head(tree, nodes, entries, node, row, child, steps);
         rank = R::join(rank, entries.get(head, steps).solution.rank, steps);
-        let product = Product::new(products.allocator(), rank, head, child + 1 < children)?;
+        let product = Product::new(alloc, rank, head, child + 1 < children)?;
         products.push(product)?;
     }
-    Ok(())
+    Ok(products)
 }
 
 /// The rank of a solution of a row with its first `count` children, at a known place.

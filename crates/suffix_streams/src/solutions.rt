@@ -20,7 +20,6 @@ ghost use Rattle.suffix_streams.specs.Growing.{IsStoreGrown, IsGrown, IsExtended
 use crate::cell::{Cell, RowPart, cell_beside};
 use crate::members::firsts_below;
 use crate::node::NodeStreams;
-use crate::product::Product;
 use crate::reads::{child_offer, make_products, offer_below, offered, row_offer};
 use crate::source::Source;
 use crate::stream::Found;
@@ -38,8 +37,6 @@ pub(crate) struct Solutions<'t, R: Rank, A: Allocator + Clone> {
     pub(crate) tree: &'t Tree<R>,
     pub(crate) entries: Store<Found<R>, A>,
     pub(crate) nodes: Vec<NodeStreams<R, A>, A>,
-    /// The products of one row, while they are made. Its room serves one row after another.
-    pub(crate) made: Vec<Product<R, A>, A>,
 }
 
 impl<'t, R: Rank, A: Allocator + Clone> Solutions<'t, R, A> {
@@ -303,16 +300,16 @@ impl<'t, R: Rank, A: Allocator + Clone> Solutions<'t, R, A> {
         if !self.nodes[node as usize].lacks_products(row) {
             return Ok(());
         }
-        make_products(
+        let products = make_products(
+            self.nodes.allocator(),
             self.tree,
             self.nodes.as_slice(),
             &self.entries,
             node,
             row,
-            &mut self.made,
             steps,
         )?;
-        self.nodes[node as usize].set_products(row, &mut self.made)
+        self.nodes[node as usize].set_products(row, products)
     }
 
     /// Finds one more solution of a product, if there is one. `top` is the last one found, and

@@ -61,7 +61,6 @@ impl<'t, R: Rank, A: Allocator + Clone> Streams<'t, R, A> {
         ensures cost { steps.new ≤ steps.old + 16 * length tree.now * (1 + row_count tree.now) }
     {
         let of_entries = alloc.clone()?;
-        let of_made = alloc.clone()?;
         let of_nodes = alloc.clone()?;
         let mut entries = Store::new(of_entries);
         let mut nodes = Vec::new(of_nodes);
@@ -70,7 +69,6 @@ impl<'t, R: Rank, A: Allocator + Clone> Streams<'t, R, A> {
             tree,
             entries,
             nodes,
-            made: Vec::new(of_made),
         };
         Ok(Streams {
             solutions,

@@ -2,9 +2,9 @@ use Rattle.std.proofs.Common.{◌≡◌, ◌+◌, List, [], ◌∷◌, ◌++◌,
 use Rattle.suffix_streams.specs.NodeStreamsView.{NodeStreamsView}
 use Rattle.suffix_streams.specs.TreeStreams.{lists_of}
 use Rattle.suffix_streams.specs.Beginnings.{IsEmptyNode}
-use Rattle.suffix_streams.proofs.BeginOwners.{length_behind}
 use Rattle.suffix_streams.proofs.BeginNodes.{empties_more}
 use Rattle.suffix_streams.proofs.Errors.{none_done}
+use Rattle.suffix_streams.proofs.ListEnds.{length_behind}
 use Rattle.suffix_streams.proofs.beginning.add_empty_nodes.Goals as goal
 
 pub loop-node-preserved : goal.loop-node-preserved

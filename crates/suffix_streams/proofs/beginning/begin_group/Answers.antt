@@ -1,4 +1,4 @@
-use Rattle.std.proofs.Common.{[], ◌∷◌, ◌++◌, ◌≡◌, ◌≢◌, ℕ, ◌+◌, ◌<◌, ◌≤◌, None, List, length, get_or, slice_set, refl, sym, ap, ◌∙◌, subst, arith}
+use Rattle.std.proofs.Common.{[], ◌∷◌, ◌++◌, ◌≡◌, ◌≢◌, ℕ, ◌+◌, ◌≤◌, None, List, length, get_or, slice_set, refl, sym, ap, ◌∙◌, subst, arith}
 use Rattle.stream_store.specs.declared.linked.Linked.{Linked}
 use Rattle.tdp_core.specs.TreeView.{members}
 use Rattle.tdp_core.proofs.TreeFacts.{member_is_row}
@@ -8,18 +8,15 @@ use Rattle.suffix_streams.specs.NodeStreamsView.{NodeStreamsView}
 use Rattle.suffix_streams.specs.TreeStreams.{lists_of, IsHeaded}
 use Rattle.suffix_streams.specs.Beginnings.{IsBegunIn}
 use Rattle.suffix_streams.proofs.HeadedStreams.{next_head_more}
-use Rattle.suffix_streams.proofs.BeginOwners.{length_behind}
 use Rattle.suffix_streams.proofs.BeginBegun.{headed_begun}
 use Rattle.suffix_streams.proofs.BeginMade.{with_stream}
 use Rattle.suffix_streams.proofs.Errors.{none_done, ok_then}
-use Rattle.suffix_streams.proofs.Stores.{any_default}
 use Rattle.suffix_streams.proofs.BeginNodes.{first_best, first_member, in_more, nodes_set}
 use Rattle.suffix_streams.proofs.beginning.begin_group.Given.{Over}
 use Rattle.suffix_streams.proofs.beginning.begin_group.Goals.{After-add_stream}
+use Rattle.suffix_streams.proofs.Numbers.{in_same}
+use Rattle.suffix_streams.proofs.ListEnds.{any_default, length_behind}
 use Rattle.suffix_streams.proofs.beginning.begin_group.Goals as goal
-
-in_same : (v n m : ℕ) → v < n → m ≡ n → v < m
-in_same v n m l e = omega arith
 
 -- # What the proofs share
 

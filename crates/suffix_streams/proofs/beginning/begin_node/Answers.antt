@@ -5,12 +5,10 @@ use Rattle.suffix_streams.specs.TreeStreams.{lists_of}
 use Rattle.suffix_streams.proofs.HeadedStreams.{next_head_none}
 use Rattle.suffix_streams.proofs.Errors.{none_done}
 use Rattle.suffix_streams.proofs.BeginNodes.{from_in, in_from}
+use Rattle.suffix_streams.proofs.Numbers.{in_equal}
 use Rattle.suffix_streams.proofs.beginning.begin_node.Goals as goal
 
 -- # Numbers
-
-in_equal : (v n m : ℕ) → v < n → n ≡ m → v < m
-in_equal v n m l e = omega arith
 
 at_end : (i n m : ℕ) → n ≤ i → i ≤ n → n ≡ m → i ≡ m
 at_end i n m a b e = omega arith

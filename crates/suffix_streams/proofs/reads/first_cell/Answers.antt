@@ -2,10 +2,8 @@ use Rattle.std.proofs.Common.{◌≡◌, ◌≢◌, ℕ, suc, ◌-◌, ◌<◌, 
 use Rattle.tdp_core.specs.TreeView.{child_count}
 use Rattle.suffix_streams.specs.Firsts.{IsFirstCell}
 use Rattle.suffix_streams.proofs.Heads.{children_count}
+use Rattle.suffix_streams.proofs.Numbers.{in_same}
 use Rattle.suffix_streams.proofs.reads.first_cell.Goals as goal
-
-in_same : (v n m : ℕ) → v < n → m ≡ n → v < m
-in_same v n m l e = omega arith
 
 last_is : (k n m i : ℕ) → k ≡ n → n ≡ m → m ≡ suc i → k - 1 ≡ i
 last_is k n m i e f h = omega arith

@@ -1,4 +1,4 @@
-use Rattle.std.proofs.Common.{Fits, w64, [], ◌≡◌, suc, ℕ, ◌+◌, ◌<◌, ◌≤◌, length, get_or, is_some, sym, ap, ◌∙◌, subst, arith}
+use Rattle.std.proofs.Common.{[], ◌≡◌, suc, ℕ, ◌+◌, ◌<◌, ◌≤◌, length, get_or, is_some, sym, ap, ◌∙◌, subst, arith}
 use Rattle.tdp_core.specs.TreeView.{parent}
 use Rattle.tdp_core.proofs.Children.{kids_below_most}
 use Rattle.take2_heap.specs.Order.{IsLeast}
@@ -9,15 +9,10 @@ use Rattle.suffix_streams.proofs.Entries.{parts_of, child_in}
 use Rattle.suffix_streams.proofs.RowOffers.{offered_cell, offered_key, offered_sum, IsTopSum, top_sum}
 use Rattle.suffix_streams.proofs.reads.known_sum.Given.{Over}
 use Rattle.suffix_streams.proofs.reads.known_sum.Goals.{After-index-nodes-part, After-cell-cell, In-Some}
+use Rattle.suffix_streams.proofs.Numbers.{in_same, in_equal, child_fits}
 use Rattle.suffix_streams.proofs.reads.known_sum.Goals as goal
 
 -- # Numbers
-
-in_same : (v n m : ℕ) → v < n → m ≡ n → v < m
-in_same v n m l e = omega arith
-
-in_equal : (v n m : ℕ) → v < n → n ≡ m → v < m
-in_equal v n m l e = omega arith
 
 next_in : (c n m : ℕ) → c < n → n ≡ m → c + 1 ≤ m
 next_in c n m l e = omega arith
@@ -27,9 +22,6 @@ next_is c = omega arith
 
 few_steps : (s : ℕ) → s ≤ s + 3
 few_steps s = omega arith
-
-child_fits : (i k n : ℕ) → i < k → k ≤ n → n ≤ 16 → Fits w64 (i + 1)
-child_fits i k n l most few = omega arith
 
 -- # What the proofs share
 

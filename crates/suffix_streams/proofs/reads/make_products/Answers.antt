@@ -1,4 +1,4 @@
-use Rattle.std.proofs.Common.{Fits, w64, ◌≡◌, ℕ, suc, ◌+◌, ◌*◌, ◌<◌, ◌≤◌, true, ltb, cond, [], ◌∷◌, length, sym, ap, ◌∙◌, subst, arith}
+use Rattle.std.proofs.Common.{◌≡◌, ℕ, suc, ◌+◌, ◌*◌, ◌<◌, ◌≤◌, true, ltb, cond, [], ◌∷◌, length, sym, ap, ◌∙◌, subst, arith}
 use Rattle.std.proofs.lemmas.Bool.{lt-ltb}
 use Rattle.tdp_core.specs.TreeView.{child_count, group_named, parent}
 use Rattle.tdp_core.proofs.Children.{kids_below_most}
@@ -7,17 +7,15 @@ use Rattle.suffix_streams.specs.TreeStreams.{stream_of, AreFreshTo}
 use Rattle.suffix_streams.proofs.Along.{along}
 use Rattle.suffix_streams.proofs.Rankings.{own_first}
 use Rattle.suffix_streams.proofs.Firsts.{first_longer, firsts_fit}
-use Rattle.suffix_streams.proofs.Errors.{none_done}
+use Rattle.suffix_streams.proofs.Errors.{none_given}
 use Rattle.suffix_streams.proofs.Heads.{children_count, head_key, product_made}
+use Rattle.suffix_streams.proofs.Numbers.{in_same, no_steps, child_fits}
 use Rattle.suffix_streams.proofs.reads.make_products.Goals as goal
 
 -- # Numbers
 
 no_less : (i : ℕ) → i < 0 → ⊥
 no_less i l = omega arith
-
-in_same : (v n m : ℕ) → v < n → m ≡ n → v < m
-in_same v n m l e = omega arith
 
 in_kids : (i n m k : ℕ) → i < n → n ≡ m → m ≡ k → i < k
 in_kids i n m k l e f = omega arith
@@ -40,13 +38,14 @@ child_steps s l s1 s2 s3 i n within start head read joined = omega arith
 next_child : (s l s1 s2 s3 i : ℕ) → l ≡ s + 1 + 3 * i → s1 ≡ l + 1 → s2 ≡ s1 + 1 → s3 ≡ s2 + 1 → s3 ≡ s + 1 + 3 * (i + 1)
 next_child s l s1 s2 s3 i start head read joined = omega arith
 
-child_fits : (i k n : ℕ) → i < k → k ≤ n → n ≤ 16 → Fits w64 (i + 1)
-child_fits i k n l most few = omega arith
+pub returns-in_err-products : goal.returns-in_err-products
+returns-in_err-products g c =
+    record { fresh = none_given _ c.from_residual.result c.from_residual.ensures.0; cost = no_steps _ _ }
 
 pub loop-child-init : goal.loop-child-init
 loop-child-init g c = record {
   key = c.row_at-rank.ensures.rank ∙ sym (own_first g.R.Rank.KEYS g.R.Rank.key c.args.tree.now c.requires.formed c.args.node c.args.row c.requires.node);
-  fresh = record { count = ap length c.clear.ensures.items; first = λ i p l. absurd (no_less i l) };
+  fresh = record { count = ap length c.in_ok-products.ensures.items; first = λ i p l. absurd (no_less i l) };
   steps = first_steps _ _ c.row_at-rank.ensures.counted;
 }
 
@@ -105,7 +104,7 @@ child_head-head-requires-clause-headed g c =
 pub returns-in_err-product : goal.returns-in_err-product
 returns-in_err-product g c =
     record {
-      fresh = none_done _ c.from_residual.result c.from_residual.ensures.0;
+      fresh = none_given _ c.from_residual-in_err-product.result c.from_residual-in_err-product.ensures.0;
       cost =
           let kids : length c.index-nodes-node.result.children ≡ child_count c.args.tree.now c.args.node = children_count g.R.Rank.KEYS g.R.Rank.key c.args.tree.now c.args.entries.now.entries c.args.nodes.now c.args.node c.args.row c.index-nodes-node.result c.requires.headed c.requires.node c.index-nodes-node.is in
           let kid_in : c.loop-child.child < child_count c.args.tree.now c.args.node = in_kids _ _ _ _ c.loop-child-test.true c.child_count-children.ensures kids in
@@ -115,7 +114,7 @@ returns-in_err-product g c =
 pub returns-in_err-push : goal.returns-in_err-push
 returns-in_err-push g c =
     record {
-      fresh = none_done _ c.from_residual-in_err-push.result c.from_residual-in_err-push.ensures.0;
+      fresh = none_given _ c.from_residual-in_err-push.result c.from_residual-in_err-push.ensures.0;
       cost =
           let kids : length c.index-nodes-node.result.children ≡ child_count c.args.tree.now c.args.node = children_count g.R.Rank.KEYS g.R.Rank.key c.args.tree.now c.args.entries.now.entries c.args.nodes.now c.args.node c.args.row c.index-nodes-node.result c.requires.headed c.requires.node c.index-nodes-node.is in
           let kid_in : c.loop-child.child < child_count c.args.tree.now c.args.node = in_kids _ _ _ _ c.loop-child-test.true c.child_count-children.ensures kids in

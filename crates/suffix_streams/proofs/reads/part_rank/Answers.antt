@@ -5,6 +5,7 @@ use Rattle.suffix_streams.specs.NodeStreamsView.{NodeStreamsView, product_at}
 use Rattle.suffix_streams.specs.TreeStreams.{AreLefts, part_known, product_of}
 use Rattle.suffix_streams.proofs.Firsts.{own_at, known_key}
 use Rattle.suffix_streams.proofs.Heads.{lists_at}
+use Rattle.suffix_streams.proofs.Numbers.{in_equal}
 use Rattle.suffix_streams.proofs.reads.part_rank.Goals as goal
 
 -- # Numbers
@@ -17,9 +18,6 @@ some_is c some = omega arith
 
 last_in : (c n m : ℕ) → c ≤ n → c ≢ 0 → n ≡ m → c - 1 < m
 last_in c n m few some e = omega arith
-
-in_equal : (v n m : ℕ) → v < n → n ≡ m → v < m
-in_equal v n m l e = omega arith
 
 -- # The rank of a known solution
 

@@ -7,12 +7,10 @@ use Rattle.suffix_streams.proofs.Along.{along}
 use Rattle.suffix_streams.proofs.Heads.{lists_at}
 use Rattle.suffix_streams.proofs.reads.row_offer.Given.{Over}
 use Rattle.suffix_streams.proofs.reads.row_offer.Goals.{After-child_count-count, then-count-eq0-via-then-count-eq0, then-count-eq0-via-else-count-eq0+then-known-next}
+use Rattle.suffix_streams.proofs.Numbers.{in_same}
 use Rattle.suffix_streams.proofs.reads.row_offer.Goals as goal
 
 -- # Numbers
-
-in_same : (v n m : ℕ) → v < n → m ≡ n → v < m
-in_same v n m l e = omega arith
 
 at_most : (k n m : ℕ) → k ≡ n → n ≡ m → k ≤ m
 at_most k n m e f = omega arith

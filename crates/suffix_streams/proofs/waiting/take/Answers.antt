@@ -5,7 +5,7 @@ use Rattle.take2_heap.specs.Heap.{Heap}
 use Rattle.take2_heap.specs.declared.entry.Entry.{Entry}
 use Rattle.tdp_model.specs.KeyNumbers.{key_less}
 use Rattle.suffix_streams.proofs.Takes.{least_left, least_before, least_replaced}
-use Rattle.suffix_streams.proofs.Stores.{any_default}
+use Rattle.suffix_streams.proofs.ListEnds.{any_default}
 use Rattle.suffix_streams.proofs.waiting.take.Goals as goal
 
 both : {A : Type 0} (o : Option A) (P Q S : A → Type 0) → IfSome o P → IfSome o Q → ((a : A) → P a → Q a → S a) → IfSome o S

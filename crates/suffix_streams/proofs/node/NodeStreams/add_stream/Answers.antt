@@ -27,17 +27,17 @@ module _ (g : Over) where
       → headed c.add.new.self.first c.push_reserved.new.self.items ≡ headed c.self.inside.heads.first c.self.inside.streams.items ++ (record { head = c.args.head; queue = []; room = 0 } ∷ [])
   streams c before =
       ap (λ qs. headed c.add.new.self.first qs) (c.push_reserved.ensures.items ∙ ap (λ qs. qs ++ (c.new.result ∷ [])) c.in_ok-reserve.ensures.items)
-      ∙ headed_next c.self.inside.heads.first c.add.new.self.first c.args.head c.self.inside.streams.items c.new.result before (begins_at _ _ _ _ c.self.invariant.1 c.add.ensures.last)
+      ∙ headed_next c.self.inside.heads.first c.add.new.self.first c.args.head c.self.inside.streams.items c.new.result before (begins_at _ _ _ _ c.self.invariant c.add.ensures.last)
       ∙ ap (λ s. headed c.self.inside.heads.first c.self.inside.streams.items ++ (s ∷ [])) (empty c)
 
 pub add-requires : goal.add-requires
 add-requires g c = record {
-  next = λ some. next_at _ _ _ _ c.self.invariant.1 (next_head_is c.self.inside.heads.first c.self.inside.streams.items c.args.head (omega (arith, some, c.self.invariant.1)) (next g (goal.at.add-requires g c).After-push_reserved));
+  next = λ some. next_at _ _ _ _ c.self.invariant (next_head_is c.self.inside.heads.first c.self.inside.streams.items c.args.head (omega (arith, some, c.self.invariant)) (next g (goal.at.add-requires g c).After-push_reserved));
 }
 
 pub returns : goal.returns
 returns g c =
     let at = goal.at.returns g c in
     let s : StreamView g.row.R.Denot = record { head = c.args.head; queue = []; room = 0 } in
-    ap (λ (z : List (StreamView g.row.R.Denot)). (let n : NodeStreamsView g.row.R.Denot = record { children = c.self.inside.children.items; streams = z; products = c.self.inside.products.rows } in n)) (streams g at.After-add (next g at.After-push_reserved))
+    ap (λ (z : List (StreamView g.row.R.Denot)). (let n : NodeStreamsView g.row.R.Denot = record { children = c.self.inside.children.items; streams = z; products = c.self.inside.products } in n)) (streams g at.After-add (next g at.After-push_reserved))
     ∙ ap (λ (n : NodeStreamsView g.row.R.Denot). (let m : NodeStreamsView g.row.R.Denot = record n { streams = n.streams ++ (s ∷ []) } in m)) c.self.view_is

@@ -8,10 +8,8 @@ use Rattle.suffix_streams.specs.StreamView.{StreamView}
 use Rattle.suffix_streams.specs.NodeStreamsView.{NodeStreamsView, stream_at, with_queue}
 use Rattle.suffix_streams.proofs.NodeFacts.{in_queues, queue_read, queue_changed}
 use Rattle.suffix_streams.proofs.Takes.{all_given, none_moved, given_steps}
+use Rattle.suffix_streams.proofs.Numbers.{in_same}
 use Rattle.suffix_streams.proofs.node.NodeStreams.give.Goals as goal
-
-in_same : (v n m : ℕ) → v < n → m ≡ n → v < m
-in_same v n m l e = omega arith
 
 room_left : (a b : ℕ) → 1 < a → a ≤ b + 1 → 0 < b
 room_left a b some few = omega arith

@@ -1,12 +1,10 @@
-use Rattle.std.proofs.Common.{◌<◌, ℕ, ◌≡◌, ◌≤◌, OnOk, sym, ap, ◌∙◌, subst, arith}
+use Rattle.std.proofs.Common.{◌≤◌, OnOk, sym, ap, ◌∙◌, subst}
 use Rattle.suffix_streams.specs.Firsts.{can_enter}
 use Rattle.suffix_streams.specs.StreamView.{StreamView}
 use Rattle.suffix_streams.specs.NodeStreamsView.{stream_at, with_queue}
 use Rattle.suffix_streams.proofs.NodeFacts.{in_queues, queue_changed}
+use Rattle.suffix_streams.proofs.Numbers.{in_same}
 use Rattle.suffix_streams.proofs.node.NodeStreams.reserve_queue.Goals as goal
-
-in_same : (v n m : ℕ) → v < n → m ≡ n → v < m
-in_same v n m l e = omega arith
 
 pub index_mut-queue-requires : goal.index_mut-queue-requires
 index_mut-queue-requires g c = in_same _ _ _ (in_queues _ c.self.inside.heads.first c.self.inside.streams.items _ c.args.self.now c.self.view_is c.args.group c.requires.group) c.self.inside.streams.ok.0

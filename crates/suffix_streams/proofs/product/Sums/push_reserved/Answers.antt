@@ -6,7 +6,7 @@ use Rattle.suffix_streams.specs.Sums.{cells_of, ranks_of}
 use Rattle.suffix_streams.specs.declared.cell.Cell.{Cell}
 use Rattle.suffix_streams.specs.declared.product.Sums.{Sums}
 use Rattle.suffix_streams.specs.declared.product.Sums.TheVariants.{Cells, Ranked}
-use Rattle.suffix_streams.proofs.Stores.{map_more}
+use Rattle.suffix_streams.proofs.ListEnds.{map_more}
 use Rattle.suffix_streams.proofs.product.Sums.push_reserved.Goals as goal
 
 module _ {R A : Type 0} (s : Sums R A) (x : Entry R Cell) where

@@ -31,21 +31,16 @@ use Rattle.suffix_streams.proofs.SearchSteps.{searched, left_or_none, all_or_non
 use Rattle.suffix_streams.proofs.SearchCalls.{on_ok, on_err, not_some, next_read, opened_grown}
 use Rattle.suffix_streams.proofs.solutions.Solutions.+growth.Given.{Over}
 use Rattle.suffix_streams.proofs.solutions.Solutions.+growth.Goals.{after-After-row_after, row_after-After-child_count-count, row_after-After-after, after-After-get-found, after-In_ok-open_row, search-After-after, search-After-extend, search-After-make_room, extend-then-place-known-via-then-place-known, extend-then-place-known-via-else-place-known+then-count-eq0}
+use Rattle.suffix_streams.proofs.Numbers.{in_same, one_within, queue_itself, kids_few}
 use Rattle.suffix_streams.proofs.solutions.Solutions.+growth.Goals as goal
 
 -- # Numbers
-
-in_same : (v n m : ℕ) → v < n → m ≡ n → v < m
-in_same v n m l e = omega arith
 
 in_longer : (v n m : ℕ) → v < n → n ≤ m → v < m
 in_longer v n m l h = omega arith
 
 next_within : (p q n : ℕ) → p < n → q ≡ p + 1 → q ≤ n
 next_within p q n l e = omega arith
-
-none_before : (p q : ℕ) → q ≡ 1 → q ≡ p + 1 → p ≡ 0
-none_before p q one e = omega arith
 
 at_below : (v p n : ℕ) → p < n → v ≡ p → v ≤ n
 at_below v p n l e = omega arith
@@ -58,9 +53,6 @@ some_is n h = omega arith
 
 at_most_same : (n m : ℕ) → n ≡ m → n ≤ m
 at_most_same n m e = omega arith
-
-one_within : (n : ℕ) → 0 < n → 1 ≤ n
-one_within n h = omega arith
 
 last_is : (n : ℕ) → 0 < n → suc (n - 1) ≡ n
 last_is n h = omega arith
@@ -87,9 +79,6 @@ child_in v u n m e l same = omega arith
 all_found : (found whole known : ℕ) → found ≡ whole → found ≡ known → whole ≤ known
 all_found found whole known e is = omega arith
 
-queue_itself : (n more : ℕ) → n ≤ max 1 n + more
-queue_itself n more = omega arith
-
 queue_grown : (n m more : ℕ) → n ≤ m + 0 → n ≤ m + more
 queue_grown n m more h = omega arith
 
@@ -98,9 +87,6 @@ few_steps s s' e = omega arith
 
 first_step : (s s' b n : ℕ) → s' ≡ s + 1 → s' ≤ s + (14 + 4 * b + n)
 first_step s s' b n e = omega arith
-
-second_step : (s s' s'' b n : ℕ) → s' ≡ s + 1 → s'' ≡ s' + 1 → s'' ≤ s + (14 + 4 * b + n)
-second_step s s' s'' b n e e' = omega arith
 
 opened_steps : (s s' s'' s3 n : ℕ) → s' ≡ s + 1 → s'' ≡ s' + 1 → s3 ≤ s'' + 1 + n → s3 ≤ s + 3 + n
 opened_steps s s' s'' s3 n e e' h = omega arith
@@ -126,10 +112,6 @@ tie_free_twice : {R : Type 0} (t t1 t2 : List (NodeView R)) → t1 ≡ t → t2 
 tie_free_twice t t1 t2 e f h = subst IsTieFreeTree (sym (f ∙ e)) h
 
 -- # What gets smaller with each call
-
--- few nodes have fewer children
-kids_few : (count kids n most : ℕ) → count ≡ kids → kids ≤ n → n ≤ most → count ≤ most
-kids_few count kids n most e h few = omega arith
 
 -- a search in a row with all its children, for the entry after one
 row_smaller : (t n n' v w : ℕ) → 64 * (n - w) + 63 ≡ t → w ≡ v → n' ≡ n → v < n → 64 * (n' - v) + 40 < t

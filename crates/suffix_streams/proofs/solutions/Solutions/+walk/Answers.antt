@@ -15,12 +15,10 @@ use Rattle.suffix_streams.proofs.Rows.{left_addable, right_addable, both_added}
 use Rattle.suffix_streams.proofs.PartRows.{IsSolvedAt, known_own, solved_at}
 use Rattle.suffix_streams.proofs.solutions.Solutions.+walk.Given.{Over}
 use Rattle.suffix_streams.proofs.solutions.Solutions.+walk.Goals.{add_entry_rows-After-child_count-count, add_entry_rows-After-get-found, add_part_rows-After-part_cell-cell, add_sum_rows-After-add_part_rows}
+use Rattle.suffix_streams.proofs.Numbers.{same_few, kids_few}
 use Rattle.suffix_streams.proofs.solutions.Solutions.+walk.Goals as goal
 
 -- # Numbers
-
-same_few : (n m : ℕ) → n ≡ m → n ≤ m
-same_few n m e = omega arith
 
 some_is : (n : ℕ) → n ≢ 0 → 1 ≤ n
 some_is n some = omega arith
@@ -42,9 +40,6 @@ next_is k = omega arith
 
 kids_last : (count kids : ℕ) → count ≡ kids → count ≢ 0 → kids ≡ suc (count - 1)
 kids_last count kids e some = omega arith
-
-kids_few : (count kids n most : ℕ) → count ≡ kids → kids ≤ n → n ≤ most → count ≤ most
-kids_few count kids n most e h few = omega arith
 
 -- # What gets smaller with each call
 

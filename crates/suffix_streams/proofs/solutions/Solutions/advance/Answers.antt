@@ -16,7 +16,7 @@ use Rattle.suffix_streams.proofs.Kept.{held_itself}
 use Rattle.suffix_streams.proofs.Merging.{queued_products}
 use Rattle.suffix_streams.proofs.Entries.{stream_owned}
 use Rattle.suffix_streams.proofs.State.{count_more}
-use Rattle.suffix_streams.proofs.Stores.{at_more, next_value, node_length, store_stays}
+use Rattle.suffix_streams.proofs.Stores.{next_value, node_length, store_stays}
 use Rattle.suffix_streams.proofs.Linked.{entry_held}
 use Rattle.suffix_streams.proofs.Takes.{some_given, none_given}
 use Rattle.rank_key.proofs.BitLemmas.{bit_length_rises}
@@ -25,6 +25,7 @@ use Rattle.suffix_streams.specs.Rankings.{group_list}
 use Rattle.suffix_streams.proofs.QueuePass.{IsGroupTop, IsQueuePassed, IsEntryLinked, group_top, queue_passed, passed_grows, entry_linked}
 use Rattle.suffix_streams.proofs.solutions.Solutions.advance.Given.{Over}
 use Rattle.suffix_streams.proofs.solutions.Solutions.advance.Goals.{After-give, After-push_reserved-entry, After-set_next}
+use Rattle.suffix_streams.proofs.ListEnds.{at_more}
 use Rattle.suffix_streams.proofs.solutions.Solutions.advance.Goals as goal
 
 -- # Numbers

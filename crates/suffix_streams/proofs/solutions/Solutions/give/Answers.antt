@@ -13,10 +13,8 @@ use Rattle.suffix_streams.specs.Firsts.{IsFirstBelow, IsGiven, can_enter}
 use Rattle.suffix_streams.proofs.Changes.{lists_same}
 use Rattle.suffix_streams.proofs.Heads.{lists_at}
 use Rattle.suffix_streams.proofs.Opening.{put_back}
+use Rattle.suffix_streams.proofs.Numbers.{in_same}
 use Rattle.suffix_streams.proofs.solutions.Solutions.give.Goals as goal
-
-in_same : (v n m : ℕ) → v < n → m ≡ n → v < m
-in_same v n m l e = omega arith
 
 in_streams : (v n k m : ℕ) → v < n → k ≡ n → k ≡ m → v < m
 in_streams v n k m l e f = omega arith

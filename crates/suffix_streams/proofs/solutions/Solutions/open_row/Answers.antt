@@ -10,13 +10,14 @@ use Rattle.suffix_streams.specs.NodeStreamsView.{NodeStreamsView, known_of, with
 use Rattle.suffix_streams.specs.TreeStreams.{IsHeaded, IsStreams, AreFreshTo, lists_of, products_of, product_of, stream_of}
 use Rattle.suffix_streams.proofs.Changes.{lists_same, lists_other}
 use Rattle.suffix_streams.proofs.Entries.{headed_of}
-use Rattle.suffix_streams.proofs.Heads.{lists_at, children_count}
+use Rattle.suffix_streams.proofs.Heads.{lists_at}
 use Rattle.suffix_streams.proofs.Stores.{open_all}
 use Rattle.suffix_streams.proofs.Opening.{row_lacks, row_whole, row_opened, opened_is, opened_row, opened_queues, put_back}
 use Rattle.suffix_streams.proofs.QueuePass.{IsRoomed, roomed}
 use Rattle.suffix_streams.proofs.SearchCalls.{on_ok}
 use Rattle.suffix_streams.proofs.solutions.Solutions.open_row.Given.{Over}
 use Rattle.suffix_streams.proofs.solutions.Solutions.open_row.Goals.{After-make_queue_room, After-set_products, In_ok-make_queue_room}
+use Rattle.suffix_streams.proofs.Numbers.{in_same, queue_itself, no_steps}
 use Rattle.suffix_streams.proofs.solutions.Solutions.open_row.Goals as goal
 
 -- what follows whether something is done or refused
@@ -24,23 +25,14 @@ either : {A E P Q X : Type 0} (r : Result A E) → OnOk r P → OnErr r Q → (P
 either (Ok x) p q f h = f p
 either (Err e) p q f h = h q
 
-in_same : (v n m : ℕ) → v < n → m ≡ n → v < m
-in_same v n m l e = omega arith
-
 in_rows : (r n k m : ℕ) → r < n → m ≡ k → k ≡ n → r < m
 in_rows r n k m l e f = omega arith
 
 same_queue : (n m : ℕ) → n ≡ m → n ≤ max 1 m + 0
 same_queue n m e = omega arith
 
-no_steps : (s n : ℕ) → s ≤ s + 1 + n
-no_steps s n = omega arith
-
 no_place : {P : Type 0} (p : ℕ) → 0 < p → p ≡ 0 → P
 no_place p some none = absurd (omega (arith, some, none))
-
-queue_itself : (n more : ℕ) → n ≤ max 1 n + more
-queue_itself n more = omega arith
 
 -- the streams after the queue got room
 room_of : (g : Over) (c : After-make_queue_room g) → IsRoomed g.R.Rank.KEYS g.R.Rank.key c.args.self.now.tree.now c.args.self.now.entries.entries c.args.self.now.nodes.items c.make_queue_room.new.nodes.items c.args.node c.args.group
@@ -71,20 +63,15 @@ make_products-requires-clause-headed g c =
     subst (λ (z : List (NodeStreamsView g.row.R.Denot)). IsHeaded g.R.Rank.KEYS g.R.Rank.key c.args.self.now.tree.now c.args.self.now.entries.entries z c.args.node c.args.row) (sym c.as_slice.ensures.value)
     (headed_of g.R.Rank.KEYS g.R.Rank.key c.args.self.now.tree.now c.args.self.now.entries.entries c.make_queue_room.new.nodes.items (room_of g at.After-make_queue_room).formed c.args.node c.args.row c.requires.node c.requires.row)
 
-pub set_products-requires-clause-row : goal.set_products-requires-clause-row
-set_products-requires-clause-row g c =
-    let at = goal.at.set_products-requires-clause-row g c in
+pub set_products-requires : goal.set_products-requires
+set_products-requires g c =
+    let at = goal.at.set_products-requires g c in
     let inside : c.args.node < length c.make_queue_room.new.nodes.items = in_same _ _ _ c.requires.node (room_of g at.After-make_queue_room).formed.all_nodes in
     let few = row_lacks g.R.Rank.KEYS g.R.Rank.key c.args.self.now.tree.now c.args.self.now.entries.entries c.make_queue_room.new.nodes.items (room_of g at.After-make_queue_room).formed c.args.node c.args.row c.requires.node c.requires.row c.index.result.now c.index.ensures (c.lacks_products.ensures.0 c.if-not-lacks_products.false).0 (c.lacks_products.ensures.0 c.if-not-lacks_products.false).1 in
-    subst (λ n. c.args.row < length n.products) (lists_at c.make_queue_room.new.nodes.items c.args.node c.index_mut.result.now c.index_mut.ensures.value inside)
-    (in_rows _ _ _ _ c.requires.row ((room_of g at.After-make_queue_room).formed.all_rows c.args.node c.requires.node) (open_all (child_count c.args.self.now.tree.now c.args.node) (rows c.args.self.now.tree.now c.args.node) few.1))
-
-pub set_products-requires-clause-count : goal.set_products-requires-clause-count
-set_products-requires-clause-count g c =
-    let at = goal.at.set_products-requires-clause-count g c in
-    let headed = headed_of g.R.Rank.KEYS g.R.Rank.key c.args.self.now.tree.now c.args.self.now.entries.entries c.make_queue_room.new.nodes.items (room_of g at.After-make_queue_room).formed c.args.node c.args.row c.requires.node c.requires.row in
-    c.in_ok-make_products.ensures.fresh.count
-    ∙ sym (children_count g.R.Rank.KEYS g.R.Rank.key c.args.self.now.tree.now c.args.self.now.entries.entries c.make_queue_room.new.nodes.items c.args.node c.args.row c.index_mut.result.now headed c.requires.node c.index_mut.ensures.value)
+    record {
+      row = subst (λ n. c.args.row < length n.products) (lists_at c.make_queue_room.new.nodes.items c.args.node c.index_mut.result.now c.index_mut.ensures.value inside)
+          (in_rows _ _ _ _ c.requires.row ((room_of g at.After-make_queue_room).formed.all_rows c.args.node c.requires.node) (open_all (child_count c.args.self.now.tree.now c.args.node) (rows c.args.self.now.tree.now c.args.node) few.1));
+    }
 
 -- the nodes after the products of a row were refused
 refused : (g : Over) (c : After-set_products g) → c.set_products.new.self ≡ c.index_mut.result.now → slice_set c.make_queue_room.new.nodes.items c.args.node c.set_products.new.self ≡ c.make_queue_room.new.nodes.items
@@ -119,14 +106,14 @@ pub make_products-requires-clause-row : goal.make_products-requires-clause-row
 make_products-requires-clause-row g c =
     c.requires.row
 
-pub returns-in_err-make_products : goal.returns-in_err-make_products
-returns-in_err-make_products g c =
-    let at = goal.at.returns-in_err-make_products g c in
+pub returns-in_err-products : goal.returns-in_err-products
+returns-in_err-products g c =
+    let at = goal.at.returns-in_err-products g c in
     record {
       entries = refl;
-      count = none_done _ c.from_residual-in_err-make_products.result c.from_residual-in_err-make_products.ensures.0;
+      count = none_done _ c.from_residual-in_err-products.result c.from_residual-in_err-products.ensures.0;
       queues = λ v r k. same_queue _ _ (room_queues g at.After-make_queue_room v r k);
-      room = on_ok c.from_residual-in_err-make_products.result (λ none. roomy g at.In_ok-make_queue_room);
+      room = on_ok c.from_residual-in_err-products.result (λ none. roomy g at.In_ok-make_queue_room);
       above = (room_of g at.After-make_queue_room).above;
       cost = c.make_products.ensures.cost;
       tree = refl;
@@ -139,10 +126,10 @@ returns g c =
     let at = goal.at.returns g c in
     let kept = refused g at.After-set_products in
     let inside : c.args.node < length c.make_queue_room.new.nodes.items = in_same _ _ _ c.requires.node (room_of g at.After-make_queue_room).formed.all_nodes in
-    let stay = streams_stay c.make_queue_room.new.nodes.items c.args.node c.args.row c.index_mut.result.now c.set_products.new.self c.make_products.new.products.items inside c.index_mut.ensures.value in
+    let stay = streams_stay c.make_queue_room.new.nodes.items c.args.node c.args.row c.index_mut.result.now c.set_products.new.self c.in_ok-products.products.items inside c.index_mut.ensures.value in
     let few = row_lacks g.R.Rank.KEYS g.R.Rank.key c.args.self.now.tree.now c.args.self.now.entries.entries c.make_queue_room.new.nodes.items (room_of g at.After-make_queue_room).formed c.args.node c.args.row c.requires.node c.requires.row c.index.result.now c.index.ensures (c.lacks_products.ensures.0 c.if-not-lacks_products.false).0 (c.lacks_products.ensures.0 c.if-not-lacks_products.false).1 in
-    let fresh = subst (λ (z : List (NodeStreamsView g.row.R.Denot)). AreFreshTo g.R.Rank.KEYS g.R.Rank.key c.args.self.now.tree.now z c.args.node c.args.row (child_count c.args.self.now.tree.now c.args.node) c.make_products.new.products.items) c.as_slice.ensures.value c.in_ok-make_products.ensures.fresh in
-    let opened = opened_is c.make_queue_room.new.nodes.items c.args.node c.args.row c.index_mut.result.now c.set_products.new.self c.make_products.new.products.items inside c.index_mut.ensures.value in
+    let fresh = subst (λ (z : List (NodeStreamsView g.row.R.Denot)). AreFreshTo g.R.Rank.KEYS g.R.Rank.key c.args.self.now.tree.now z c.args.node c.args.row (child_count c.args.self.now.tree.now c.args.node) c.in_ok-products.products.items) c.as_slice.ensures.value c.in_ok-products.ensures.fresh in
+    let opened = opened_is c.make_queue_room.new.nodes.items c.args.node c.args.row c.index_mut.result.now c.set_products.new.self c.in_ok-products.products.items inside c.index_mut.ensures.value in
     record {
       cost = c.make_products.ensures.cost;
       tree = refl;
@@ -150,7 +137,7 @@ returns g c =
       formed =
           either c.set_products.result c.set_products.ensures.set c.set_products.ensures.refused
           (λ set. subst (λ (z : List (NodeStreamsView g.row.R.Denot)). IsStreams g.R.Rank.KEYS g.R.Rank.key c.args.self.now.tree.now c.args.self.now.entries.entries z) (sym (opened set))
-          (row_opened g.R.Rank.KEYS g.R.Rank.key c.args.self.now.tree.now c.args.self.now.entries.entries c.make_queue_room.new.nodes.items (room_of g at.After-make_queue_room).formed c.requires.tie_free c.args.node c.args.row c.requires.node c.requires.row c.make_products.new.products.items fresh few.0 few.1))
+          (row_opened g.R.Rank.KEYS g.R.Rank.key c.args.self.now.tree.now c.args.self.now.entries.entries c.make_queue_room.new.nodes.items (room_of g at.After-make_queue_room).formed c.requires.tie_free c.args.node c.args.row c.requires.node c.requires.row c.in_ok-products.products.items fresh few.0 few.1))
           (λ same. subst (λ (z : List (NodeStreamsView g.row.R.Denot)). IsStreams g.R.Rank.KEYS g.R.Rank.key c.args.self.now.tree.now c.args.self.now.entries.entries z) (sym (kept same)) (room_of g at.After-make_queue_room).formed);
       streams =
           either c.set_products.result c.set_products.ensures.set c.set_products.ensures.refused
@@ -161,14 +148,14 @@ returns g c =
           λ v r k. either c.set_products.result c.set_products.ensures.set c.set_products.ensures.refused
           (λ set. subst (λ q. length (product_of (slice_set c.make_queue_room.new.nodes.items c.args.node c.set_products.new.self) v r k).frontier ≤ max 1 q + 0) (room_queues g at.After-make_queue_room v r k) (
           subst (λ (z : List (NodeStreamsView g.row.R.Denot)). (v r k : ℕ) → length (product_of z v r k).frontier ≤ max 1 (length (product_of c.make_queue_room.new.nodes.items v r k).frontier) + 0) (sym (opened set))
-          (opened_queues g.R.Rank.KEYS g.R.Rank.key c.args.self.now.tree.now c.args.self.now.entries.entries c.make_queue_room.new.nodes.items (room_of g at.After-make_queue_room).formed c.requires.tie_free c.args.node c.args.row c.requires.node c.requires.row c.make_products.new.products.items fresh few.0 few.1) v r k))
+          (opened_queues g.R.Rank.KEYS g.R.Rank.key c.args.self.now.tree.now c.args.self.now.entries.entries c.make_queue_room.new.nodes.items (room_of g at.After-make_queue_room).formed c.requires.tie_free c.args.node c.args.row c.requires.node c.requires.row c.in_ok-products.products.items fresh few.0 few.1) v r k))
           (λ same. subst (λ (z : List (NodeStreamsView g.row.R.Denot)). length (product_of z v r k).frontier ≤ max 1 (length (product_of c.args.self.now.nodes.items v r k).frontier) + 0) (sym (kept same)) (same_queue _ _ (room_queues g at.After-make_queue_room v r k)));
       above = λ v n. lists_other c.make_queue_room.new.nodes.items c.args.node v c.set_products.new.self n ∙ (room_of g at.After-make_queue_room).above v n;
       room = ok_then c.set_products.result (λ set none. subst (λ (z : List (StreamView g.row.R.Denot)). can_enter (length (members c.args.self.now.tree.now c.args.node c.args.group)) ≤ (get_or z c.args.group (record { head = 0; queue = []; room = 0 })).room) (sym (stay set)) (roomy g at.In_ok-make_queue_room)) c.set_products.ensures.set;
       count =
           ok_then c.set_products.result
           (λ set many. ap (λ (z : List (NodeStreamsView g.row.R.Denot)). length (products_of z c.args.node c.args.row)) (opened set)
-          ∙ ap length (opened_row g.R.Rank.KEYS g.R.Rank.key c.args.self.now.tree.now c.args.self.now.entries.entries c.make_queue_room.new.nodes.items (room_of g at.After-make_queue_room).formed c.requires.tie_free c.args.node c.args.row c.requires.node c.requires.row c.make_products.new.products.items fresh few.0 few.1)
+          ∙ ap length (opened_row g.R.Rank.KEYS g.R.Rank.key c.args.self.now.tree.now c.args.self.now.entries.entries c.make_queue_room.new.nodes.items (room_of g at.After-make_queue_room).formed c.requires.tie_free c.args.node c.args.row c.requires.node c.requires.row c.in_ok-products.products.items fresh few.0 few.1)
           ∙ fresh.count) c.set_products.ensures.set;
     }
 

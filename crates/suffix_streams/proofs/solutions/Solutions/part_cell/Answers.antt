@@ -1,4 +1,4 @@
-use Rattle.std.proofs.Common.{◌≡◌, ◌≢◌, ℕ, ◌<◌, ◌≤◌, List, [], length, get_or, sym, ap, ◌∙◌, subst, arith}
+use Rattle.std.proofs.Common.{◌≡◌, ◌≢◌, ℕ, ◌<◌, List, [], length, get_or, sym, ap, ◌∙◌, subst, arith}
 use Rattle.tdp_core.specs.TreeView.{group_named}
 use Rattle.suffix_streams.specs.NodeStreamsView.{NodeStreamsView, product_at}
 use Rattle.suffix_streams.specs.Rankings.{child}
@@ -6,13 +6,8 @@ use Rattle.suffix_streams.specs.TreeStreams.{IsHeaded, products_of, stream_of}
 use Rattle.suffix_streams.proofs.Entries.{headed_of}
 use Rattle.suffix_streams.proofs.Heads.{lists_at}
 use Rattle.suffix_streams.proofs.PartRows.{first_cell, in_products, in_found, product_cell}
+use Rattle.suffix_streams.proofs.Numbers.{in_same, same_few}
 use Rattle.suffix_streams.proofs.solutions.Solutions.part_cell.Goals as goal
-
-same_few : (n m : ℕ) → n ≡ m → n ≤ m
-same_few n m e = omega arith
-
-in_same : (v n m : ℕ) → v < n → m ≡ n → v < m
-in_same v n m l e = omega arith
 
 is_some : (k n m : ℕ) → k ≡ m → n ≡ m → k ≢ 0 → 0 < n
 is_some k n m e f some = omega arith

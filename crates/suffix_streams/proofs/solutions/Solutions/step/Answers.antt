@@ -18,13 +18,8 @@ use Rattle.suffix_streams.proofs.Exchanges.{top_right, below_right, can_exchange
 use Rattle.suffix_streams.proofs.ProductPass.{IsProductPassed, product_passed, stepped_holds, stepped_reaches}
 use Rattle.suffix_streams.proofs.solutions.Solutions.step.Given.{Over}
 use Rattle.suffix_streams.proofs.solutions.Solutions.step.Goals.{After-known-known, After-step_product}
+use Rattle.suffix_streams.proofs.Numbers.{in_same, in_equal}
 use Rattle.suffix_streams.proofs.solutions.Solutions.step.Goals as goal
-
-in_same : (v n m : ℕ) → v < n → m ≡ n → v < m
-in_same v n m l e = omega arith
-
-in_equal : (v n m : ℕ) → v < n → n ≡ m → v < m
-in_equal v n m l e = omega arith
 
 none_is : (c : ℕ) → c ≤ 0 → 0 ≡ c
 none_is c h = omega arith

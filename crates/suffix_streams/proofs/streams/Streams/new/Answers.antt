@@ -40,15 +40,6 @@ returns-in_err-of_entries g c =
       cost = no_steps _ _;
     }
 
-pub returns-in_err-of_made : goal.returns-in_err-of_made
-returns-in_err-of_made g c =
-    record {
-      tree = none_given _ c.from_residual-in_err-of_made.result c.from_residual-in_err-of_made.ensures.0;
-      prefixes = none_given _ c.from_residual-in_err-of_made.result c.from_residual-in_err-of_made.ensures.0;
-      calls = none_given _ c.from_residual-in_err-of_made.result c.from_residual-in_err-of_made.ensures.0;
-      cost = no_steps _ _;
-    }
-
 pub returns-in_err-of_nodes : goal.returns-in_err-of_nodes
 returns-in_err-of_nodes g c =
     record {
