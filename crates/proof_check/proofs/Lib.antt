@@ -31,6 +31,7 @@ pub mod Keys
 pub mod Supported
 pub mod Ways
 pub mod Pairs
+pub mod PairKeys
 pub mod Beginnings
 pub mod Known
 pub mod Bridge

@@ -15,12 +15,12 @@ Pair = ℕ × ℕ
 abbrev pub same : Pair → Pair → Bool
 same a b = nat_eq a.0 b.0 && nat_eq a.1 b.1
 
-same_is : (a b : Pair) → same a b ≡ true → a ≡ b
+pub same_is : (a b : Pair) → same a b ≡ true → a ≡ b
 same_is a b e =
     let h = and_parts (nat_eq a.0 b.0) (nat_eq a.1 b.1) e in
     λ i. ((eqb-true a.0 b.0 h.0) i, (eqb-true a.1 b.1 h.1) i)
 
-is_same : (a b : Pair) → a ≡ b → same a b ≡ true
+pub is_same : (a b : Pair) → a ≡ b → same a b ≡ true
 is_same a b e = (λ i. eq-eqb a.0 b.0 (ap (λ (p : Pair). p.0) e) i && nat_eq a.1 b.1) ∙ eq-eqb a.1 b.1 (ap (λ (p : Pair). p.1) e)
 
 pub found_at : (xs : List Pair) (x : Pair) → list_any (same x) xs ≡ true → (k : ℕ) × IsPairAt xs k x

@@ -12,3 +12,4 @@ pub mod Solutions
 pub mod PrefixNumbers
 pub mod Choices
 pub mod Levels
+pub mod PairKeys
