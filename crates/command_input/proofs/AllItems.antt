@@ -74,18 +74,49 @@ some_unless : {A : Type 0} (o : Option Reason) (e : Reason) (b : A) → Err e �
 some_unless None e b h = cc
 some_unless (Some x) e b h = let same : e ≡ x = cc in ap Some (sym same)
 
+-- each item has a table that an entry names
+pub known_none : {A : Type 0} (named : List (List ℕ × List ℕ)) (items : List ItemRef) (a : A) → Is (unless (unknown_table named items) a) (Ok a)
+    → unknown_table named items ≡ None
+known_none named items a known = none_unless (unknown_table named items) a a known
+
 -- the items of the selects up to i have tables that entries name, and these are their uses
 pub record HasAllUses (named : List (List ℕ × List ℕ)) (selects : List Select) (i : ℕ) (firsts : List (List ℕ × List ℕ)) (numbers : List ℕ) : Type 0 where
   pub known : unknown_table named (all_items (drop i selects)) ≡ unknown_table named (all_items selects)
   pub uses : HasUses named (all_items (take i selects)) firsts numbers
 
-module _ (named : List (List ℕ × List ℕ)) (selects : List Select) (i : ℕ) (select : Select) (firsts : List (List ℕ × List ℕ)) (numbers : List ℕ)
-    (inside : i < length selects) (is : select ≡ get_or selects i select) (so_far : HasAllUses named selects i firsts numbers) where
+module _ (named : List (List ℕ × List ℕ)) (selects : List Select) (i : ℕ) (select : Select) (inside : i < length selects) (is : select ≡ get_or selects i select)
+    (known : unknown_table named (all_items (drop i selects)) ≡ unknown_table named (all_items selects)) where
   here_unknown : option_or (unknown_table named select.items) (unknown_table named (all_items (drop (i + 1) selects))) ≡ unknown_table named (all_items selects)
   here_unknown =
       sym (ap (unknown_table named) (items_left selects i select inside is) ∙ unknown_append named select.items (all_items (drop (i + 1) selects)))
-      ∙ so_far.known
+      ∙ known
 
+  -- the items of the select at i have tables that entries name
+  pub known_on : Ok select.items ≡ unless (unknown_table named select.items) select.items
+      → unknown_table named (all_items (drop (i + 1) selects)) ≡ unknown_table named (all_items selects)
+  known_on here = sym (ap (λ (o : Option Reason). option_or o (unknown_table named (all_items (drop (i + 1) selects)))) (none_unless _ _ _ here)) ∙ here_unknown
+
+  -- one of them has not
+  pub all_refused : {A : Type 0} (a : A) (e : Reason) → Pure (Is (unless (unknown_table named select.items) select.items)) (Err e)
+      → Pure (Is (unless (unknown_table named (all_items selects)) a)) (Err e)
+  all_refused a e =
+      pure_as (Is (unless (unknown_table named select.items) select.items)) (Is (unless (unknown_table named (all_items selects)) a)) e
+      (λ h. let here = some_unless _ e select.items h in
+      let all : unknown_table named (all_items selects) ≡ Some e =
+      sym here_unknown ∙ ap (λ (o : Option Reason). option_or o (unknown_table named (all_items (drop (i + 1) selects)))) here in
+      sym (ap (λ (o : Option Reason). unless o a) all))
+
+-- all selects were gone over
+pub all_known : (named : List (List ℕ × List ℕ)) (selects : List Select) (i : ℕ) → length selects ≤ i
+    → unknown_table named (all_items (drop i selects)) ≡ unknown_table named (all_items selects)
+    → {A : Type 0} (a : A) → Is (unless (unknown_table named (all_items selects)) a) (Ok a)
+all_known named selects i end known a =
+    let none : unknown_table named (all_items selects) ≡ None =
+    sym known ∙ ap (λ (l : List Select). unknown_table named (all_items l)) (drop_all i selects end) in
+    sym (ap (λ (o : Option Reason). unless o a) none)
+
+module _ (named : List (List ℕ × List ℕ)) (selects : List Select) (i : ℕ) (select : Select) (firsts : List (List ℕ × List ℕ)) (numbers : List ℕ)
+    (inside : i < length selects) (is : select ≡ get_or selects i select) (so_far : HasAllUses named selects i firsts numbers) where
   -- there is room for what the items of the select at i use
   pub all_room : length (all_items selects) ≤ 16 → length firsts + length select.items ≤ 16
   all_room limit =
@@ -104,28 +135,11 @@ module _ (named : List (List ℕ × List ℕ)) (selects : List Select) (i : ℕ)
   all_more now counted known uses =
       let P : List ItemRef → Type 0 = λ l. HasUses named l now counted in
       record {
-        known = sym (ap (λ (o : Option Reason). option_or o (unknown_table named (all_items (drop (i + 1) selects)))) (none_unless _ _ _ known)) ∙ here_unknown;
+        known = known_on named selects i select inside is so_far.known known;
         uses = subst P (sym (items_done selects i select inside is)) (uses (all_items (take i selects)) so_far.uses);
       }
 
-  -- one of them has not
-  pub all_refused : {A : Type 0} (a : A) (e : Reason) → Pure (Is (unless (unknown_table named select.items) select.items)) (Err e)
-      → Pure (Is (unless (unknown_table named (all_items selects)) a)) (Err e)
-  all_refused a e =
-      pure_as (Is (unless (unknown_table named select.items) select.items)) (Is (unless (unknown_table named (all_items selects)) a)) e
-      (λ h. let here = some_unless _ e select.items h in
-      let all : unknown_table named (all_items selects) ≡ Some e =
-      sym here_unknown ∙ ap (λ (o : Option Reason). option_or o (unknown_table named (all_items (drop (i + 1) selects)))) here in
-      sym (ap (λ (o : Option Reason). unless o a) all))
-
--- all selects were gone over
-module _ (named : List (List ℕ × List ℕ)) (selects : List Select) (i : ℕ) (firsts : List (List ℕ × List ℕ)) (numbers : List ℕ) (end : length selects ≤ i)
-    (h : HasAllUses named selects i firsts numbers) where
-  pub all_known : {A : Type 0} (a : A) → Is (unless (unknown_table named (all_items selects)) a) (Ok a)
-  all_known a =
-      let none : unknown_table named (all_items selects) ≡ None =
-      sym h.known ∙ ap (λ (l : List Select). unknown_table named (all_items l)) (drop_all i selects end) in
-      sym (ap (λ (o : Option Reason). unless o a) none)
-
-  pub all_used : HasUses named (all_items selects) firsts numbers
-  all_used = let P : List Select → Type 0 = λ l. HasUses named (all_items l) firsts numbers in subst P (take_all i selects end) h.uses
+pub all_used : (named : List (List ℕ × List ℕ)) (selects : List Select) (i : ℕ) (firsts : List (List ℕ × List ℕ)) (numbers : List ℕ) → length selects ≤ i
+    → HasAllUses named selects i firsts numbers → HasUses named (all_items selects) firsts numbers
+all_used named selects i firsts numbers end h =
+    let P : List Select → Type 0 = λ l. HasUses named (all_items l) firsts numbers in subst P (take_all i selects end) h.uses

@@ -18,3 +18,4 @@ pub mod Shapes
 pub mod Seeking
 pub mod Handing
 pub mod Singletons
+pub mod TableNumbers

@@ -7,3 +7,4 @@ pub mod StageViews
 pub mod InputFiles
 pub mod FilesRead
 pub mod BoundInputs
+pub mod TextInput

@@ -19,7 +19,7 @@ use Rattle.refusals.specs.Reason.{Reason}
 use Rattle.refusals.specs.RefusalReasons.{reason_of}
 use Rattle.verdict.specs.AcceptedInput.{queries_in}
 use Rattle.verdict.specs.Faults.{of_bind, of_parse}
-use Rattle.verdict.specs.Loading.{SideInput, Loaded, are_several, bound_in, told_branch}
+use Rattle.verdict.specs.Loading.{SideInput, Loaded, all_items, are_several, bound_from, table_numbers, told_branch}
 use Rattle.verdict.specs.StageResults.{Pure}
 use Rattle.verdict.specs.Stages.{Is}
 use Rattle.command_input.specs.declared.side_input.SideInput.{SideInput as BesideRead}
@@ -86,10 +86,14 @@ each_view selects queries (Ok _) = Ok (queries_in queries)
 each_view selects queries (Err fault) =
     Err (of_bind (told_branch (are_several selects) (length queries + 1)) fault)
 
--- what binding selects one after another gives
-pub record BindsEach (selects : List Select) (tables : List Table) (queries : List BoundQuery)
+-- what binding selects one after another gives; the numbers are those of the items' tables among
+-- any names
+pub record BindsEach (selects : List Select) (tables : List Table) (which : List ℕ)
+    (queries : List BoundQuery)
     (result : Result (Unit {0}) BindFault) : Type 0 where
-  pub bound : Pure (Is (bound_in selects tables)) (each_view selects queries result)
+  pub bound : (names : List (List ℕ)) → which ≡ table_numbers names (all_items selects)
+      → Pure (Is (bound_from names tables (are_several selects) 1 selects))
+      (each_view selects queries result)
   pub count : OnOk result (length queries ≡ length selects)
   pub fits : OnOk result (All (λ (q : BoundQuery). Fits q tables) queries)
   pub few : OnErr result (length queries < length selects)

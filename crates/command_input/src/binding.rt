@@ -1,5 +1,5 @@
 //! An input, and the binding of its queries to its tables.
-ghost use Rattle.std.specs.Prelude.{◌≡◌, ◌<◌, ◌≤◌, ◌+◌, [], None, IfOk, IfSome, length, option_map, position};
+ghost use Rattle.std.specs.Prelude.{◌≡◌, ◌<◌, ◌≤◌, ◌+◌, ℕ, List, [], None, IfOk, IfSome, length, option_map, position};
 ghost use Rattle.std.specs.List.{All, AllByRecursion};
 ghost use Rattle.std.specs.Str.{bytes_eq};
 ghost use Rattle.anyk_model.specs.Query.{Item};
@@ -8,14 +8,14 @@ ghost use Rattle.refusals.specs.Reason.{BranchShape};
 ghost use Rattle.refusals.specs.RefusalReasons.{reason_of};
 ghost use Rattle.verdict.specs.AcceptedInput.{queries_in};
 ghost use Rattle.verdict.specs.Faults.{of_bind};
-ghost use Rattle.verdict.specs.Loading.{SideInput as SideInputView, all_items, best_in, bound_in, first_uses};
+ghost use Rattle.verdict.specs.Loading.{SideInput as SideInputView, all_items, are_several, best_in, bound_from, first_uses};
 ghost use Rattle.verdict.specs.Loading.{have_directions, have_one_shape, odd_branch, table_numbers, told_branch};
 ghost use Rattle.session_script.specs.Script.{unless};
 ghost use Rattle.verdict.specs.Stages.{Is, then_by};
 ghost use Rattle.verdict.specs.StageResults.{Pure};
 ghost use Rattle.verdict.specs.Verdict.{IsBoundInput};
 ghost use Rattle.command_input.specs.Limits.{AreWithinLimits};
-ghost use Rattle.command_input.specs.BoundInputs.{IsWhole, bound_result_view};
+ghost use Rattle.command_input.specs.BoundInputs.{IsBoundTo, IsWhole, IsWholeOver, bound_result_view, selects_bound_view};
 ghost use Rattle.command_input.specs.StageViews.{BindsEach, item_result_view, queries_result_view};
 ghost use Rattle.command_input.specs.InputFiles.{sought_view};
 
@@ -71,6 +71,15 @@ impl Model for Input {
         }) };
 }
 
+impl Input {
+    /// The tables alone.
+    pub fn into_tables(self) -> Tables
+        ensures { result ≡ self.tables }
+    {
+        self.tables
+    }
+}
+
 /// The queries of the branches, bound to the tables.
 #[derive(Drop)]
 pub(crate) struct BoundInput {
@@ -78,6 +87,15 @@ pub(crate) struct BoundInput {
     pub(crate) queries: Vec<Query>,
     /// The tables, in the order of their first use.
     pub(crate) tables: Tables,
+    /// The item of which each row's best answer is asked for, from 0; none if no item is named.
+    pub(crate) best: Option<u32>,
+}
+
+/// The queries of the branches, bound to tables that stay where they are.
+#[derive(Drop)]
+pub(crate) struct BoundSelects {
+    /// The query of each branch; one query if there are no branches.
+    pub(crate) queries: Vec<Query>,
     /// The item of which each row's best answer is asked for, from 0; none if no item is named.
     pub(crate) best: Option<u32>,
 }
@@ -103,13 +121,39 @@ pub(crate) fn bound_to<'a>(
     ensures branches { IfOk result (λ bound. length bound.queries.items ≡ length selects.now) }
     ensures unnamed { sought.now.best_of ≡ None → IfOk result (λ bound. bound.best ≡ None) }
 {
-    let queries = bind_queries(alloc, selects, &tables, which)?;
-    let best = best_item(&queries, sought.best_of)?;
+    let bound = bound_over(alloc, sought.best_of, selects, &tables, which)?;
     Ok(BoundInput {
-        queries,
+        queries: bound.queries,
         tables,
-        best,
+        best: bound.best,
     })
+}
+
+/// These selects, bound to the tables, with the item that has this alias. `which` has the number of
+/// the table of each item of all selects, from 0: its place among names of any kind that the tables
+/// have. The error is as that of `bound_to`.
+pub(crate) fn bound_over<'a>(
+    alloc: Global,
+    best_of: Option<&str>,
+    selects: &[Select],
+    tables: &Tables,
+    which: &[u32],
+) -> Result<BoundSelects, Refusal<'a>>
+    requires limits { AreWithinLimits selects.now }
+    requires as_many { length which.now ≡ length (all_items selects.now) }
+    requires known { AllByRecursion (λ t. t < length tables.now) which.now }
+    ensures bound { let alias = option_map (λ alias. alias.now) best_of.entry in
+        (names : List (List ℕ)) (beside : SideInputView)
+        → which.now ≡ table_numbers names (all_items selects.now)
+        → Pure (IsBoundTo names alias tables.now selects.now beside)
+        (selects_bound_view tables.now beside result) }
+    ensures whole { IfOk result (IsWholeOver tables.now) }
+    ensures branches { IfOk result (λ bound. length bound.queries.items ≡ length selects.now) }
+    ensures unnamed { best_of.entry ≡ None → IfOk result (λ bound. bound.best ≡ None) }
+{
+    let queries = bind_queries(alloc, selects, tables, which)?;
+    let best = best_item(&queries, best_of)?;
+    Ok(BoundSelects { queries, best })
 }
 
 /// The queries of these selects over the tables, or the refusal for the first fault of binding.
@@ -120,10 +164,12 @@ fn bind_queries<'a>(
     which: &[u32],
 ) -> Result<Vec<Query>, Refusal<'a>>
     requires limits { AreWithinLimits selects.now }
-    requires numbers { let items = all_items selects.now in
-        which.now ≡ table_numbers (first_uses items) items }
+    requires as_many { length which.now ≡ length (all_items selects.now) }
     requires known { AllByRecursion (λ t. t < length tables.now) which.now }
-    ensures bound { Pure (Is (bound_in selects.now tables.now)) (queries_result_view result) }
+    ensures bound { (names : List (List ℕ))
+        → which.now ≡ table_numbers names (all_items selects.now)
+        → Pure (Is (bound_from names tables.now (are_several selects.now) 1 selects.now))
+        (queries_result_view result) }
     ensures count { IfOk result (λ queries. length queries.items ≡ length selects.now) }
     ensures fits { IfOk result (λ queries. All (λ q. Fits q tables.now) queries.items) }
 {
@@ -147,11 +193,10 @@ fn bind_each(
     queries: &mut Vec<Query>,
 ) -> Result<(), BindFault>
     requires limits { AreWithinLimits selects.now }
-    requires numbers { let items = all_items selects.now in
-        which.now ≡ table_numbers (first_uses items) items }
+    requires as_many { length which.now ≡ length (all_items selects.now) }
     requires known { AllByRecursion (λ t. t < length tables.now) which.now }
     requires none { queries.old.items ≡ [] }
-    ensures { BindsEach selects.now tables.now queries.new.items result }
+    ensures { BindsEach selects.now tables.now which.now queries.new.items result }
 {
     let mut rest = which;
     for select in selects {

@@ -1,10 +1,11 @@
 //! An input that is made from a number.
-ghost use Rattle.std.specs.Prelude.{◌≡◌, ◌∷◌, ◌++◌, [], IfOk, OnOk, length, map};
+ghost use Rattle.std.specs.Prelude.{◌≡◌, ◌∷◌, ◌++◌, [], false, IfOk, OnOk, length, map};
 ghost use Rattle.outer_io.specs.Entries.{entry_of};
 ghost use Rattle.verdict.specs.MadeFiles.{made_files};
 ghost use Rattle.verdict.specs.StageResults.{Pure};
 ghost use Rattle.verdict.specs.Verdict.{IsLoadedOn};
 ghost use Rattle.verdict.specs.Words.{load, input_files_of};
+ghost use Rattle.command_input.specs.InputFiles.{sought_view};
 ghost use Rattle.command_input.specs.StageViews.{input_result_view};
 
 use crate::binding::Input;
@@ -26,16 +27,24 @@ pub fn generate_input<'a>(alloc: Global, made: &'a MadeTables) -> Result<Input, 
         (input_result_view result) }
     ensures alone { IfOk result (λ input. length input.queries ≡ 1) }
 {
-    let sought = InputFiles {
+    let sought = asked_of_made(made);
+    match made_shelf(alloc, made) {
+        Ok(files) => read_files(alloc, &sought, &mut PureShelf::new(files), Keys::Known),
+        Err(_) => Err(Refusal::NoMemory),
+    }
+}
+
+/// The names of the query and of the tables.
+pub(crate) fn asked_of_made<'a>(made: &'a MadeTables) -> InputFiles<'a>
+    ensures asked { sought_view result ≡ input_files_of (load made.now.number made.now.rows) }
+    ensures one { result.several ≡ false }
+{
+    InputFiles {
         query: "load.sql",
         several: false,
         aside: SideFile::Nothing,
         named: made.named.as_slice(),
         best_of: None,
-    };
-    match made_shelf(alloc, made) {
-        Ok(files) => read_files(alloc, &sought, &mut PureShelf::new(files), Keys::Known),
-        Err(_) => Err(Refusal::NoMemory),
     }
 }
 

@@ -5,6 +5,9 @@
 //! file, the script or the certificate, a table that no word names, each table in the order of its
 //! first use, each branch bound to its tables, the shape of the branches, and the item whose alias
 //! is named. What a plan refuses comes after that, in the crates above.
+//!
+//! An input can also be read over tables that are there already. Then the query, and the script or
+//! the certificate, are bytes, and the order of refusals is the same without the files.
 #![tactic(auto)]
 
 mod binding;
@@ -19,6 +22,7 @@ mod side_input;
 mod table_uses;
 mod tables;
 mod task;
+mod text_input;
 
 pub use binding::Input;
 pub use generated::MadeTables;
@@ -28,3 +32,4 @@ pub use input_files::{InputFiles, SideFile};
 pub use reading_input::{read_files_of, read_input};
 pub use side_input::proof_refusal;
 pub use task::Task;
+pub use text_input::{TextInput, read_texts, read_texts_of};

@@ -3,16 +3,16 @@ ghost use Rattle.std.specs.Prelude.{◌≡◌, None, false, IfOk, Option, length
 ghost use Rattle.std.specs.String.{string_bytes};
 ghost use Rattle.cmd_words.specs.ArgumentMeaning.{words_view};
 ghost use Rattle.command_input.specs.StageViews.{input_result_view};
-ghost use Rattle.command_input.specs.InputFiles.{aside_view};
+ghost use Rattle.command_input.specs.InputFiles.{aside_view, sought_view};
 ghost use Rattle.verdict.specs.Outcome.{IsUntouched};
 ghost use Rattle.verdict.specs.StageResults.{shelved};
-ghost use Rattle.verdict.specs.Words.{a_command};
+ghost use Rattle.verdict.specs.Words.{a_command, input_files_of};
 ghost use Rattle.command_input.specs.Tasks.{words_of};
 ghost use Rattle.command_input.specs.Planned.{HasOne, IsLooked, IsLookedUp, sought_in};
 ghost use Rattle.command_input.specs.Tasks.{command_of};
 
 use crate::binding::Input;
-use crate::generated_input::generate_input;
+use crate::generated_input::{asked_of_made, generate_input};
 use crate::input::read_files;
 use crate::input_files::{InputFiles, SideFile};
 use crate::task::Task;
@@ -103,12 +103,45 @@ pub fn read_files_of<'a, F: Shelf>(
     ensures alone { several ≡ false → IfOk result (λ input. length input.queries ≡ 1) }
     ensures unnamed { best_of.entry ≡ None → IfOk result (λ input. input.best ≡ None) }
 {
-    let sought = InputFiles {
+    let sought = asked_in(words, several, aside, best_of);
+    read_files(alloc, &sought, shelf, keys)
+}
+
+/// What these words name, with this script or certificate and this alias.
+fn asked_in<'a>(
+    words: &'a Words,
+    several: bool,
+    aside: SideFile<'a>,
+    best_of: Option<&'a str>,
+) -> InputFiles<'a>
+    ensures asked { sought_view result ≡ sought_in (words_of (words_view words.now)) several
+        (aside_view aside.entry) (option_map (λ t. t.now) best_of.entry) }
+    ensures best_of { result.best_of ≡ best_of.entry }
+{
+    InputFiles {
         query: words.query.as_str(),
         several,
         aside,
         named: words.tables.as_slice(),
         best_of,
-    };
-    read_files(alloc, &sought, shelf, keys)
+    }
+}
+
+/// What a command reads.
+pub(crate) fn asked_of<'a>(task: &'a Task) -> InputFiles<'a>
+    ensures { sought_view result ≡ input_files_of (command_of task.now) }
+{
+    match task {
+        Task::Run(words) => asked_in(words, true, SideFile::Nothing, text_of(&words.best_of)),
+        Task::Plan(words) => asked_in(words, false, SideFile::Nothing, None),
+        Task::Session { script, words } => {
+            let aside = SideFile::Script(script.as_str());
+            asked_in(words, false, aside, text_of(&words.best_of))
+        }
+        Task::Load(_, made) => asked_of_made(made),
+        Task::Prove(words) => asked_in(words, false, SideFile::Nothing, None),
+        Task::Verify { proof, words } => {
+            asked_in(words, false, SideFile::Certificate(proof.as_str()), None)
+        }
+    }
 }

@@ -74,7 +74,7 @@ fn no_proof(alloc: Global) -> Proof
 
 /// The steps or the certificate that the bytes of the file are, or the refusal for their fault. If
 /// there is no file there are neither.
-fn said_beside<'a>(
+pub(crate) fn said_beside<'a>(
     alloc: Global,
     aside: SideFile<'_>,
     bytes: &[u8],

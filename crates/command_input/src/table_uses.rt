@@ -1,16 +1,16 @@
 //! The tables that the items use.
-ghost use Rattle.std.specs.Prelude.{◌≡◌, ◌+◌, ◌≤◌, ◌++◌, IfOk, OnOk, List, find, length, map, option_map};
+ghost use Rattle.std.specs.Prelude.{◌≡◌, ◌+◌, ◌≤◌, ◌++◌, IfOk, OnOk, List, find, length, map, option_map, position};
 ghost use Rattle.std.specs.List.{position_or_len};
 ghost use Rattle.std.specs.Str.{bytes_eq};
 ghost use Rattle.std.specs.String.{string_bytes};
 ghost use Rattle.query_select.specs.declared.select.ItemRef.{ItemRef as Item};
 ghost use Rattle.cmd_words.specs.NamedPairs.{named_pair};
 ghost use Rattle.refusals.specs.RefusalReasons.{reason_of};
-ghost use Rattle.verdict.specs.Loading.{all_items, unknown_table};
+ghost use Rattle.verdict.specs.Loading.{all_items, table_numbers, unknown_table};
 ghost use Rattle.session_script.specs.Script.{unless};
 ghost use Rattle.verdict.specs.Stages.{Is};
 ghost use Rattle.verdict.specs.StageResults.{Pure};
-ghost use Rattle.command_input.specs.Entries.{HasUses, with_entry};
+ghost use Rattle.command_input.specs.Entries.{HasUses, tables_of, with_entry};
 ghost use Rattle.command_input.specs.StageViews.{said_as, used_as, uses_reason};
 
 use cmd_words::Named;
@@ -152,4 +152,60 @@ fn number_of<'a>(firsts: &mut Vec<&'a Named>, entry: &'a Named) -> Result<u32, N
     }
     firsts.push(entry)?;
     Ok(number as u32)
+}
+
+/// For each item of all selects the number of its table, which is the place among these of the first
+/// entry that names it, from 0. `UnknownTable` at the first item whose table has no entry, and
+/// `NoMemory` if memory is refused.
+pub(crate) fn numbers_of<'a>(
+    alloc: Global,
+    named: &[Named],
+    selects: &[Select],
+) -> Result<Vec<u32>, Refusal<'a>>
+    requires { length named.now ≤ 16 }
+    ensures known { let words = map named_pair named.now in
+        Pure (Is (unless (unknown_table words (all_items selects.now)) selects.now))
+        (said_as selects.now result) }
+    ensures numbers { let names = tables_of (map named_pair named.now) in
+        IfOk result (λ numbers. numbers.items ≡ table_numbers names (all_items selects.now)) }
+{
+    let mut numbers = Vec::new(alloc);
+    for select in selects {
+        match add_numbers(named, select.items.as_slice(), &mut numbers) {
+            Ok(()) => {}
+            Err(fault) => return Err(uses_refusal(fault)),
+        }
+    }
+    Ok(numbers)
+}
+
+/// Puts the numbers of these items' tables after the others. `UnknownTable` at the first item whose
+/// table has no entry, and `NoMemory` if memory is refused.
+fn add_numbers(named: &[Named], items: &[ItemRef], numbers: &mut Vec<u32>) -> Result<(), UsesFault>
+    requires { length named.now ≤ 16 }
+    ensures known { let words = map named_pair named.now in
+        Pure (Is (unless (unknown_table words items.now) items.now)) (used_as items.now result) }
+    ensures numbers { let names = tables_of (map named_pair named.now) in
+        OnOk result (numbers.new.items ≡ numbers.old.items ++ table_numbers names items.now) }
+{
+    for item in items {
+        let Some(number) = place_of(named, item.table.bytes()) else {
+            return Err(UsesFault::UnknownTable(item.at));
+        };
+        numbers.push(number)?;
+    }
+    Ok(())
+}
+
+/// The place of the first entry for this table, from 0, if there is one.
+fn place_of(named: &[Named], table: &[u8]) -> Option<u32>
+    requires { length named.now ≤ 16 }
+    ensures { result ≡ position (λ e. bytes_eq (string_bytes e.table) table.now) named.now }
+{
+    for place in 0..named.len() {
+        if named[place].table.as_bytes() == table {
+            return Some(place as u32);
+        }
+    }
+    None
 }

@@ -1,87 +1,42 @@
-use Rattle.std.proofs.Common.{Err, arith}
+use Rattle.std.proofs.Common.{◌∙◌, ap, length}
 use Rattle.std.proofs.lemmas.Result.{IfOk-from_err}
-use Rattle.refusals.specs.RefusalReasons.{reason_of}
-use Rattle.verdict.specs.AcceptedInput.{queries_in}
-use Rattle.verdict.specs.Loading.{bound_in, loaded_in}
-use Rattle.verdict.specs.Stages.{Is, followed}
-use Rattle.verdict.proofs.Staging.{pure_found, pure_refused}
-use Rattle.command_input.specs.InputFiles.{sought_view}
+use Rattle.verdict.specs.Loading.{all_items, first_uses}
 use Rattle.verdict.specs.StageResults.{Pure}
 use Rattle.verdict.specs.Verdict.{IsBoundInput}
+use Rattle.command_input.specs.InputFiles.{sought_view}
 use Rattle.command_input.specs.BoundInputs.{bound_result_view}
+use Rattle.command_input.proofs.BoundQueries.{numbers_length}
 use Rattle.command_input.proofs.Handing.{handed_with}
-use Rattle.command_input.proofs.Best.{found_shaped, item_found, item_refused}
-use Rattle.command_input.proofs.Shapes.{keys_none_odd}
 use Rattle.command_input.proofs.binding.bound_to.Goals as goal
 
-pub returns-in_err-queries : goal.returns-in_err-queries
-returns-in_err-queries c = record {
+pub returns-in_err-bound : goal.returns-in_err-bound
+returns-in_err-bound c = record {
   bound =
       λ beside.
       let sought = sought_view c.args.sought.now in
-      handed_with (λ r. Pure (IsBoundInput sought c.args.selects.now c.args.tables beside) (bound_result_view beside r)) c.from_residual.result c.in_err-queries.field-0.0 c.from_residual.ensures.1
-      (pure_refused (Is (bound_in c.args.selects.now c.args.tables)) (λ queries. Is (loaded_in sought.best_of queries c.args.tables beside)) _ c.in_err-queries.ensures.bound);
+      let items = all_items c.args.selects.now in
+      handed_with (λ r. Pure (IsBoundInput sought c.args.selects.now c.args.tables beside) (bound_result_view beside r)) c.from_residual.result c.in_err-bound.field-0.0 c.from_residual.ensures.1
+      (c.in_err-bound.ensures.bound (first_uses items) beside c.requires.numbers);
   whole = IfOk-from_err c.from_residual.result _ c.from_residual.ensures.0;
   branches = IfOk-from_err c.from_residual.result _ c.from_residual.ensures.0;
   unnamed = λ _. IfOk-from_err c.from_residual.result _ c.from_residual.ensures.0;
 }
 
-pub returns-in_err-best : goal.returns-in_err-best
-returns-in_err-best c = record {
-  bound =
-      λ beside.
-      let sought = sought_view c.args.sought.now in
-      let queries = queries_in c.in_ok-queries.queries.items in
-      let reason = reason_of c.in_err-best.field-0.0 in
-      handed_with (λ r. Pure (IsBoundInput sought c.args.selects.now c.args.tables beside) (bound_result_view beside r)) c.from_residual-in_err-best.result c.in_err-best.field-0.0 c.from_residual-in_err-best.ensures.1
-      (pure_found (Is (bound_in c.args.selects.now c.args.tables)) (λ queries. Is (loaded_in sought.best_of queries c.args.tables beside)) queries (Err reason) c.in_ok-queries.ensures.bound
-      (item_refused queries c.args.tables beside sought.best_of reason (rw c.deref.ensures.value at c.in_err-best.ensures.best)));
-  whole = IfOk-from_err c.from_residual-in_err-best.result _ c.from_residual-in_err-best.ensures.0;
-  branches = IfOk-from_err c.from_residual-in_err-best.result _ c.from_residual-in_err-best.ensures.0;
-  unnamed = λ _. IfOk-from_err c.from_residual-in_err-best.result _ c.from_residual-in_err-best.ensures.0;
-}
-
 pub returns : goal.returns
 returns c = record {
-  bound =
-      λ beside.
-      let queries = queries_in c.in_ok-queries.queries.items in
-      followed {a = queries} c.in_ok-queries.ensures.bound
-      (item_found queries c.args.tables beside (sought_view c.args.sought.now).best_of c.in_ok-best.best (rw c.deref.ensures.value at c.in_ok-best.ensures.best));
-  whole =
-      λ steps proof kept.
-      let queries = queries_in c.in_ok-queries.queries.items in
-      let as_many = c.in_ok-queries.ensures.count in
-      let some = c.requires.limits.some in
-      let few = c.requires.limits.few in
-      let best = rw c.deref.ensures.value at c.in_ok-best.ensures.best in
-      record {
-        some = omega (arith, as_many, some);
-        few = omega (arith, as_many, few);
-        fits = c.in_ok-queries.ensures.fits;
-        keys = keys_none_odd queries (found_shaped (sought_view c.args.sought.now).best_of queries c.in_ok-best.best best);
-        item = rw c.deref.ensures.value at c.in_ok-best.ensures.item;
-        rules = kept;
-      };
-  branches = c.in_ok-queries.ensures.count;
-  unnamed = c.in_ok-best.ensures.unnamed;
+  bound = λ beside. c.in_ok-bound.ensures.bound (first_uses (all_items c.args.selects.now)) beside c.requires.numbers;
+  whole = c.in_ok-bound.ensures.whole;
+  branches = c.in_ok-bound.ensures.branches;
+  unnamed = c.in_ok-bound.ensures.unnamed;
 }
 
-pub bind_queries-requires-clause-limits : goal.bind_queries-requires-clause-limits
-bind_queries-requires-clause-limits c = c.requires.limits
+pub bound_over-requires-clause-limits : goal.bound_over-requires-clause-limits
+bound_over-requires-clause-limits c = c.requires.limits
 
-pub bind_queries-requires-clause-numbers : goal.bind_queries-requires-clause-numbers
-bind_queries-requires-clause-numbers c = c.requires.numbers
+pub bound_over-requires-clause-as_many : goal.bound_over-requires-clause-as_many
+bound_over-requires-clause-as_many c =
+    let items = all_items c.args.selects.now in
+    ap length c.requires.numbers ∙ numbers_length (first_uses items) items
 
-pub bind_queries-requires-clause-known : goal.bind_queries-requires-clause-known
-bind_queries-requires-clause-known c = c.requires.known
-
-pub best_item-requires-clause-some : goal.best_item-requires-clause-some
-best_item-requires-clause-some c =
-    let as_many = c.in_ok-queries.ensures.count in
-    let some = c.requires.limits.some in rw c.deref.ensures.value (omega (arith, as_many, some))
-
-pub best_item-requires-clause-few : goal.best_item-requires-clause-few
-best_item-requires-clause-few c =
-    let as_many = c.in_ok-queries.ensures.count in
-    let few = c.requires.limits.few in rw c.deref.ensures.value (omega (arith, as_many, few))
+pub bound_over-requires-clause-known : goal.bound_over-requires-clause-known
+bound_over-requires-clause-known c = c.requires.known

@@ -22,14 +22,12 @@ returns-in-Ok c = record {
       let number = c.args.made.now.number in
       let rows = c.args.made.now.rows in
       let asked : InputFiles = input_files_of (load number rows) in
-      let names : map named_pair c.as_slice.result.now ≡ table_files = ap (map named_pair) c.as_slice.ensures.value ∙ c.args.made.now.names in
       let held : c.new.result.files ≡ made_files number rows = ap (λ (s : Holding). s.files) c.new.ensures ∙ c.in-Ok.ensures in
-      let of : Named → InputFiles = λ named. record { query = query_file; several = false; aside = nothing; named = named; best_of = None } in
-      let P : Named → Type 0 = λ named. IsStageOf (IsLoadedOn (of named)) (IsTurn (of named)) (Some c.new.result.files) (input_result_view c.read_files.result) in
+      let P : InputFiles → Type 0 = λ sought. IsStageOf (IsLoadedOn sought) (IsTurn sought) (Some c.new.result.files) (input_result_view c.read_files.result) in
       let Q : Files → Type 0 = λ files. IsStageOf (IsLoadedOn asked) (IsTurn asked) (Some files) (input_result_view c.read_files.result) in
       let old : Shelved = record { files = Some c.new.result.files; misses = c.new.result.misses; faults = 0; taken = c.new.result.taken } in
       let new : Shelved = record { files = Some c.read_files.new.shelf.files; misses = c.read_files.new.shelf.misses; faults = 0; taken = c.read_files.new.shelf.taken } in
       pure_told (IsLoadedOn asked) (IsTurn asked) (made_files number rows) old new (input_result_view c.read_files.result)
-      (made_none number rows c.args.made.now.few_rows (input_result_view c.read_files.result)) (subst Q held (subst P names c.read_files.ensures.staged.fits)) refl refl c.read_files.ensures.staged.caused;
-  alone = c.read_files.ensures.alone refl;
+      (made_none number rows c.args.made.now.few_rows (input_result_view c.read_files.result)) (subst Q held (subst P c.asked_of_made-sought.ensures.asked c.read_files.ensures.staged.fits)) refl refl c.read_files.ensures.staged.caused;
+  alone = c.read_files.ensures.alone c.asked_of_made-sought.ensures.one;
 }

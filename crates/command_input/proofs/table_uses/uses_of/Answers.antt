@@ -23,8 +23,8 @@ returns-in-Err c =
     let P : Reason → Type 0 = λ a. Pure (Is (unless (unknown_table (map named_pair c.args.named.now) (all_items selects)) selects)) (Err a) in
     record {
       known = subst P (sym c.uses_refusal.ensures)
-          (all_refused (map named_pair c.args.named.now) selects c.loop-select.select-index c.select-item.result _ _ c.loop-select-test.true c.select-item.is
-          c.loop-select.invariant selects (uses_reason c.in-Err.fault) (rw c.as_slice.ensures at c.in-Err.ensures.known));
+          (all_refused (map named_pair c.args.named.now) selects c.loop-select.select-index c.select-item.result c.loop-select-test.true c.select-item.is
+          c.loop-select.invariant.known selects (uses_reason c.in-Err.fault) (rw c.as_slice.ensures at c.in-Err.ensures.known));
       used = tt;
     }
 
@@ -35,6 +35,6 @@ loop-select-preserved c =
 
 pub returns : goal.returns
 returns c = record {
-  known = all_known (map named_pair c.args.named.now) c.args.selects.now c.loop-select.select-index _ _ (omega (arith, c.loop-select-test.false)) c.loop-select.invariant c.args.selects.now;
+  known = all_known (map named_pair c.args.named.now) c.args.selects.now c.loop-select.select-index (omega (arith, c.loop-select-test.false)) c.loop-select.invariant.known c.args.selects.now;
   used = all_used (map named_pair c.args.named.now) c.args.selects.now c.loop-select.select-index _ _ (omega (arith, c.loop-select-test.false)) c.loop-select.invariant;
 }
