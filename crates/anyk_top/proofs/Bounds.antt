@@ -1,6 +1,6 @@
 -- The steps of a command, if its input is accepted.
 use Rattle.std.proofs.Common.{◌≡◌, ◌<◌, ◌≤◌, ◌+◌, ◌++◌, ℕ, Bool, true, false, if◌then◌else◌, List, [], ◌∷◌}
-use Rattle.std.proofs.Common.{length, take, Option, Some, None, Result, Ok, refl, sym, subst, arith}
+use Rattle.std.proofs.Common.{length, take, Option, Some, Result, Ok, refl, sym, subst, arith}
 use Rattle.std.specs.List.{sum_by}
 use Rattle.std.proofs.lemmas.Bool.{false≢true, lt-ltb, ltb-false}
 use Rattle.std.proofs.lemmas.List.{length-map}
@@ -8,7 +8,7 @@ use Rattle.std.proofs.lemmas.List.Sums.{sum_by-cons}
 use Rattle.anyk_model.specs.Output.{cut}
 use Rattle.anyk_model.specs.Query.{Query}
 use Rattle.anyk_model.specs.Table.{Table}
-use Rattle.outer_io.specs.Files.{Files}
+use Rattle.outer_io.specs.SinkState.{SinkState}
 use Rattle.bound_query.specs.Shape.{Shape}
 use Rattle.refusals.specs.Reason.{Reason}
 use Rattle.output_model.specs.SessionCalls.{session_reach}
@@ -19,18 +19,19 @@ use Rattle.anyk_model.specs.UnionOutput.{union_output_of}
 use Rattle.bound_query.specs.WeighedQuery.{BoundQuery}
 use Rattle.command_input.specs.Input.{InputView, loaded_of}
 use Rattle.plan_build.specs.Plans.{ArePrepared, preparation_of}
-use Rattle.verdict.specs.Bound.{IsBounded, IsPaced, IsPrompt, KeepsCommandBound, cost_of}
+use Rattle.verdict.specs.Bound.{IsPaced, KeepsCommandBound, cost_of}
 use Rattle.verdict.specs.AcceptedInput.{AcceptedInput, found_of, is_union, queries_in, query_of, structure_of}
 use Rattle.verdict.specs.Loading.{are_several}
 use Rattle.verdict.specs.Output.{answers_text, asked_list, members_of, style_of, tagged_of}
 use Rattle.verdict.specs.Stages.{followed}
 use Rattle.verdict.specs.UnionBound.{HaveShapes, union_cost, union_records}
-use Rattle.verdict.specs.Verdict.{IsStructured}
-use Rattle.verdict.specs.Words.{Asked, Command, Words, a_command, run, plan, session, load, prove, verify}
+use Rattle.verdict.specs.Verdict.{IsShaped}
+use Rattle.verdict.specs.Words.{Command, Words, run, plan, session, load, prove, verify}
 use Rattle.verdict.proofs.Structure.{shapes_had}
-use Rattle.anyk_top.specs.Plans.{IsEarlyFor, IsEarlyWithin}
+use Rattle.anyk_top.specs.Answering.{KeepsSteps}
+use Rattle.anyk_top.proofs.EarlyPlans.{IsEarlyFor, input_prepared}
 use Rattle.anyk_top.proofs.Prepared.{prepared_over, union_prepared}
-use Rattle.command_input.proofs.Judging.{verdict_structured}
+use Rattle.command_input.specs.Planned.{HasOne}
 
 -- ---- the steps of a preparation
 
@@ -89,25 +90,18 @@ paced_prepared (verify proof words) found old new before now have h = tt
 same_found : {a b : AcceptedInput} → ◌≡◌ {A = Result AcceptedInput Reason} (Ok a) (Ok b) → a ≡ b
 same_found e = cc
 
--- what is accepted has a structure for each query
-found_shaped : (asked : Asked) (files : Files) (found : AcceptedInput) → IsStructured asked files (Ok found)
-    → HaveShapes found.tables found.queries found.shapes
-found_shaped asked files found (followed {a = loaded} loads (followed {a = shapes} are same)) =
-    subst (λ (f : AcceptedInput). HaveShapes f.tables f.queries f.shapes) (sym (same_found same))
-    (shapes_had (are_several loaded.queries) 1 loaded.tables loaded.queries shapes are)
-
-pub bounded_early : (command : Command) (told : Option Files) (before now : ℕ) → IsEarlyWithin command told before now
-    → IsBounded (a_command command) told before now
-bounded_early command None before now h = tt
-bounded_early command (Some files) before now h = λ found verdict.
-    within_prepared command found before now (found_shaped (a_command command) files found (verdict_structured command files found verdict)) (h found verdict)
-
-pub prompt_early : (command : Command) (told : Option Files) (old new : Option (List ℕ)) (before now : ℕ)
-    → IsEarlyWithin command told before now
-    → IsPrompt (a_command command) told old new before now
-prompt_early command None old new before now h = tt
-prompt_early command (Some files) old new before now h = λ found verdict.
-    paced_prepared command found old new before now (found_shaped (a_command command) files found (verdict_structured command files found verdict)) (h found verdict)
+-- the plans of an input were prepared, and nothing more was done
+pub kept_early : (command : Command) (input : InputView) (found : AcceptedInput) (old new : SinkState) (before now : ℕ)
+    → HasOne command input → ArePrepared (queries_in input.queries) input.tables before now
+    → IsShaped (loaded_of input) (Ok found) → KeepsSteps command found old new before now
+kept_early command input found old new before now one prepared (followed {a = shapes} are same) =
+    let whole : AcceptedInput = found_of (loaded_of input) shapes in
+    let have = shapes_had (are_several (queries_in input.queries)) 1 input.tables (queries_in input.queries) shapes are in
+    let early = input_prepared command input shapes before now one prepared in
+    subst (λ (f : AcceptedInput). KeepsSteps command f old new before now) (sym (same_found same)) (record {
+      bounded = within_prepared command whole before now have early;
+      paced = paced_prepared command whole old.written new.written before now have early;
+    })
 
 -- # Several queries
 

@@ -4,3 +4,4 @@ pub mod Prepared
 pub mod UnionRun
 pub mod EarlyPlans
 pub mod PlanList
+pub mod Answering

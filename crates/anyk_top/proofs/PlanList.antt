@@ -15,11 +15,11 @@ use Rattle.anyk_model.specs.Table.{Table}
 use Rattle.hyper_graph.specs.Items.{items_of}
 use Rattle.plan_build.specs.Plan.{IsPlanOf, PlanView, shape_of}
 use Rattle.plan_build.specs.Faults.{TellsFlaw}
-use Rattle.plan_build.specs.RankedPlan.{IsRankedPlan, fixed_key, key_of_packed}
+use Rattle.plan_build.specs.RankedPlan.{IsRankedPlan, fixed_key, key_of_packed, key_of_wide_packed}
 use Rattle.plan_build.specs.declared.fault.PlanFault.{PlanFault}
 use Rattle.plan_build.specs.declared.fault.PlanFault.TheVariants as fault
 use Rattle.plan_build.specs.declared.ranked_plan.RankedPlan.{RankedPlan}
-use Rattle.plan_build.specs.declared.ranked_plan.RankedPlan.TheVariants.{Lex, MiddleSum, Packed, SmallLex, Sum}
+use Rattle.plan_build.specs.declared.ranked_plan.RankedPlan.TheVariants.{Lex, MiddleSum, Packed, SmallLex, Sum, WidePacked}
 use Rattle.plan_build.proofs.Rooted.{whole_of}
 use Rattle.plan_build.proofs.ShapeIs.{plan_shape}
 use Rattle.plan_build.specs.Plans.{ArePrepared, HavePlans, preparation_of}
@@ -56,6 +56,7 @@ pub planned_shown : (query : BoundQuery) (tables : List Table) (best : Option �
     → IsRankedPlan query tables best made
     → Pure (IsStructure None tables query.query) (Ok (shape_in made))
 planned_shown query tables best (Packed made) is = plan_structured 1 key_of_packed query tables best made is
+planned_shown query tables best (WidePacked made) is = plan_structured 1 key_of_wide_packed query tables best made is
 planned_shown query tables best (MiddleSum made) is = plan_structured 1 (fixed_key 1 8) query tables best made is
 planned_shown query tables best (Sum made) is = plan_structured 1 (fixed_key 1 16) query tables best made is
 planned_shown query tables best (SmallLex made) is = plan_structured 2 (fixed_key 2 4) query tables best made is
@@ -299,6 +300,7 @@ one_item (Some item) queries query only h =
 pub one_plan : (queries : List BoundQuery) (tables : List Table) (best : Option ℕ) (query : BoundQuery) → queries ≡ query ∷ []
     → (made : RankedPlan) → IsRankedPlan query tables best made → IsOnePlan queries tables best made
 one_plan queries tables best query only (Packed made) h = record { query = query; only = only; is_plan = h }
+one_plan queries tables best query only (WidePacked made) h = record { query = query; only = only; is_plan = h }
 one_plan queries tables best query only (MiddleSum made) h = record { query = query; only = only; is_plan = h }
 one_plan queries tables best query only (Sum made) h = record { query = query; only = only; is_plan = h }
 one_plan queries tables best query only (SmallLex made) h = record { query = query; only = only; is_plan = h }

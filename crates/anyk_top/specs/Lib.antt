@@ -3,3 +3,4 @@ pub mod CommandLine
 pub mod Endings
 pub mod Plans
 pub mod OutputPrinting
+pub mod Answering

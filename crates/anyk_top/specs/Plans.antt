@@ -1,17 +1,16 @@
 -- The plans of an accepted input, as the verdict sees them.
 use Rattle.std.specs.Prelude.{◌≡◌, ◌<◌, ℕ, List, [], ◌∷◌, length, map}
-use Rattle.std.specs.Prelude.{Option, IfSome, Result, Ok, Err, Vec}
+use Rattle.std.specs.Prelude.{Option, Result, Ok, Err, Vec}
 use Rattle.std.specs.Global.{Global}
 use Rattle.anyk_model.specs.Table.{Table}
 use Rattle.hyper_graph.specs.Items.{items_of}
-use Rattle.outer_io.specs.Files.{Files}
 use Rattle.plan_build.specs.Plan.{IsPlanOf, PlanView, shape_of}
-use Rattle.plan_build.specs.Plans.{ArePrepared, HavePlans}
-use Rattle.plan_build.specs.RankedPlan.{fixed_key, key_of_packed}
+use Rattle.plan_build.specs.Plans.{HavePlans}
+use Rattle.plan_build.specs.RankedPlan.{fixed_key, key_of_packed, key_of_wide_packed}
 use Rattle.plan_build.specs.declared.fault.PlanFault.{PlanFault}
 use Rattle.plan_build.specs.declared.fault.PlanFault.TheVariants as fault
 use Rattle.plan_build.specs.declared.ranked_plan.RankedPlan.{RankedPlan}
-use Rattle.plan_build.specs.declared.ranked_plan.RankedPlan.TheVariants.{Lex, MiddleSum, Packed, SmallLex, Sum}
+use Rattle.plan_build.specs.declared.ranked_plan.RankedPlan.TheVariants.{Lex, MiddleSum, Packed, SmallLex, Sum, WidePacked}
 use Rattle.bound_query.specs.WeighedQuery.{BoundQuery}
 use Rattle.bound_query.specs.Shape.{Shape}
 use Rattle.proof_model.specs.Certificate.{Certificate}
@@ -21,22 +20,19 @@ use Rattle.refusals.specs.declared.refusal.Refusal.{Refusal}
 use Rattle.refusals.specs.Reason as reason
 use Rattle.refusals.specs.Reason.{Reason}
 use Rattle.refusals.specs.RefusalReasons.{reason_of}
-use Rattle.bound_query.specs.RunBounds.{IsPrepared}
-use Rattle.command_input.specs.Input.{InputView, loaded_of}
-use Rattle.verdict.specs.AcceptedInput.{AcceptedInput, found_of, query_of}
+use Rattle.command_input.specs.Input.{InputView}
+use Rattle.verdict.specs.AcceptedInput.{AcceptedInput, found_of}
 use Rattle.verdict.specs.Loading.{Loaded}
-use Rattle.verdict.specs.Verdict.{IsVerdict}
-use Rattle.verdict.specs.Words.{Command, a_command, run, plan, session, load, prove, verify}
-use Rattle.anyk_top.specs.declared.planning.Planned.{Planned}
 use Rattle.anyk_top.specs.declared.planning.Unplanned.{Unplanned}
 use Rattle.anyk_top.specs.declared.planning.Plans.{Plans}
-use Rattle.anyk_top.specs.declared.planning.Plans.TheVariants.{One, PackedSums, MiddleSums, Sums, Lexes}
+use Rattle.anyk_top.specs.declared.planning.Plans.TheVariants.{One, PackedSums, WidePackedSums, MiddleSums, Sums, Lexes}
 
 -- ---- the structures that plans show
 
 -- the join tree of a plan, with the numbers of its node rows
 abbrev pub shape_in : RankedPlan → Shape
 shape_in (Packed made) = shape_of made
+shape_in (WidePacked made) = shape_of made
 shape_in (MiddleSum made) = shape_of made
 shape_in (Sum made) = shape_of made
 shape_in (SmallLex made) = shape_of made
@@ -49,6 +45,7 @@ shapes_of plans = map shape_of plans
 abbrev pub shapes_in : Plans → List Shape
 shapes_in (One made) = shape_in made ∷ []
 shapes_in (PackedSums plans) = shapes_of plans.items
+shapes_in (WidePackedSums plans) = shapes_of plans.items
 shapes_in (MiddleSums plans) = shapes_of plans.items
 shapes_in (Sums plans) = shapes_of plans.items
 shapes_in (Lexes plans) = shapes_of plans.items
@@ -65,12 +62,9 @@ found_by query tables best steps proof shape = record {
   proof = proof;
 }
 
-abbrev pub found_in : Planned → AcceptedInput
-found_in planned = found_of (loaded_of planned.input) (shapes_in planned.plans)
-
-abbrev pub planned_result_view : Result Planned Refusal → Result AcceptedInput Reason
-planned_result_view (Ok planned) = Ok (found_in planned)
-planned_result_view (Err refusal) = Err (reason_of refusal)
+abbrev pub planned_result_view : Loaded → Result Plans Refusal → Result AcceptedInput Reason
+planned_result_view loaded (Ok plans) = Ok (found_of loaded (shapes_in plans))
+planned_result_view loaded (Err refusal) = Err (reason_of refusal)
 
 -- the branch is told if there are several
 abbrev pub plan_reason : Option ℕ → PlanFault → Reason
@@ -105,6 +99,8 @@ pub record IsOnePlanOf {R : Type 0} (d : ℕ) (key : R → KeyOf d 16) (queries 
 -- the same with the ranks that its order needs
 abbrev pub IsOnePlan : List BoundQuery → List Table → Option ℕ → RankedPlan → Type 0
 IsOnePlan queries tables best (Packed made) = IsOnePlanOf 1 key_of_packed queries tables best made
+IsOnePlan queries tables best (WidePacked made) =
+    IsOnePlanOf 1 key_of_wide_packed queries tables best made
 IsOnePlan queries tables best (MiddleSum made) =
     IsOnePlanOf 1 (fixed_key 1 8) queries tables best made
 IsOnePlan queries tables best (Sum made) = IsOnePlanOf 1 (fixed_key 1 16) queries tables best made
@@ -123,25 +119,7 @@ AreSeveral d key input plans = (1 < length input.queries)
 abbrev pub ArePlans : InputView → Plans → Type 0
 ArePlans input (One made) = IsOnePlan input.queries input.tables input.best made
 ArePlans input (PackedSums plans) = AreSeveral 1 key_of_packed input plans.items
+ArePlans input (WidePackedSums plans) = AreSeveral 1 key_of_wide_packed input plans.items
 ArePlans input (MiddleSums plans) = AreSeveral 1 (fixed_key 1 8) input plans.items
 ArePlans input (Sums plans) = AreSeveral 1 (fixed_key 1 16) input plans.items
 ArePlans input (Lexes plans) = AreSeveral 8 (fixed_key 8 16) input plans.items
-
--- ---- the steps of the preparation
-
--- No more steps than the preparation of the plans of what is found may take: `run` may have several
--- queries, and each other command has one. Nothing is said of the steps of `prove` and `verify`.
-abbrev pub IsEarlyFor : Command → AcceptedInput → ℕ → ℕ → Type 0
-IsEarlyFor (run words) found before now = ArePrepared found.queries found.tables before now
-IsEarlyFor (plan words) found before now = IsPrepared (query_of found) found.tables before now
-IsEarlyFor (session script words) found before now = IsPrepared
-    (query_of found) found.tables before now
-IsEarlyFor (prove words) found before now = Unit {0}
-IsEarlyFor (verify proof words) found before now = Unit {0}
-IsEarlyFor (load number rows) found before now = IsPrepared (query_of found) found.tables before now
-
--- if the files are known and the input is accepted, preparation took no more steps than it may take
-abbrev pub IsEarlyWithin : Command → Option Files → ℕ → ℕ → Type 0
-IsEarlyWithin command told before now =
-    IfSome told (λ files. (found : AcceptedInput) → IsVerdict (a_command command) files (Ok found)
-    → IsEarlyFor command found before now)

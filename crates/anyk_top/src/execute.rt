@@ -13,10 +13,11 @@ ghost use Rattle.verdict.specs.MadeFiles.{files_of_call};
 ghost use Rattle.verdict.specs.Execution.{IsExecuted};
 ghost use Rattle.verdict.specs.Outcome.{IsUntouched};
 ghost use Rattle.verdict.specs.Words.{a_command};
+ghost use Rattle.anyk_top.specs.Answering.{IsAnswered};
 ghost use Rattle.anyk_top.specs.OutputPrinting.{PrintsOutput};
 ghost use Rattle.command_input.specs.Planned.{HasOne, IsPlanned, IsUnnamed};
 ghost use Rattle.anyk_top.specs.Plans.{ArePlans, IsOnePlan, IsOnePlanOf, found_by};
-ghost use Rattle.anyk_top.specs.Plans.{found_in, shape_in, shapes_of};
+ghost use Rattle.anyk_top.specs.Plans.{shape_in, shapes_in, shapes_of};
 ghost use Rattle.command_input.specs.Tasks.{command_of};
 ghost use Rattle.verdict.specs.OutsideOf.{outside_before};
 
@@ -24,13 +25,13 @@ use crate::certificate::print_certificate;
 use crate::load::print_load;
 use crate::plan::print_report;
 use crate::planned_query::{PlannedQueries, PlannedQuery};
-use crate::planning::{Planned, Plans, plan_task};
+use crate::planning::{Plans, plan_input};
 use crate::run::print_run;
 use crate::session::print_script;
 use crate::style::style_in;
 use crate::union::print_union_run;
-use command_input::{Input, Task};
-use command_verify::execute_verify;
+use command_input::{Input, Task, read_input};
+use command_verify::verify_input;
 use hash_keys::Keys;
 use outer_io::{PrintFault, Shelf, Sink};
 use plan_build::{Plan, RankedPlan};
@@ -58,34 +59,45 @@ pub(crate) fn execute<'a, F: Shelf, S: Sink, L: Ledger>(
         steps.old steps.new result }
     ensures untouched { IsUntouched (a_command (command_of task.now)) shelf.old shelf.new }
 {
+    let input = read_input(alloc, task, shelf, keys)?;
+    answer_input(alloc, task, &input, out, steps)
+}
+
+/// Answers a command over its input: plans its queries or checks its certificate, and prints the
+/// command's output. The result is an error if a query has no plan, if the certificate is not
+/// valid, if a write failed, or if memory is refused.
+pub fn answer_input<'a, S: Sink, L: Ledger>(
+    alloc: Global,
+    task: &Task,
+    input: &Input,
+    out: &mut S,
+    steps: &mut Steps<L>,
+) -> Result<(), Refusal<'a>>
+    requires alone { HasOne (command_of task.now) input.now }
+    ensures answered { IsAnswered (command_of task.now) (loaded_of input.now)
+        (state_of S.Sink out.old) (state_of S.Sink out.new) steps.old steps.new result }
+{
     match task {
-        Task::Verify { proof, words } => {
-            execute_verify(alloc, proof.as_str(), words, shelf, out, keys, steps)
-        }
-        _ => execute_planned(alloc, task, shelf, out, keys, steps),
+        Task::Verify { words, .. } => verify_input(alloc, words, input, out, steps),
+        _ => answer_planned(alloc, task, input, out, steps),
     }
 }
 
-/// Reads or makes the input of the command, plans its query, and prints the command's output. The
-/// result is an error if the input is refused, if a read or a write failed, or if memory is
-/// refused.
-pub fn execute_planned<'a, F: Shelf, S: Sink, L: Ledger>(
+/// Plans the queries of the input, and prints the command's output.
+fn answer_planned<'a, S: Sink, L: Ledger>(
     alloc: Global,
-    task: &'a Task,
-    shelf: &mut F,
+    task: &Task,
+    input: &Input,
     out: &mut S,
-    keys: Keys,
     steps: &mut Steps<L>,
 ) -> Result<(), Refusal<'a>>
-    requires { IsPlanned (command_of task.now) }
-    ensures executed { let command = command_of task.now in
-        IsExecuted command (files_of_call (a_command command) (F.files shelf.old))
-        (outside_before F.Shelf S.Sink shelf.old out.old) (outside_before F.Shelf S.Sink shelf.new out.new)
-        steps.old steps.new result }
-    ensures untouched { IsUntouched (a_command (command_of task.now)) shelf.old shelf.new }
+    requires alone { HasOne (command_of task.now) input.now }
+    requires planned { IsPlanned (command_of task.now) }
+    ensures answered { IsAnswered (command_of task.now) (loaded_of input.now)
+        (state_of S.Sink out.old) (state_of S.Sink out.new) steps.old steps.new result }
 {
-    match plan_task(alloc, task, shelf, keys, steps) {
-        Ok(planned) => refused(print_planned(alloc, task, &planned, out, steps)),
+    match plan_input(alloc, input, steps) {
+        Ok(plans) => refused(print_planned(alloc, task, &plans, input, out, steps)),
         Err(refusal) => Err(refusal),
     }
 }
@@ -94,22 +106,25 @@ pub fn execute_planned<'a, F: Shelf, S: Sink, L: Ledger>(
 fn print_planned<S: Sink, L: Ledger>(
     alloc: Global,
     task: &Task,
-    planned: &Planned,
+    plans: &Plans,
+    input: &Input,
     out: &mut S,
     steps: &mut Steps<L>,
 ) -> Result<(), PrintFault>
-    requires plans { ArePlans planned.now.input planned.now.plans }
-    requires alone { HasOne (command_of task.now) planned.now.input }
+    requires plans { ArePlans input.now plans.now }
+    requires alone { HasOne (command_of task.now) input.now }
     requires planned { IsPlanned (command_of task.now) }
-    ensures { PrintsOutput (command_of task.now) (found_in planned.now)
-        (λ before. ArePrepared (queries_in planned.now.input.queries) planned.now.input.tables
-        before steps.old)
+    ensures { PrintsOutput (command_of task.now)
+        (found_of (loaded_of input.now) (shapes_in plans.now))
+        (λ before. ArePrepared (queries_in input.now.queries) input.now.tables before steps.old)
         (state_of S.Sink out.old) (state_of S.Sink out.new) steps.new result }
 {
-    let Planned { input, plans } = planned;
     match plans {
         Plans::One(plan) => print_one(alloc, task, plan, input, out, steps),
         Plans::PackedSums(plans) => {
+            print_branches(alloc, task, plans.as_slice(), input, out, steps)
+        }
+        Plans::WidePackedSums(plans) => {
             print_branches(alloc, task, plans.as_slice(), input, out, steps)
         }
         Plans::MiddleSums(plans) => {
@@ -139,6 +154,7 @@ fn print_one<S: Sink, L: Ledger>(
 {
     match plan {
         RankedPlan::Packed(plan) => print_plan(alloc, task, plan, input, out, steps),
+        RankedPlan::WidePacked(plan) => print_plan(alloc, task, plan, input, out, steps),
         RankedPlan::MiddleSum(plan) => print_plan(alloc, task, plan, input, out, steps),
         RankedPlan::Sum(plan) => print_plan(alloc, task, plan, input, out, steps),
         RankedPlan::SmallLex(plan) => print_plan(alloc, task, plan, input, out, steps),

@@ -1,5 +1,5 @@
-//! The input of a command, with the plans of its queries.
-ghost use Rattle.std.specs.Prelude.{◌≡◌, ◌<◌, ◌≤◌, None, true, IfErr, IfOk, IfSome, length};
+//! The plans of the queries of an input.
+ghost use Rattle.std.specs.Prelude.{◌≡◌, ◌<◌, ◌≤◌, None, true, IfOk, IfSome, length};
 ghost use Rattle.std.specs.List.{All};
 ghost use Rattle.command_input.specs.Input.{loaded_of};
 ghost use Rattle.node_build.specs.Nodes.{CapsBelow};
@@ -8,36 +8,22 @@ ghost use Rattle.bound_query.specs.WeighedQuery.{Fits};
 ghost use Rattle.refusals.specs.RefusalReasons.{reason_of};
 ghost use Rattle.bound_query.specs.RunBounds.{IsPrepared};
 ghost use Rattle.verdict.specs.AcceptedInput.{queries_in};
-ghost use Rattle.verdict.specs.MadeFiles.{files_of_call};
-ghost use Rattle.verdict.specs.Outcome.{IsUntouched};
-ghost use Rattle.verdict.specs.StageResults.{Pure, shelved};
+ghost use Rattle.verdict.specs.StageResults.{Pure};
 ghost use Rattle.verdict.specs.Verdict.{AreStructures, IsShaped, IsStructure};
-ghost use Rattle.verdict.specs.Words.{a_command};
-ghost use Rattle.command_input.specs.Planned.{HasOne, IsJudged, IsPlanned};
-ghost use Rattle.anyk_top.specs.Plans.{ArePlans, IsEarlyWithin, plan_reason};
+ghost use Rattle.anyk_top.specs.Plans.{ArePlans, plan_reason};
 ghost use Rattle.anyk_top.specs.Plans.{plans_result_view, planned_result_view, several_result_view, shapes_result_view};
-ghost use Rattle.command_input.specs.Tasks.{command_of};
 
 use bound_query::Query;
-use command_input::{Input, Task, read_input};
-use hash_keys::Keys;
-use outer_io::Shelf;
+use command_input::Input;
 use plan_build::{
     Plan, PlanFault, RankedPlan, have_packed_room, have_places, prepare, prepare_ranked,
 };
-use rank_key::{LexRank, MiddleSumRank, PackedRank, Rank, SumRank};
+use rank_key::{LexRank, MiddleSumRank, PackedRank, Rank, SumRank, WidePackedRank};
 use refusals::Refusal;
 use std::alloc::{AllocError, AllocFailed, Global};
 use std::sync::ledger::Ledger;
 use step_counter::Steps;
 use table_store::Tables;
-
-/// An accepted input, with the plans of its queries.
-#[derive(Drop)]
-pub struct Planned {
-    pub input: Input,
-    pub plans: Plans,
-}
 
 /// The plans of an input's queries, with the ranks that their order needs.
 #[derive(Drop)]
@@ -46,6 +32,8 @@ pub enum Plans {
     One(RankedPlan),
     /// The plans of several queries in order, with ranks in one number.
     PackedSums(Vec<Plan<PackedRank>>),
+    /// The plans of several queries in order, with ranks in two numbers, for at most seven items.
+    WidePackedSums(Vec<Plan<WidePackedRank>>),
     /// The plans of several queries in order, with ranks of one sum, for at most eight items.
     MiddleSums(Vec<Plan<MiddleSumRank>>),
     /// The plans of several queries in order, with ranks of one sum, for up to 16 items.
@@ -54,31 +42,20 @@ pub enum Plans {
     Lexes(Vec<Plan<LexRank>>),
 }
 
-/// The input of a command that plans its queries, with their plans, or the first refusal. `Cyclic`
-/// if a query has no join tree, and `TooManyNodeRows` if more of its rows pass than the limit, in
-/// all nodes together.
-pub fn plan_task<'a, F: Shelf, L: Ledger>(
+/// The plans of the input's queries, or the first refusal: `Cyclic` if a query has no join tree, and
+/// `TooManyNodeRows` if more of its rows pass than the limit, in all nodes together.
+pub fn plan_input<'a, L: Ledger>(
     alloc: Global,
-    task: &'a Task,
-    shelf: &mut F,
-    keys: Keys,
+    input: &Input,
     steps: &mut Steps<L>,
-) -> Result<Planned, Refusal<'a>>
-    requires { IsPlanned (command_of task.now) }
-    ensures judged { IsJudged (command_of task.now)
-        (shelved F.Shelf shelf.old) (shelved F.Shelf shelf.new)
-        (planned_result_view result) }
-    ensures untouched { IsUntouched (a_command (command_of task.now)) shelf.old shelf.new }
-    ensures plans { IfOk result (λ p. ArePlans p.input p.plans) }
-    ensures alone { IfOk result (λ p. HasOne (command_of task.now) p.input) }
-    ensures cost { IfOk result (λ p.
-        ArePrepared (queries_in p.input.queries) p.input.tables steps.old steps.new) }
-    ensures early { IfErr result (λ refusal. IsEarlyWithin (command_of task.now)
-        (files_of_call (a_command (command_of task.now)) (F.files shelf.old)) steps.old steps.new) }
+) -> Result<Plans, Refusal<'a>>
+    ensures judged { Pure (IsShaped (loaded_of input.now))
+        (planned_result_view (loaded_of input.now) result) }
+    ensures plans { IfOk result (ArePlans input.now) }
+    ensures cost { ArePrepared (queries_in input.now.queries) input.now.tables steps.old steps.new }
 {
-    let input = read_input(alloc, task, shelf, keys)?;
-    match plans_of(alloc, &input, steps) {
-        Ok(plans) => Ok(Planned { input, plans }),
+    match plans_of(alloc, input, steps) {
+        Ok(plans) => Ok(plans),
         Err(unplanned) => Err(plan_refusal(unplanned.branch, unplanned.fault)),
     }
 }
@@ -142,8 +119,10 @@ fn plans_of<L: Ledger>(
             }),
         };
     }
-    if have_packed_room(queries) {
+    if have_packed_room(queries, 4) {
         Ok(Plans::PackedSums(plans_for(alloc, input, steps)?))
+    } else if have_packed_room(queries, 7) {
+        Ok(Plans::WidePackedSums(plans_for(alloc, input, steps)?))
     } else if have_places(queries, 1, 8) {
         Ok(Plans::MiddleSums(plans_for(alloc, input, steps)?))
     } else if first.keys() <= 1 {

@@ -1,5 +1,5 @@
 -- An input whose certificate is checked.
-use Rattle.std.proofs.Common.{◌≡◌, ◌∙◌, ℕ, zero, suc, List, [], ◌∷◌, length, map, take, slice_index, inl, inr, Option, None, Result, Ok, Err, Some, refl, sym, ap, subst, arith}
+use Rattle.std.proofs.Common.{◌≡◌, ◌∙◌, ℕ, zero, suc, List, [], ◌∷◌, length, map, take, slice_index, inl, inr, Option, None, Result, Ok, Err, refl, sym, ap, subst, arith}
 use Rattle.std.specs.List.{AllByRecursion}
 use Rattle.std.proofs.lemmas.List.{length-map}
 use Rattle.anyk_model.specs.Output.{output_of}
@@ -23,8 +23,7 @@ use Rattle.bound_query.specs.declared.fault.ShapeFault.TheVariants as cycle
 use Rattle.bound_query.specs.Shape.{HasNodeRows, HasShape, HasTree, IsShape, Shape, cyclic, too_many_rows}
 use Rattle.bound_query.specs.JoinTreeView.{HasStoredTree, TellsCycle}
 use Rattle.rankings.specs.Order.{IsMember}
-use Rattle.outer_io.specs.Files.{Files}
-use Rattle.outer_io.proofs.Prints.{appends_nothing, printed_some}
+use Rattle.outer_io.proofs.Prints.{appends_nothing}
 use Rattle.refusals.specs.PrintRefusals as print
 use Rattle.outer_io.specs.Printing.{Printed}
 use Rattle.outer_io.specs.SinkState.{SinkState}
@@ -36,25 +35,16 @@ use Rattle.refusals.specs.Reason as reason
 use Rattle.refusals.specs.Reason.{Reason}
 use Rattle.session_script.specs.declared.step.Step.{Step}
 use Rattle.command_input.specs.Input.{InputView, loaded_of}
-use Rattle.command_input.specs.FilesRead.{IsTurn}
 use Rattle.verdict.specs.Faults.{of_proof}
-use Rattle.verdict.specs.Bound.{IsBounded, IsPrompt}
-use Rattle.verdict.specs.Execution.{IsExecuted}
-use Rattle.verdict.specs.Outcome.{GotNothing, Outside}
-use Rattle.verdict.specs.Output.{HasOutput, answers_text, style_of}
+use Rattle.verdict.specs.Output.{answers_text, style_of}
 use Rattle.verdict.specs.AcceptedInput.{AcceptedInput, found_of, queries_in}
 use Rattle.verdict.specs.Loading.{Loaded}
-use Rattle.verdict.specs.StageResults.{NoTurn, Pure, Shelved}
+use Rattle.verdict.specs.StageResults.{Pure}
 use Rattle.verdict.specs.Stages.{Then, followed, refused}
-use Rattle.verdict.specs.Verdict.{IsLoadedOn, IsShaped, IsStructure, IsVerdict, IsVerified}
-use Rattle.verdict.specs.Words.{IsNamed, Words, a_command, verify, input_files_of}
-use Rattle.verdict.proofs.Printed.{printed_caused, printed_complete, printed_cut, printed_fits}
-use Rattle.verdict.proofs.Staging.{found_within, pure_staged}
-use Rattle.command_input.proofs.Ends.{judged_accepts, judged_caused, judged_cut, judged_reason}
-use Rattle.command_input.proofs.Telling.{pure_result}
+use Rattle.verdict.specs.Verdict.{IsShaped, IsStructure, IsVerified}
+use Rattle.verdict.specs.Words.{Words}
 use Rattle.command_verify.specs.Verifications.{HasAnswers, IsCheckedFor, IsShown, check_reason, rejected, shape_reason, shown}
 use Rattle.command_verify.specs.declared.fault.CheckFault.{CheckFault}
-use Rattle.command_input.specs.Planned.{IsJudgedOn, IsLookedUp}
 
 -- ---- stages that read no file
 
@@ -68,12 +58,6 @@ pure_wider G H (reason.TooLarge name) wider h = h
 pure_wider G H reason.WriteFault wider h = h
 pure_wider G H reason.Usage wider h = h
 pure_wider G H e wider h = wider h
-
--- three stages are two, and then one
-then_both : {A B C : Type 0} (First : Result A Reason → Type 0) (Second : A → Result B Reason → Type 0) (Third : B → Result C Reason → Type 0)
-    (a : A) (r : Result C Reason) → First (Ok a) → Then (Second a) Third r → Then (Then First Second) Third r
-then_both First Second Third a _ g (refused h) = refused (followed g h)
-then_both First Second Third a _ g (followed s t) = followed (followed g s) t
 
 -- a query without a join tree
 pub cycle_told : (query : Query) (tables : List Table) (told : ShapeFault) → TellsCycle query told
@@ -107,20 +91,6 @@ module _ (query : Query) (tables : List Table) (best : Option ℕ) (steps : List
       by (refused flawed) = refused (one_flawed e flawed)
       by (followed {a = shape} structured flaw) =
           followed {a = found_of loaded (shape ∷ [])} (one_shaped shape structured) (refused flaw)
-
--- what is loaded, and is then verified or refused, has that verdict
-pub looked_verified : (proof : List ℕ) (words : Words) (old new : Shelved) (loaded : Loaded) (r : Result AcceptedInput Reason)
-    → IsLookedUp (input_files_of (verify proof words)) old new (Ok loaded) → Pure (Then (IsShaped loaded) IsVerified) r
-    → IsJudgedOn (verify proof words) old new r
-looked_verified proof words old new loaded r h verified =
-    let command = verify proof words in
-    record {
-      staged = found_within (IsLoadedOn (input_files_of command)) (IsTurn (input_files_of command))
-          (λ files. Then (IsShaped loaded) IsVerified) NoTurn (IsVerdict (a_command command)) (IsTurn (input_files_of command))
-          old new new loaded r (λ files g v. then_both (IsLoadedOn (input_files_of command) files) IsShaped IsVerified loaded r g v)
-          (λ files name g no_turn. absurd no_turn) h.staged (pure_staged (Then (IsShaped loaded) IsVerified) new r verified);
-      tells = pure_result (IsNamed (input_files_of command)) (Then (IsShaped loaded) IsVerified) r verified;
-    }
 
 -- ---- the join tree that is stored is that of the structure
 
@@ -227,7 +197,7 @@ rejected_in words input query only s fault refusal same checked =
     let told = checked_refused query.query input.tables input.best input.steps input.proof (check_reason fault) checked in
     let P : List BoundQuery → Reason → Type 0 = λ qs a. Pure (IsTold input qs) (Err a) in
     rejected {refusal = refusal} (subst (λ (qs : List BoundQuery). P qs (reason_of refusal)) (sym only) (subst (P (query ∷ [])) (sym same) told))
-    (appends_nothing s.written)
+    (appends_nothing s.written) (omega arith)
 
 -- the answers are rows of the items
 combine_all : (query : Query) (tables : List Table) (n : ℕ) (answers : List (List ℕ))
@@ -260,62 +230,3 @@ answers_shown words input shape answers h =
     }) in
     ap (output_of h.query.query input.tables (style_of words)) h.listed
     ∙ sym (ap (text (h.query ∷ [])) h.unnamed) ∙ sym (ap (λ (qs : List BoundQuery). text qs input.best) h.only)
-
--- ---- how the command ends
-
--- nothing is said of the steps of `verify`
-any_steps : (proof : List ℕ) (words : Words) (told : Option Files) (before now : ℕ) → IsBounded (a_command (verify proof words)) told before now
-any_steps proof words None before now = tt
-any_steps proof words (Some files) before now = λ found verdict. tt
-
-any_pace : (proof : List ℕ) (words : Words) (told : Option Files) (old new : Option (List ℕ)) (before now : ℕ)
-    → IsPrompt (a_command (verify proof words)) told old new before now
-any_pace proof words None old new before now = tt
-any_pace proof words (Some files) old new before now = λ found verdict. tt
-
--- the counts of the shelf, as the outside has them
-abbrev shelf_of : Option Files → Outside → Shelved
-shelf_of files outside =
-    record { files = files; misses = outside.misses; faults = outside.read_faults; taken = outside.taken }
-
--- and those of the sink for the output
-abbrev sink_of : Outside → SinkState
-sink_of outside = record { written = outside.output; faults = outside.write_faults }
-
--- the input or its certificate was refused, and nothing was written
-pub refused_ends : (proof : List ℕ) (words : Words) (files files' : Option Files) (old new : Outside) (before now : ℕ) (refusal : Refusal)
-    → IsJudgedOn (verify proof words) (shelf_of files old) (shelf_of files' new) (Err (reason_of refusal)) → GotNothing old new
-    → IsExecuted (verify proof words) files old new before now (Err refusal)
-refused_ends proof words files files' old new before now refusal judged nothing =
-    let command = verify proof words in
-    let a = reason_of refusal in
-    record {
-      done = tt;
-      fits = judged_reason command (shelf_of files old) (shelf_of files' new) a judged;
-      caused = judged_caused command old new files files' a judged;
-      cut = judged_cut command (shelf_of files old) (shelf_of files' new) old new a judged nothing;
-      bounded = any_steps proof words files before now;
-      prompt = any_pace proof words files old.output new.output before now;
-    }
-
--- after the input was read
-pub verified_ends : (proof : List ℕ) (words : Words) (files files' : Option Files) (old new : Outside) (before now : ℕ) (loaded : Loaded)
-    (r : Result (Unit {0}) Refusal) → IsLookedUp (input_files_of (verify proof words)) (shelf_of files old) (shelf_of files' new) (Ok loaded)
-    → IsShown words loaded (sink_of old) (sink_of new) r → IsExecuted (verify proof words) files old new before now r
-verified_ends proof words files files' old new before now loaded _ looked (rejected {refusal} told nothing) =
-    refused_ends proof words files files' old new before now refusal
-    (looked_verified proof words (shelf_of files old) (shelf_of files' new) loaded (Err (reason_of refusal)) looked told) nothing
-verified_ends proof words files files' old new before now loaded _ looked (shown shape r verified printed) =
-    let command = verify proof words in
-    let found = found_of loaded (shape ∷ []) in
-    let judged = looked_verified proof words (shelf_of files old) (shelf_of files' new) loaded (Ok found) looked verified in
-    let accepts = judged_accepts command (shelf_of files old) (shelf_of files' new) found judged in
-    let some = printed_some (HasOutput command found) (sink_of old) (sink_of new) _ r refl printed in
-    record {
-      done = printed_complete command files old new found r accepts some.whole;
-      fits = printed_fits command files old new found accepts r some.cause;
-      caused = printed_caused command files old new found accepts r some.cause;
-      cut = printed_cut command files old new found accepts r some.part tt;
-      bounded = any_steps proof words files before now;
-      prompt = any_pace proof words files old.output new.output before now;
-    }

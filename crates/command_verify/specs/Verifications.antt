@@ -1,5 +1,5 @@
 -- An input whose certificate is checked.
-use Rattle.std.specs.Prelude.{◌≡◌, ℕ, List, [], ◌∷◌, None, Result, Ok, Err}
+use Rattle.std.specs.Prelude.{◌≡◌, ◌≤◌, ℕ, List, [], ◌∷◌, None, Result, Ok, Err}
 use Rattle.std.specs.Io.KnownBytes.{Appends}
 use Rattle.anyk_model.specs.Output.{cut}
 use Rattle.anyk_model.specs.Query.{Query}
@@ -58,7 +58,8 @@ pub data IsShown (words : Words) (loaded : Loaded) (old new : SinkState)
     : Result (Unit {0}) Refusal → Type 0 where
   rejected : {refusal : Refusal}
       → Pure (Then (IsShaped loaded) IsVerified) (Err (reason_of refusal))
-      → Appends old.written new.written [] → IsShown words loaded old new (Err refusal)
+      → Appends old.written new.written [] → old.faults ≤ new.faults
+      → IsShown words loaded old new (Err refusal)
   shown : (shape : ShapeView) (printed : Result (Unit {0}) PrintFault)
       → Then (IsShaped loaded) IsVerified (Ok (found_of loaded (shape ∷ [])))
       → Printed old new (answers_text words (found_of loaded (shape ∷ []))) printed

@@ -7,51 +7,24 @@ ghost use Rattle.outer_io.specs.Printing.{Printed};
 ghost use Rattle.outer_io.specs.SinkState.{state_of};
 ghost use Rattle.verdict.specs.AcceptedInput.{found_of};
 ghost use Rattle.verdict.specs.Output.{answers_text};
-ghost use Rattle.verdict.specs.Execution.{IsExecuted};
-ghost use Rattle.verdict.specs.Words.{verify};
 ghost use Rattle.command_input.specs.Tasks.{words_of};
 ghost use Rattle.command_verify.specs.Verifications.{HasAnswers, IsShown};
-ghost use Rattle.verdict.specs.OutsideOf.{outside_before};
 
 use crate::checking::check_proof;
 use crate::fault::check_refusal;
 use crate::printing::print_listed;
 use answer_print::Style;
 use cmd_words::Words;
-use command_input::{Input, SideFile, read_files_of};
-use hash_keys::Keys;
-use outer_io::{PrintFault, Shelf, Sink};
+use command_input::Input;
+use outer_io::{PrintFault, Sink};
 use refusals::{Refusal, refused};
 use std::alloc::Global;
 use std::sync::ledger::Ledger;
 use step_counter::Steps;
 
-/// Reads the input of `verify`, checks its certificate, and prints the answers that it lists. The
-/// result is an error if the input is refused, if the certificate is not valid, if a read or a
-/// write failed, or if memory is refused.
-pub fn execute_verify<'a, F: Shelf, S: Sink, L: Ledger>(
-    alloc: Global,
-    proof: &'a str,
-    words: &'a Words,
-    shelf: &mut F,
-    out: &mut S,
-    keys: Keys,
-    steps: &mut Steps<L>,
-) -> Result<(), Refusal<'a>>
-    ensures { IsExecuted (verify proof.now (words_of (words_view words.now))) (F.files shelf.old)
-        (outside_before F.Shelf S.Sink shelf.old out.old) (outside_before F.Shelf S.Sink shelf.new out.new)
-        steps.old steps.new result }
-{
-    let aside = SideFile::Certificate(proof);
-    match read_files_of(alloc, words, false, aside, None, shelf, keys) {
-        Ok(input) => print_verified(alloc, words, &input, out, steps),
-        Err(refusal) => Err(refusal),
-    }
-}
-
 /// Checks the certificate of the input, and prints the answers that it lists. The result is an
 /// error if the certificate is not valid, if a write failed, or if memory is refused.
-fn print_verified<'a, S: Sink, L: Ledger>(
+pub fn verify_input<'a, S: Sink, L: Ledger>(
     alloc: Global,
     words: &Words,
     input: &Input,

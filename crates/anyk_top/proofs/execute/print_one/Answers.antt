@@ -12,6 +12,18 @@ print_plan-requires-clause-planned g c = c.requires.planned
 pub returns-in-Packed : goal.returns-in-Packed
 returns-in-Packed g c = rw c.in-Packed.is c.print_plan.ensures
 
+pub print_plan-requires-in-WidePacked-clause-plan : goal.print_plan-requires-in-WidePacked-clause-plan
+print_plan-requires-in-WidePacked-clause-plan g c = rw c.in-WidePacked.is at c.requires.plan
+
+pub print_plan-requires-in-WidePacked-clause-alone : goal.print_plan-requires-in-WidePacked-clause-alone
+print_plan-requires-in-WidePacked-clause-alone g c = c.requires.alone
+
+pub print_plan-requires-in-WidePacked-clause-planned : goal.print_plan-requires-in-WidePacked-clause-planned
+print_plan-requires-in-WidePacked-clause-planned g c = c.requires.planned
+
+pub returns-in-WidePacked : goal.returns-in-WidePacked
+returns-in-WidePacked g c = rw c.in-WidePacked.is c.print_plan-in-WidePacked.ensures
+
 pub print_plan-requires-in-MiddleSum-clause-plan : goal.print_plan-requires-in-MiddleSum-clause-plan
 print_plan-requires-in-MiddleSum-clause-plan g c = rw c.in-MiddleSum.is at c.requires.plan
 

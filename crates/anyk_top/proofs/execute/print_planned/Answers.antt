@@ -28,6 +28,22 @@ print_branches-requires-clause-plans g c =
 pub returns-in-PackedSums : goal.returns-in-PackedSums
 returns-in-PackedSums g c = rw c.in-PackedSums.is (rw c.as_slice.ensures.value at c.print_branches.ensures)
 
+pub print_branches-requires-in-WidePackedSums-clause-several : goal.print_branches-requires-in-WidePackedSums-clause-several
+print_branches-requires-in-WidePackedSums-clause-several g c =
+    let plans = rw c.in-WidePackedSums.is at c.requires.plans in
+    plans.0
+
+pub print_branches-requires-in-WidePackedSums-clause-alone : goal.print_branches-requires-in-WidePackedSums-clause-alone
+print_branches-requires-in-WidePackedSums-clause-alone g c = c.requires.alone
+
+pub print_branches-requires-in-WidePackedSums-clause-plans : goal.print_branches-requires-in-WidePackedSums-clause-plans
+print_branches-requires-in-WidePackedSums-clause-plans g c =
+    let plans = rw c.in-WidePackedSums.is at c.requires.plans in
+    rw c.as_slice-in-WidePackedSums.ensures.value plans.1
+
+pub returns-in-WidePackedSums : goal.returns-in-WidePackedSums
+returns-in-WidePackedSums g c = rw c.in-WidePackedSums.is (rw c.as_slice-in-WidePackedSums.ensures.value at c.print_branches-in-WidePackedSums.ensures)
+
 pub print_branches-requires-in-MiddleSums-clause-several : goal.print_branches-requires-in-MiddleSums-clause-several
 print_branches-requires-in-MiddleSums-clause-several g c =
     let plans = rw c.in-MiddleSums.is at c.requires.plans in

@@ -55,29 +55,59 @@ have_packed_room-requires g c = (c.input.inside.tables, rw c.as_slice-queries.en
 pub plans_for-requires-clause-keys : goal.plans_for-requires-clause-keys
 plans_for-requires-clause-keys g c =
     let input = input_view c.input.inside in
-    let room : All (λ q. HasRoom q input.tables packed_room) input.queries =
+    let room : All (λ q. HasRoom q input.tables (packed_room 4)) input.queries =
     rw c.as_slice-queries.ensures.value at
     ((c.have_packed_room.ensures input.tables (rw c.as_slice-queries.ensures.value c.input.invariant.fits)).0 c.if-have_packed_room.true) in
     subst (λ (i : InputView). All (λ q. length q.query.order ≤ 1) i.queries) c.input.view_is
-    (All-weaker (λ q. HasRoom q input.tables packed_room) (λ q. length q.query.order ≤ 1) (λ q r. r.keys) input.queries room)
+    (All-weaker (λ q. HasRoom q input.tables (packed_room 4)) (λ q. length q.query.order ≤ 1) (λ q r. r.keys) input.queries room)
 
 pub plans_for-requires-clause-slots : goal.plans_for-requires-clause-slots
 plans_for-requires-clause-slots g c few =
     let input = input_view c.input.inside in
-    let room : All (λ q. HasRoom q input.tables packed_room) input.queries =
+    let room : All (λ q. HasRoom q input.tables (packed_room 4)) input.queries =
     rw c.as_slice-queries.ensures.value at
     ((c.have_packed_room.ensures input.tables (rw c.as_slice-queries.ensures.value c.input.invariant.fits)).0 c.if-have_packed_room.true) in
     subst (λ (i : InputView). All (λ q. length q.query.items ≤ 4) i.queries) c.input.view_is
-    (All-weaker (λ q. HasRoom q input.tables packed_room) (λ q. length q.query.items ≤ 4) (λ q r. r.items) input.queries room)
+    (All-weaker (λ q. HasRoom q input.tables (packed_room 4)) (λ q. length q.query.items ≤ 4) (λ q r. r.items) input.queries room)
 
 pub plans_for-requires-clause-limit : goal.plans_for-requires-clause-limit
 plans_for-requires-clause-limit g c =
     let input = input_view c.input.inside in
-    let room : All (λ q. HasRoom q input.tables packed_room) input.queries =
+    let room : All (λ q. HasRoom q input.tables (packed_room 4)) input.queries =
     rw c.as_slice-queries.ensures.value at
     ((c.have_packed_room.ensures input.tables (rw c.as_slice-queries.ensures.value c.input.invariant.fits)).0 c.if-have_packed_room.true) in
     subst (λ (i : InputView). All (λ q. CapsBelow (2 ^ 43) q i.tables) i.queries) c.input.view_is
-    (All-weaker (λ q. HasRoom q input.tables packed_room) (λ q. CapsBelow (2 ^ 43) q input.tables) (λ q r. r.limit) input.queries room)
+    (All-weaker (λ q. HasRoom q input.tables (packed_room 4)) (λ q. CapsBelow (2 ^ 43) q input.tables) (λ q r. r.limit) input.queries room)
+
+pub have_packed_room-requires-else-have_packed_room : goal.have_packed_room-requires-else-have_packed_room
+have_packed_room-requires-else-have_packed_room g c = (c.input.inside.tables, rw c.as_slice-queries.ensures.value c.input.invariant.fits)
+
+pub plans_for-requires-then-have_packed_room-2-clause-keys : goal.plans_for-requires-then-have_packed_room-2-clause-keys
+plans_for-requires-then-have_packed_room-2-clause-keys g c =
+    let input = input_view c.input.inside in
+    let room : All (λ q. HasRoom q input.tables (packed_room 7)) input.queries =
+    rw c.as_slice-queries.ensures.value at
+    ((c.have_packed_room-else-have_packed_room.ensures input.tables (rw c.as_slice-queries.ensures.value c.input.invariant.fits)).0 c.if-have_packed_room-2.true) in
+    subst (λ (i : InputView). All (λ q. length q.query.order ≤ 1) i.queries) c.input.view_is
+    (All-weaker (λ q. HasRoom q input.tables (packed_room 7)) (λ q. length q.query.order ≤ 1) (λ q r. r.keys) input.queries room)
+
+pub plans_for-requires-then-have_packed_room-2-clause-slots : goal.plans_for-requires-then-have_packed_room-2-clause-slots
+plans_for-requires-then-have_packed_room-2-clause-slots g c few =
+    let input = input_view c.input.inside in
+    let room : All (λ q. HasRoom q input.tables (packed_room 7)) input.queries =
+    rw c.as_slice-queries.ensures.value at
+    ((c.have_packed_room-else-have_packed_room.ensures input.tables (rw c.as_slice-queries.ensures.value c.input.invariant.fits)).0 c.if-have_packed_room-2.true) in
+    subst (λ (i : InputView). All (λ q. length q.query.items ≤ 7) i.queries) c.input.view_is
+    (All-weaker (λ q. HasRoom q input.tables (packed_room 7)) (λ q. length q.query.items ≤ 7) (λ q r. r.items) input.queries room)
+
+pub plans_for-requires-then-have_packed_room-2-clause-limit : goal.plans_for-requires-then-have_packed_room-2-clause-limit
+plans_for-requires-then-have_packed_room-2-clause-limit g c =
+    let input = input_view c.input.inside in
+    let room : All (λ q. HasRoom q input.tables (packed_room 7)) input.queries =
+    rw c.as_slice-queries.ensures.value at
+    ((c.have_packed_room-else-have_packed_room.ensures input.tables (rw c.as_slice-queries.ensures.value c.input.invariant.fits)).0 c.if-have_packed_room-2.true) in
+    subst (λ (i : InputView). All (λ q. CapsBelow (2 ^ 43) q i.tables) i.queries) c.input.view_is
+    (All-weaker (λ q. HasRoom q input.tables (packed_room 7)) (λ q. CapsBelow (2 ^ 43) q input.tables) (λ q r. r.limit) input.queries room)
 
 pub plans_for-requires-then-have_places-clause-limit : goal.plans_for-requires-then-have_places-clause-limit
 plans_for-requires-then-have_places-clause-limit g c =

@@ -8,9 +8,9 @@ use Rattle.command_input.specs.Input.{InputView, loaded_of}
 use Rattle.command_input.specs.Tasks.{words_of}
 use Rattle.command_verify.specs.Verifications.{HasAnswers, IsShown}
 use Rattle.command_verify.proofs.Verifying.{rejected_in, shown_in}
-use Rattle.command_verify.proofs.verify.print_verified.Given.{Over}
-use Rattle.command_verify.proofs.verify.print_verified.Goals.{After-check_proof}
-use Rattle.command_verify.proofs.verify.print_verified.Goals as goal
+use Rattle.command_verify.proofs.verify.verify_input.Given.{Over}
+use Rattle.command_verify.proofs.verify.verify_input.Goals.{After-check_proof}
+use Rattle.command_verify.proofs.verify.verify_input.Goals as goal
 
 -- the input has one query
 module _ (g : Over) (c : After-check_proof g) where
