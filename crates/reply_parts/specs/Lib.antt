@@ -1,0 +1,4 @@
+pub mod Heads
+pub mod History
+pub mod Known
+pub mod Parts
