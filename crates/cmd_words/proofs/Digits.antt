@@ -1,7 +1,7 @@
 -- The number that a text is, by what `parse` reads of it.
 use Rattle.std.proofs.Common.{◌≡◌, ℕ, ◌≤◌, ◌∙◌, ◌==◌, ◌&&◌, Bool, true, false, List, [], ◌∷◌, Some, None, refl, sym, ap, subst, arith}
-use Rattle.std.proofs.lemmas.Bool.{lt-ltb, ltb-true, leb-true, le-leb}
-use Rattle.std.specs.Prelude.{if◌then◌else◌, cond, drop, not, nat_lt, length, slice_index}
+use Rattle.std.proofs.lemmas.Bool.{lt-ltb, ltb-true, leb-true, le-leb, and_from, not-true}
+use Rattle.std.specs.Prelude.{if◌then◌else◌, cond, drop, nat_lt, length, slice_index}
 use Rattle.std.specs.List.{list_all}
 use Rattle.std.specs.Char.{digit_value}
 use Rattle.std.specs.Str.Parse.{digits_value, without_leading_plus, AllDigits, IsNumeral}
@@ -15,13 +15,6 @@ taken b n e = ap (λ (t : Bool). if t then Some n else None) (sym e)
 refused : (b : Bool) (n : ℕ) → (b ≡ true → ⊥) → None ≡ (if b then Some n else None)
 refused true n fails = absurd (fails refl)
 refused false n fails = refl
-
-joined : (a b : Bool) → a ≡ true → b ≡ true → (a && b) ≡ true
-joined a b p q = rw p q
-
-not-true : (b : Bool) → not b ≡ true → b ≡ false
-not-true true e = sym e
-not-true false e = refl
 
 -- a text that begins plainly has no plus to leave out
 whole : (text : List ℕ) → begins_plainly text ≡ true → without_leading_plus text ≡ text
@@ -37,7 +30,7 @@ digits_from [] e = tt
 digits_from (d ∷ ds) e = let parts = both _ _ e in (ltb-true _ _ parts.0, digits_from ds parts.1)
 
 numeral_is : (text : List ℕ) → IsNumeral 10 text → is_numeral text ≡ true
-numeral_is text h = joined _ _ (lt-ltb 0 (length text) h.0) (digits_back text h.1)
+numeral_is text h = and_from _ _ (lt-ltb 0 (length text) h.0) (digits_back text h.1)
 
 is_numeral_lem : (text : List ℕ) → is_numeral text ≡ true → IsNumeral 10 text
 is_numeral_lem text e = let parts = both _ _ e in (ltb-true _ _ parts.0, digits_from text parts.1)
@@ -50,8 +43,8 @@ number_taken low high n text plain numeral e above below =
     let value : n ≡ digits_value 10 text = e ∙ ap (digits_value 10) same in
     let digits : IsNumeral 10 text = subst (IsNumeral 10) same numeral in
     ap Some value ∙ taken _ (digits_value 10 text)
-    (joined _ _ (numeral_is text digits) (joined _ _ plain
-    (joined _ _ (le-leb low _ (omega (arith, value, above))) (le-leb _ high (omega (arith, value, below))))))
+    (and_from _ _ (numeral_is text digits) (and_from _ _ plain
+    (and_from _ _ (le-leb low _ (omega (arith, value, above))) (le-leb _ high (omega (arith, value, below))))))
 
 -- any other text
 pub number_refused : (low high : ℕ) (text : List ℕ)

@@ -7,6 +7,7 @@ use Rattle.std.specs.Str.{bytes_eq}
 use Rattle.std.specs.String.{string_bytes}
 use Rattle.std.specs.Cmp.Lexicographic.{slice_cmp}
 use Rattle.std.specs.BTreeSet.{BTreeSet, Updates, contains}
+use Rattle.std.proofs.lemmas.Bool.{and_right}
 use Rattle.std.proofs.lemmas.Map.Text.{is_eq-slice_cmp}
 use Rattle.cmd_words.specs.NamedPairs.{named_pair, are_distinct}
 use Rattle.cmd_words.specs.declared.pairs.Named.{Named}
@@ -24,15 +25,11 @@ and_true : (a b : Bool) → b ≡ true → (a && b) ≡ a
 and_true true b e = e
 and_true false b e = refl
 
-and_false : (a b : Bool) → b ≡ false → (a && b) ≡ false
-and_false true b e = e
-and_false false b e = refl
-
 -- names of which some at the end are not distinct are not
 pub repeats_before : (n : ℕ) (named : List Named) → are_distinct (map named_pair (drop n named)) ≡ false → are_distinct (map named_pair named) ≡ false
 repeats_before zero named e = e
 repeats_before (suc n) [] e = e
-repeats_before (suc n) (one ∷ named) e = and_false _ _ (repeats_before n named e)
+repeats_before (suc n) (one ∷ named) e = and_right _ _ (repeats_before n named e)
 
 -- one name before those that the set has
 module _ (names : BTreeSet (Bor (List ℕ))) (name : Bor (List ℕ)) (named : List Named) (at : ℕ) (first : Named) where

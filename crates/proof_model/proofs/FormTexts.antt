@@ -1,7 +1,7 @@
 -- The text of a line, and what it says.
 use Rattle.std.proofs.Common.{◌≡◌, ◌⊎◌, ℕ, ◌-◌, ◌<◌, Bool, true, false, cond, eqb, ltb, List, [], ◌∷◌, ◌++◌, map}
 use Rattle.std.proofs.Common.{length}
-use Rattle.std.proofs.Common.{get_or, refl, sym, ap, ◌∙◌, subst, inl, inr, arith, rules}
+use Rattle.std.proofs.Common.{get_or, refl, sym, ap, ◌∙◌, subst, inl, inr, arith}
 use Rattle.std.specs.Prelude.{Option, None, Some, option_and_then, decimal, codes, if◌then◌else◌, slice_index}
 use Rattle.std.specs.List.{list_all, All, AllByRecursion, join_with_byte, slice_split}
 use Rattle.std.specs.Str.{bytes_eq}
@@ -132,16 +132,13 @@ answer_by (r ∷ rs) f h all =
     let e : answer (r ∷ rs) ≡ f = cc in
     subst (λ g. IsForm g × (codes "answer" ++ spaced (r ∷ rs) ≡ form_text g)) e ((omega arith, all), refl)
 
-word_is : (w v : List ℕ) → bytes_eq w v ≡ true → w ≡ v
-word_is w v h = search (rules, bytes_eq-Decides)
-
 said_by : (ps : List (List ℕ)) (f : LineForm) → line_of_parts ps ≡ Some f
     → IsForm f × (join_with_byte 32 ps ≡ form_text f)
 unfolding line_of_parts
 said_by [] f h = absurd cc
 said_by (w ∷ []) f h = elim (last_by (bytes_eq w (codes "more")) (bytes_eq w (codes "end")) f h) [
-  | inl m ↦ subst (λ g. IsForm g × (w ≡ form_text g)) (sym m.1) (tt, word_is w (codes "more") m.0)
-  | inr m ↦ subst (λ g. IsForm g × (w ≡ form_text g)) (sym m.1) (tt, word_is w (codes "end") m.0)
+  | inl m ↦ subst (λ g. IsForm g × (w ≡ form_text g)) (sym m.1) (tt, (bytes_eq-Decides w (codes "more")).0 m.0)
+  | inr m ↦ subst (λ g. IsForm g × (w ≡ form_text g)) (sym m.1) (tt, (bytes_eq-Decides w (codes "end")).0 m.0)
 ]
 said_by (w ∷ p ∷ ps) f h =
     elim (numbers_by (bytes_eq w (codes "bound")) (bytes_eq w (codes "answer")) (numbers_of (p ∷ ps)) f h) [
@@ -150,14 +147,14 @@ said_by (w ∷ p ∷ ps) f h =
           let b = bound_by m.numbers f m.formed r.1 in (
             b.0,
             ap (λ (ts : List (List ℕ)). join_with_byte 32 (w ∷ ts)) r.0 ∙ joined w m.numbers
-                ∙ ap (λ (v : List ℕ). v ++ spaced m.numbers) (word_is w (codes "bound") m.is) ∙ b.1,
+                ∙ ap (λ (v : List ℕ). v ++ spaced m.numbers) ((bytes_eq-Decides w (codes "bound")).0 m.is) ∙ b.1,
           )
       | inr m ↦
           let r = numbers_read (p ∷ ps) m.numbers m.are in
           let b = answer_by m.numbers f m.formed r.1 in (
             b.0,
             ap (λ (ts : List (List ℕ)). join_with_byte 32 (w ∷ ts)) r.0 ∙ joined w m.numbers
-                ∙ ap (λ (v : List ℕ). v ++ spaced m.numbers) (word_is w (codes "answer") m.is) ∙ b.1,
+                ∙ ap (λ (v : List ℕ). v ++ spaced m.numbers) ((bytes_eq-Decides w (codes "answer")).0 m.is) ∙ b.1,
           )
     ]
 

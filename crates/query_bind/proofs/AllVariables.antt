@@ -25,6 +25,7 @@ use Rattle.rankings.proofs.Members.{member_either, member_left, member_right}
 use Rattle.bound_query.proofs.Inside.{shared_inside}
 use Rattle.bound_query.proofs.Lists.{all_at, at_last, at_left, length_last}
 use Rattle.bound_query.proofs.ColumnOrder.{same_columns}
+use Rattle.query_bind.proofs.Binds.{stored_tables}
 use Rattle.query_bind.proofs.VariablesFound.{least_labelled, variables_found}
 
 pub fewer_kept : {A : Type 0} (test : A → Bool) (xs : List A) → length (filter test xs) ≤ length xs
@@ -189,10 +190,6 @@ has_variables query tables label variables lists within known are few each = rec
 }
 
 -- ---- the variables that are found for a stored query
-with_table : (tables : List Table) (items : List BoundItem) → AllByRecursion (HasTable tables) (items_view items) → AllByRecursion (λ (i : BoundItem). i.table < length tables) items
-with_table tables [] h = tt
-with_table tables (i ∷ items) h = (h.0, with_table tables items h.1)
-
 narrow_items : (tables : List Table) (items : List Item) → AllByRecursion IsSound tables → AllByRecursion (HasTable tables) items
     → AllByRecursion (λ (i : Item). length (table_at tables i.table).names ≤ 64) items
 narrow_items tables [] sound h = tt
@@ -202,7 +199,7 @@ narrow_items tables (i ∷ items) sound h =
 module _ (query : Query) (tables : List Table) (within : NamesExist query tables) (sound : AllByRecursion IsSound tables)
     (items : List BoundItem) (items_are : items_view items ≡ query.items) (few : length items ≤ 16) where
   pub items_known : AllByRecursion (λ (i : BoundItem). i.table < length tables) items
-  items_known = with_table tables items (subst (λ (l : List Item). AllByRecursion (HasTable tables) l) (sym items_are) within.items)
+  items_known = stored_tables tables items (subst (λ (l : List Item). AllByRecursion (HasTable tables) l) (sym items_are) within.items)
 
   module _ (columns least : List (ℕ × ℕ)) (all : map column_view columns ≡ columns_from 0 tables (items_view items)) (test : ℕ × ℕ → Bool)
       (found : least ≡ filter test columns) where

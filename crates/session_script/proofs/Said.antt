@@ -71,9 +71,6 @@ chosen : (b : Bool) (x other : Option Step) (y : Step) → cond b x other ≡ So
 chosen true x other y e = inl (refl, e)
 chosen false x other y e = inr e
 
-word_is : (word wanted : List ℕ) → bytes_eq word wanted ≡ true → word ≡ wanted
-word_is word wanted e = (bytes_eq-Decides word wanted).0 e
-
 step_as : (line : List ℕ) (x y : Step) → Some x ≡ Some y → Says line x → Says line y
 step_as line x y e h = let same : x ≡ y = cc in subst (λ (s : Step). Says line s) same h
 
@@ -88,9 +85,9 @@ one_name_said word text step e =
     let n = named (is_name text) text o.0 o.1 in
     let h : is_name o.0 ≡ true = rw n.1 at n.0 in
     subst (λ (t : List ℕ). Says (word ++ 32 ∷ t) step) (sym n.1) (
-    ⊎_elim (λ w. said_as word (codes "open") o.0 (Open o.0) step (word_is word (codes "open") w.0) w.1 (opens h)) (λ f.
-    ⊎_elim (λ w. said_as word (codes "rewind") o.0 (Rewind o.0) step (word_is word (codes "rewind") w.0) w.1 (rewinds h)) (λ g.
-    ⊎_elim (λ w. said_as word (codes "close") o.0 (Close o.0) step (word_is word (codes "close") w.0) w.1 (closes h)) (λ k. absurd cc)
+    ⊎_elim (λ w. said_as word (codes "open") o.0 (Open o.0) step ((bytes_eq-Decides word (codes "open")).0 w.0) w.1 (opens h)) (λ f.
+    ⊎_elim (λ w. said_as word (codes "rewind") o.0 (Rewind o.0) step ((bytes_eq-Decides word (codes "rewind")).0 w.0) w.1 (rewinds h)) (λ g.
+    ⊎_elim (λ w. said_as word (codes "close") o.0 (Close o.0) step ((bytes_eq-Decides word (codes "close")).0 w.0) w.1 (closes h)) (λ k. absurd cc)
     (chosen (bytes_eq word (codes "close")) (Some (Close o.0)) None step g))
     (chosen (bytes_eq word (codes "rewind")) (Some (Rewind o.0)) _ step f))
     (chosen (bytes_eq word (codes "open")) (Some (Open o.0)) _ step o.2))
@@ -118,8 +115,8 @@ fork_said text new step e =
 two_parts_said : (word first second : List ℕ) (step : Step) → two_part_step word first second ≡ Some step → Says (word ++ 32 ∷ (first ++ 32 ∷ second)) step
 unfolding two_part_step
 two_parts_said word first second step e =
-    ⊎_elim (λ w. rw (word_is word (codes "next") w.0) (next_said first second step w.1)) (λ f.
-    ⊎_elim (λ w. rw (word_is word (codes "fork") w.0) (fork_said first second step w.1)) (λ g. absurd cc)
+    ⊎_elim (λ w. rw ((bytes_eq-Decides word (codes "next")).0 w.0) (next_said first second step w.1)) (λ f.
+    ⊎_elim (λ w. rw ((bytes_eq-Decides word (codes "fork")).0 w.0) (fork_said first second step w.1)) (λ g. absurd cc)
     (chosen (bytes_eq word (codes "fork")) (fork_step first second) None step f))
     (chosen (bytes_eq word (codes "next")) (next_step first second) _ step e)
 

@@ -5,14 +5,12 @@ use Rattle.anyk_part.specs.declared.candidate.Link.{Link}
 use Rattle.anyk_part.proofs.Steps.{at_after, chain_after, entries_after, held_after, top_after}
 use Rattle.anyk_part.proofs.frontier.Frontier.advance.Goals as goal
 
-pub choose-choice-requires-clause-places : goal.choose-choice-requires-clause-places
-choose-choice-requires-clause-places g c = c.requires.places
-
-pub choose-choice-requires-clause-ready : goal.choose-choice-requires-clause-ready
-choose-choice-requires-clause-ready g c = c.requires.ready
-
-pub choose-choice-requires-clause-room : goal.choose-choice-requires-clause-room
-choose-choice-requires-clause-room g c = c.requires.room
+pub choose-choice-requires : goal.choose-choice-requires
+choose-choice-requires g c = record {
+  places = c.requires.places;
+  ready = c.requires.ready;
+  room = c.requires.room;
+}
 
 pub returns : goal.returns
 returns g c =

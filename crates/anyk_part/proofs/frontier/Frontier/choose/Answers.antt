@@ -14,17 +14,23 @@ use Rattle.anyk_part.specs.Walks.{IsSite}
 use Rattle.anyk_part.proofs.Steps.{rows_before, group_in, place_in, node_small, none_at, row_fits, place_small, site_of, row_is, put_none, put_once, put_twice}
 use Rattle.anyk_part.proofs.frontier.Frontier.choose.Goals as goal
 
-pub group_at-group-requires-clause-rows : goal.group_at-group-requires-clause-rows
-group_at-group-requires-clause-rows g c = rows_before g.R.Rank.KEYS g.R.Rank.key c.args.tree.now c.args.total.now c.args.walk.now c.args.chosen.now c.args.self.now.links.entries c.requires.ready.at c.requires.ready.node
+pub group_at-group-requires : goal.group_at-group-requires
+group_at-group-requires g c = record {
+  rows = rows_before g.R.Rank.KEYS g.R.Rank.key c.args.tree.now c.args.total.now c.args.walk.now c.args.chosen.now c.args.self.now.links.entries c.requires.ready.at c.requires.ready.node;
+  places = c.requires.places;
+  node = c.requires.ready.node;
+  formed = c.requires.ready.at.formed;
+}
 
 pub group_len-size-requires-clause-group : goal.group_len-size-requires-clause-group
 group_len-size-requires-clause-group g c = group_in g.R.Rank.KEYS g.R.Rank.key c.args.tree.now c.args.total.now c.args.walk.now c.args.chosen.now c.args.self.now.links.entries c.requires.ready.at c.requires.ready.node c.group_at-group.result c.group_at-group.ensures.group
 
-pub member-row-requires-clause-group : goal.member-row-requires-clause-group
-member-row-requires-clause-group g c = group_in g.R.Rank.KEYS g.R.Rank.key c.args.tree.now c.args.total.now c.args.walk.now c.args.chosen.now c.args.self.now.links.entries c.requires.ready.at c.requires.ready.node c.group_at-group.result c.group_at-group.ensures.group
-
-pub member-row-requires-clause-place : goal.member-row-requires-clause-place
-member-row-requires-clause-place g c = place_in g.R.Rank.KEYS g.R.Rank.key c.args.tree.now c.args.total.now c.args.walk.now c.args.chosen.now c.args.self.now.links.entries c.requires.ready.at c.requires.ready.node c.group_at-group.result c.group_at-group.ensures.group
+pub member-row-requires : goal.member-row-requires
+member-row-requires g c = record {
+  group = group_in g.R.Rank.KEYS g.R.Rank.key c.args.tree.now c.args.total.now c.args.walk.now c.args.chosen.now c.args.self.now.links.entries c.requires.ready.at c.requires.ready.node c.group_at-group.result c.group_at-group.ensures.group;
+  place = place_in g.R.Rank.KEYS g.R.Rank.key c.args.tree.now c.args.total.now c.args.walk.now c.args.chosen.now c.args.self.now.links.entries c.requires.ready.at c.requires.ready.node c.group_at-group.result c.group_at-group.ensures.group;
+  node = c.requires.ready.node;
+}
 
 pub bounds-chosen-walk : goal.bounds-chosen-walk
 bounds-chosen-walk g c = omega (arith, node_small g.R.Rank.KEYS g.R.Rank.key c.args.tree.now c.args.total.now c.args.walk.now c.args.chosen.now c.args.self.now.links.entries c.requires.ready.at c.requires.ready.node, c.requires.ready.at.long)
@@ -63,32 +69,26 @@ returns-then-place-size g c = record {
 pub best-best-requires-clause-row : goal.best-best-requires-clause-row
 best-best-requires-clause-row g c = row_fits g.R.Rank.KEYS g.R.Rank.key c.args.tree.now c.args.total.now c.args.walk.now c.args.chosen.now c.args.self.now.links.entries c.requires.ready.at c.requires.ready.node c.group_at-group.result c.member-row.result c.group_at-group.ensures.group c.member-row.ensures.member
 
-pub offer-requires-clause-site : goal.offer-requires-clause-site
-offer-requires-clause-site g c = site_of g.R.Rank.KEYS g.R.Rank.key c.args.tree.now c.args.total.now c.args.walk.now c.args.chosen.now c.args.self.now.links.entries c.requires.ready.at c.requires.ready.node c.group_at-group.result c.member-row.result c.best-best.result c.group_at-group.ensures.group c.member-row.ensures.member c.best-best.ensures.best
+pub offer-requires : goal.offer-requires
+offer-requires g c = record {
+  site = site_of g.R.Rank.KEYS g.R.Rank.key c.args.tree.now c.args.total.now c.args.walk.now c.args.chosen.now c.args.self.now.links.entries c.requires.ready.at c.requires.ready.node c.group_at-group.result c.member-row.result c.best-best.result c.group_at-group.ensures.group c.member-row.ensures.member c.best-best.ensures.best;
+  place = omega (arith, c.group_len-size.ensures, c.if-place-size.false);
+  room = omega (arith, c.requires.room);
+  top = c.requires.ready.top;
+  entries = c.requires.ready.each;
+}
 
-pub offer-requires-clause-place : goal.offer-requires-clause-place
-offer-requires-clause-place g c = omega (arith, c.group_len-size.ensures, c.if-place-size.false)
-
-pub offer-requires-clause-room : goal.offer-requires-clause-room
-offer-requires-clause-room g c = omega (arith, c.requires.room)
-
-pub offer-requires-then-place-size-2-clause-site : goal.offer-requires-then-place-size-2-clause-site
-offer-requires-then-place-size-2-clause-site g c =
-    let s : Deviation g.row.R.Denot = record { total = c.args.total.now; best = c.best-best.result; node = c.args.walk.now.node; group = c.group_at-group.result; row = c.member-row.result; before = c.args.walk.now.before } in
-    subst (λ (l : Entries Link). IsSite g.R.Rank.KEYS g.R.Rank.key c.args.tree.now l.entries s) (sym c.offer.ensures.links)
-    (site_of g.R.Rank.KEYS g.R.Rank.key c.args.tree.now c.args.total.now c.args.walk.now c.args.chosen.now c.args.self.now.links.entries c.requires.ready.at c.requires.ready.node c.group_at-group.result c.member-row.result c.best-best.result c.group_at-group.ensures.group c.member-row.ensures.member c.best-best.ensures.best)
-
-pub offer-requires-then-place-size-2-clause-place : goal.offer-requires-then-place-size-2-clause-place
-offer-requires-then-place-size-2-clause-place g c = omega (arith, c.group_len-size.ensures, c.if-place-size-2.true)
-
-pub offer-requires-then-place-size-2-clause-entries : goal.offer-requires-then-place-size-2-clause-entries
-offer-requires-then-place-size-2-clause-entries g c = subst (λ (l : Entries Link). All (IsEntry g.R.Rank.KEYS g.R.Rank.key c.args.tree.now l.entries) c.offer.new.self.queue.entries) (sym c.offer.ensures.links) c.offer.ensures.entries
-
-pub offer-requires-then-place-size-2-clause-top : goal.offer-requires-then-place-size-2-clause-top
-offer-requires-then-place-size-2-clause-top g c e = absurd (false≢true e)
-
-pub offer-requires-then-place-size-2-clause-room : goal.offer-requires-then-place-size-2-clause-room
-offer-requires-then-place-size-2-clause-room g c = omega (arith, c.requires.room, c.offer.ensures.room)
+pub offer-requires-then-place-size-2 : goal.offer-requires-then-place-size-2
+offer-requires-then-place-size-2 g c = record {
+  site =
+      let s : Deviation g.row.R.Denot = record { total = c.args.total.now; best = c.best-best.result; node = c.args.walk.now.node; group = c.group_at-group.result; row = c.member-row.result; before = c.args.walk.now.before } in
+      subst (λ (l : Entries Link). IsSite g.R.Rank.KEYS g.R.Rank.key c.args.tree.now l.entries s) (sym c.offer.ensures.links)
+      (site_of g.R.Rank.KEYS g.R.Rank.key c.args.tree.now c.args.total.now c.args.walk.now c.args.chosen.now c.args.self.now.links.entries c.requires.ready.at c.requires.ready.node c.group_at-group.result c.member-row.result c.best-best.result c.group_at-group.ensures.group c.member-row.ensures.member c.best-best.ensures.best);
+  place = omega (arith, c.group_len-size.ensures, c.if-place-size-2.true);
+  entries = subst (λ (l : Entries Link). All (IsEntry g.R.Rank.KEYS g.R.Rank.key c.args.tree.now l.entries) c.offer.new.self.queue.entries) (sym c.offer.ensures.links) c.offer.ensures.entries;
+  top = λ e. absurd (false≢true e);
+  room = omega (arith, c.requires.room, c.offer.ensures.room);
+}
 
 pub returns-then-place-size-2 : goal.returns-then-place-size-2
 returns-then-place-size-2 g c = record {
@@ -144,26 +144,8 @@ returns-else-place-size-2 g c = record {
       omega (arith, a, c.group_at-group.ensures.cost, c.member-row.ensures.counted, c.best-best.ensures.counted, c.offer.ensures.cost);
 }
 
-pub offer-requires-clause-top : goal.offer-requires-clause-top
-offer-requires-clause-top g c = c.requires.ready.top
-
-pub offer-requires-clause-entries : goal.offer-requires-clause-entries
-offer-requires-clause-entries g c = c.requires.ready.each
-
-pub group_at-group-requires-clause-places : goal.group_at-group-requires-clause-places
-group_at-group-requires-clause-places g c = c.requires.places
-
-pub group_at-group-requires-clause-node : goal.group_at-group-requires-clause-node
-group_at-group-requires-clause-node g c = c.requires.ready.node
-
-pub group_at-group-requires-clause-formed : goal.group_at-group-requires-clause-formed
-group_at-group-requires-clause-formed g c = c.requires.ready.at.formed
-
 pub group_len-size-requires-clause-node : goal.group_len-size-requires-clause-node
 group_len-size-requires-clause-node g c = c.requires.ready.node
-
-pub member-row-requires-clause-node : goal.member-row-requires-clause-node
-member-row-requires-clause-node g c = c.requires.ready.node
 
 pub best-best-requires-clause-node : goal.best-best-requires-clause-node
 best-best-requires-clause-node g c = c.requires.ready.node

@@ -78,27 +78,21 @@ returns-else-choice g c =
           l.division.from l.division.few l.below l.cost c.choose-choice.ensures.cost 0 c.choose-choice.new.steps (omega arith) (omega arith);
     }
 
-pub advance-walk-requires-clause-places : goal.advance-walk-requires-clause-places
-advance-walk-requires-clause-places g c = c.requires.places
+pub advance-walk-requires : goal.advance-walk-requires
+advance-walk-requires g c = record {
+  places = c.requires.places;
+  ready =
+      let l = c.loop-walk.invariant in
+      record { at = l.at; node = l.below; each = l.division.each; top = λ e. subst (λ (es : List (Entry g.row.R.Denot Candidate)). 0 < length es) (sym (c.loop-walk.invariant.division.stands e).0) c.requires.some };
+  room = omega (arith, c.loop-walk.invariant.room, c.loop-walk-test.true);
+  link_room = omega (arith, c.loop-walk.invariant.link_room, c.loop-walk-test.true);
+}
 
-pub advance-walk-requires-clause-ready : goal.advance-walk-requires-clause-ready
-advance-walk-requires-clause-ready g c =
-    let l = c.loop-walk.invariant in
-    record { at = l.at; node = l.below; each = l.division.each; top = λ e. subst (λ (es : List (Entry g.row.R.Denot Candidate)). 0 < length es) (sym (c.loop-walk.invariant.division.stands e).0) c.requires.some }
-
-pub advance-walk-requires-clause-room : goal.advance-walk-requires-clause-room
-advance-walk-requires-clause-room g c = omega (arith, c.loop-walk.invariant.room, c.loop-walk-test.true)
-
-pub advance-walk-requires-clause-link_room : goal.advance-walk-requires-clause-link_room
-advance-walk-requires-clause-link_room g c = omega (arith, c.loop-walk.invariant.link_room, c.loop-walk-test.true)
-
-pub choose-choice-requires-clause-places : goal.choose-choice-requires-clause-places
-choose-choice-requires-clause-places g c = c.requires.places
-
-pub choose-choice-requires-clause-ready : goal.choose-choice-requires-clause-ready
-choose-choice-requires-clause-ready g c =
-    let l = c.loop-walk.invariant in
-    record { at = l.at; node = l.below; each = l.division.each; top = λ e. subst (λ (es : List (Entry g.row.R.Denot Candidate)). 0 < length es) (sym (c.loop-walk.invariant.division.stands e).0) c.requires.some }
-
-pub choose-choice-requires-clause-room : goal.choose-choice-requires-clause-room
-choose-choice-requires-clause-room g c = omega (arith, c.loop-walk.invariant.room, c.loop-walk.invariant.below, c.loop-walk.invariant.count)
+pub choose-choice-requires : goal.choose-choice-requires
+choose-choice-requires g c = record {
+  places = c.requires.places;
+  ready =
+      let l = c.loop-walk.invariant in
+      record { at = l.at; node = l.below; each = l.division.each; top = λ e. subst (λ (es : List (Entry g.row.R.Denot Candidate)). 0 < length es) (sym (c.loop-walk.invariant.division.stands e).0) c.requires.some };
+  room = omega (arith, c.loop-walk.invariant.room, c.loop-walk.invariant.below, c.loop-walk.invariant.count);
+}

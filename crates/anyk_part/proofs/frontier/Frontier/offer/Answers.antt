@@ -20,14 +20,12 @@ swap-rank-requires g c =
     subst (λ z. z < rows t s.node) (sym c.member-row.ensures.member) (member_row g.R.Rank.KEYS g.R.Rank.key t c.args.self.now.links.entries s c.requires.site c.args.place near) in
     can_swap g.R.Rank.KEYS g.R.Rank.key t c.args.self.now.links.entries s c.requires.site c.member-row.result (g.R.Rank.key c.best-best.result) row c.best-best.ensures.best
 
-pub new-candidate-requires-clause-position : goal.new-candidate-requires-clause-position
-new-candidate-requires-clause-position g c = node_small g.R.Rank.KEYS g.R.Rank.key c.args.tree.now c.args.self.now.links.entries c.args.site.now c.requires.site
-
-pub new-candidate-requires-clause-place : goal.new-candidate-requires-clause-place
-new-candidate-requires-clause-place g c = place_small g.R.Rank.KEYS g.R.Rank.key c.args.tree.now c.args.self.now.links.entries c.args.site.now c.requires.site c.args.place c.requires.place
-
-pub new-candidate-requires-clause-before : goal.new-candidate-requires-clause-before
-new-candidate-requires-clause-before g c = site_begins g.R.Rank.KEYS g.R.Rank.key c.args.tree.now c.args.self.now.links.entries c.args.site.now c.requires.site
+pub new-candidate-requires : goal.new-candidate-requires
+new-candidate-requires g c = record {
+  position = node_small g.R.Rank.KEYS g.R.Rank.key c.args.tree.now c.args.self.now.links.entries c.args.site.now c.requires.site;
+  place = place_small g.R.Rank.KEYS g.R.Rank.key c.args.tree.now c.args.self.now.links.entries c.args.site.now c.requires.site c.args.place c.requires.place;
+  before = site_begins g.R.Rank.KEYS g.R.Rank.key c.args.tree.now c.args.self.now.links.entries c.args.site.now c.requires.site;
+}
 
 pub returns : goal.returns
 returns g c = record {

@@ -42,45 +42,32 @@ returns-in_err-make_room-clause-counted g c = c.saturating_add-self-inside.ensur
 pub returns-in_err-make_room-clause-size : goal.returns-in_err-make_room-clause-size
 returns-in_err-make_room-clause-size g c = ap (λ (s : PartView g.row.R.Denot). size_of s.tree) c.self.view_is
 
-pub prefix-chosen-requires-clause-count : goal.prefix-chosen-requires-clause-count
-prefix-chosen-requires-clause-count g c =
+pub prefix-chosen-requires : goal.prefix-chosen-requires
+prefix-chosen-requires g c =
     let entry = top_entry g.R.Rank.KEYS g.R.Rank.key c.self.inside.tree.now c.self.inside.frontier.links.entries c.make_room.new.self.links.entries c.self.inside.frontier.queue.entries c.make_room.new.self.queue.entries c.self.inside.calls _ _
     c.make_room.ensures.links c.make_room.ensures.entries c.self.invariant.0 (c.in-Some.ensures.variant.0 refl) c.in-Some.ensures.top in
-    omega (arith, entry.position, c.self.invariant.0.formed.shaped.few_nodes)
+    record { count = omega (arith, entry.position, c.self.invariant.0.formed.shaped.few_nodes); chained = entry.chained }
 
-pub prefix-chosen-requires-clause-chained : goal.prefix-chosen-requires-clause-chained
-prefix-chosen-requires-clause-chained g c =
-    (top_entry g.R.Rank.KEYS g.R.Rank.key c.self.inside.tree.now c.self.inside.frontier.links.entries c.make_room.new.self.links.entries c.self.inside.frontier.queue.entries c.make_room.new.self.queue.entries c.self.inside.calls _ _
-    c.make_room.ensures.links c.make_room.ensures.entries c.self.invariant.0 (c.in-Some.ensures.variant.0 refl) c.in-Some.ensures.top).chained
-
-pub divide-requires-clause-at : goal.divide-requires-clause-at
-divide-requires-clause-at g c =
+pub divide-requires : goal.divide-requires
+divide-requires g c =
+    let entry = top_entry g.R.Rank.KEYS g.R.Rank.key c.self.inside.tree.now c.self.inside.frontier.links.entries c.make_room.new.self.links.entries c.self.inside.frontier.queue.entries c.make_room.new.self.queue.entries c.self.inside.calls _ _
+    c.make_room.ensures.links c.make_room.ensures.entries c.self.invariant.0 (c.in-Some.ensures.variant.0 refl) c.in-Some.ensures.top in
     let long : length c.prefix-chosen.result ≡ 16 = search rules in
-    starts_at g.R.Rank.KEYS g.R.Rank.key c.self.inside.tree.now c.make_room.new.self.links.entries _ _ c.prefix-chosen.result c.self.invariant.0.formed (c.self.invariant.0.live (c.in-Some.ensures.variant.0 refl))
-    (top_entry g.R.Rank.KEYS g.R.Rank.key c.self.inside.tree.now c.self.inside.frontier.links.entries c.make_room.new.self.links.entries c.self.inside.frontier.queue.entries c.make_room.new.self.queue.entries c.self.inside.calls _ _
-    c.make_room.ensures.links c.make_room.ensures.entries c.self.invariant.0 (c.in-Some.ensures.variant.0 refl) c.in-Some.ensures.top)
-    long c.prefix-chosen.ensures.rows
-
-pub divide-requires-clause-node : goal.divide-requires-clause-node
-divide-requires-clause-node g c =
-    (top_entry g.R.Rank.KEYS g.R.Rank.key c.self.inside.tree.now c.self.inside.frontier.links.entries c.make_room.new.self.links.entries c.self.inside.frontier.queue.entries c.make_room.new.self.queue.entries c.self.inside.calls _ _
-    c.make_room.ensures.links c.make_room.ensures.entries c.self.invariant.0 (c.in-Some.ensures.variant.0 refl) c.in-Some.ensures.top).position
-
-pub divide-requires-clause-entries : goal.divide-requires-clause-entries
-divide-requires-clause-entries g c =
-    top_each g.R.Rank.KEYS g.R.Rank.key c.self.inside.tree.now c.self.inside.frontier.links.entries c.make_room.new.self.links.entries c.self.inside.frontier.queue.entries c.make_room.new.self.queue.entries c.self.inside.calls _ _
-    c.make_room.ensures.links c.make_room.ensures.entries c.self.invariant.0 (c.in-Some.ensures.variant.0 refl) c.in-Some.ensures.top
-
-pub divide-requires-clause-some : goal.divide-requires-clause-some
-divide-requires-clause-some g c =
-    top_some g.R.Rank.KEYS g.R.Rank.key c.self.inside.tree.now c.self.inside.frontier.links.entries c.make_room.new.self.links.entries c.self.inside.frontier.queue.entries c.make_room.new.self.queue.entries c.self.inside.calls _ _
-    c.make_room.ensures.links c.make_room.ensures.entries c.self.invariant.0 (c.in-Some.ensures.variant.0 refl) c.in-Some.ensures.top
-
-pub divide-requires-clause-room : goal.divide-requires-clause-room
-divide-requires-clause-room g c = let count = c.nodes.ensures.count in omega (arith, count, c.in_ok-make_room.ensures.room)
-
-pub divide-requires-clause-link_room : goal.divide-requires-clause-link_room
-divide-requires-clause-link_room g c = let count = c.nodes.ensures.count in omega (arith, count, c.in_ok-make_room.ensures.link_room)
+    let count = c.nodes.ensures.count in
+    record {
+      at = starts_at g.R.Rank.KEYS g.R.Rank.key c.self.inside.tree.now c.make_room.new.self.links.entries _ _ c.prefix-chosen.result c.self.invariant.0.formed (c.self.invariant.0.live (c.in-Some.ensures.variant.0 refl)) entry long c.prefix-chosen.ensures.rows;
+      node = entry.position;
+      entries =
+          top_each g.R.Rank.KEYS g.R.Rank.key c.self.inside.tree.now c.self.inside.frontier.links.entries c.make_room.new.self.links.entries c.self.inside.frontier.queue.entries c.make_room.new.self.queue.entries c.self.inside.calls _ _
+          c.make_room.ensures.links c.make_room.ensures.entries c.self.invariant.0 (c.in-Some.ensures.variant.0 refl) c.in-Some.ensures.top;
+      some =
+          top_some g.R.Rank.KEYS g.R.Rank.key c.self.inside.tree.now c.self.inside.frontier.links.entries c.make_room.new.self.links.entries c.self.inside.frontier.queue.entries c.make_room.new.self.queue.entries c.self.inside.calls _ _
+          c.make_room.ensures.links c.make_room.ensures.entries c.self.invariant.0 (c.in-Some.ensures.variant.0 refl) c.in-Some.ensures.top;
+      room = omega (arith, count, c.in_ok-make_room.ensures.room);
+      link_room = omega (arith, count, c.in_ok-make_room.ensures.link_room);
+      places = c.self.invariant.1;
+      stands = c.in-Some.ensures.stands;
+    }
 
 pub row_numbers-rows-requires-clause-rows : goal.row_numbers-rows-requires-clause-rows
 row_numbers-rows-requires-clause-rows g c = rows_in c.self.inside.tree.now c.divide.new.chosen c.divide.ensures.divided.reached
@@ -123,12 +110,6 @@ returns g c = record {
 
 pub row_numbers-rows-requires-clause-tie_free : goal.row_numbers-rows-requires-clause-tie_free
 row_numbers-rows-requires-clause-tie_free g c = c.self.invariant.0.tie_free
-
-pub divide-requires-clause-places : goal.divide-requires-clause-places
-divide-requires-clause-places g c = c.self.invariant.1
-
-pub divide-requires-clause-stands : goal.divide-requires-clause-stands
-divide-requires-clause-stands g c = c.in-Some.ensures.stands
 
 pub returns-in_err-make_room-clause-found : goal.returns-in_err-make_room-clause-found
 returns-in_err-make_room-clause-found g c = IfOk-from_err c.from_residual.result _ c.from_residual.ensures.0
