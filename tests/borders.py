@@ -17,7 +17,7 @@ that file has it. These are looked at:
       named by A B .. alone     each crate of the row stands in the lines of these and of no others
       named by none
 
-  The crates of tests, which only have tests, may name all that they test.
+  The crates of tests, which only have tests, and the example of the library may name all that they use.
 """
 import os
 import re
@@ -27,7 +27,7 @@ sys.dont_write_bytecode = True
 from arguments import TOP, arguments
 
 PAGE = "docs/ARCHITECTURE.md"
-TESTS = re.compile(r"\w+_tests")
+TESTS = re.compile(r"\w+_tests|library_example")
 
 
 def read(file):

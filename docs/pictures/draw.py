@@ -78,7 +78,7 @@ def look_up(rows):
     """Ends with a line if a crate is in no layer, or stands on one of a layer above its own."""
     uses = below()
     depth = {crate: at for at, (_, left, right) in enumerate(rows) for crate in (*left, *right)}
-    missing = [it for it in uses if it not in depth and not it.endswith("_tests")]
+    missing = [it for it in uses if it not in depth and not it.endswith(("_tests", "_example"))]
     if missing:
         sys.exit(f"pictures: not in the picture of ARCHITECTURE.md: {' '.join(missing)}")
     for crate, at in depth.items():
