@@ -21,8 +21,9 @@ sys.dont_write_bytecode = True
 from arguments import TOP, arguments
 from borders import lines_of_crates, reached
 
-# The seconds that a page may take; it takes about ten. If nothing were refused, `rt` would go on to build the libraries.
-LIMIT = 100
+# The seconds that a page may take. It takes about ten, and more where `rt` first copies what it keeps of other checks, or where the
+# machine is busy. If nothing were refused, `rt` would go on to build the libraries.
+LIMIT = 240
 CASE = "arena_case"
 
 
